@@ -1,0 +1,5 @@
+pub mod Fates
+pub mod Points
+pub mod Routes
+pub mod SiteAnswers
+pub mod SiteText
