@@ -3,7 +3,7 @@ use Rattle.std.specs.Prelude.{ℕ, suc, Bool, false, nat_eq, List, [], ◌∷◌
 use Rattle.std.specs.Str.Lines.{strip_carriage_return}
 use Rattle.fws_num.specs.declared.lines.Line.{Line}
 use Rattle.fws_num.specs.declared.lines.Lines.{Lines}
-use Rattle.fws_num.specs.declared.words.Word.{Word}
+use Rattle.fws_num.specs.declared.word.Word.{Word}
 use Rattle.fws_num.specs.Words.{is_blank, words_of}
 
 -- what is left behind the last line feed is a line, unless it is empty

@@ -1,5 +1,5 @@
 -- Numbers, addresses and prefixes as they are spelled.
-use Rattle.std.specs.Prelude.{ℕ, zero, suc, ◌+◌, ◌-◌, ◌*◌, ◌/◌, ◌%◌, ◌^◌, Bool, false, ◌&&◌, nat_eq, nat_le, Option, Some, None, option_and_then, List, [], ◌∷◌, ◌++◌, length, find, if◌then◌else◌}
+use Rattle.std.specs.Prelude.{◌≡◌, ◌<◌, ◌≤◌, ℕ, zero, suc, ◌+◌, ◌-◌, ◌*◌, ◌/◌, ◌%◌, ◌^◌, Bool, false, ◌&&◌, nat_eq, nat_le, Option, Some, None, option_and_then, List, [], ◌∷◌, ◌++◌, length, find, if◌then◌else◌}
 use Rattle.std.specs.Fmt.{decimal}
 use Rattle.std.specs.List.{list_all, range_with_len}
 use Rattle.std.specs.Option.{option_map, option_map_or}
@@ -36,17 +36,20 @@ has_leading_zero (c ∷ []) = false
 has_leading_zero (c ∷ d ∷ cs) = nat_eq c 48
 
 -- a decimal 0 to 255 without leading zeros
-abbrev pub octet_of : List ℕ → Option ℕ
+unfoldable pub octet_of : List ℕ → Option ℕ
 octet_of text = if has_leading_zero text then None else dec_of text 255
+
+-- the octet before the first dot and what stands behind the dot
+unfoldable pub octet_before_dot : List ℕ → Option (ℕ × List ℕ)
+octet_before_dot text = option_and_then (λ parts. option_map (λ octet. (octet, parts.1)) (octet_of parts.0)) (split_once 46 text)
 
 -- an octet and n more, each behind a dot, after those that make up v
 abbrev pub octets_after : ℕ → ℕ → List ℕ → Option ℕ
 octets_after v zero text = option_map (λ octet. v * 256 + octet) (octet_of text)
-octets_after v (suc n) text =
-    option_and_then (λ parts. option_and_then (λ octet. octets_after (v * 256 + octet) n parts.1) (octet_of parts.0)) (split_once 46 text)
+octets_after v (suc n) text = option_and_then (λ parts. octets_after (v * 256 + parts.0) n parts.1) (octet_before_dot text)
 
 -- the address of four octets joined by dots
-abbrev pub quad_of : List ℕ → Option ℕ
+unfoldable pub quad_of : List ℕ → Option ℕ
 quad_of text = octets_after 0 3 text
 
 -- an address as four octets joined by dots
@@ -58,20 +61,29 @@ abbrev pub mask_of : ℕ → ℕ
 mask_of n = 2 ^ 32 - 2 ^ (32 - n)
 
 -- the length of a contiguous mask
-abbrev pub mask_len : ℕ → Option ℕ
+unfoldable pub mask_len : ℕ → Option ℕ
 mask_len mask = find (λ n. nat_eq (mask_of n) mask) (range_with_len 0 33)
 
 -- a prefix length, as a decimal 0 to 32 or as a contiguous mask
-abbrev pub prefix_len_of : List ℕ → Option ℕ
+unfoldable pub prefix_len_of : List ℕ → Option ℕ
 prefix_len_of text = option_map_or Some (dec_of text 32) (option_and_then mask_len (quad_of text))
 
 -- the address without the bits past the first n
-abbrev pub first_bits : ℕ → ℕ → ℕ
+unfoldable pub first_bits : ℕ → ℕ → ℕ
 first_bits n a = a - a % 2 ^ (32 - n)
 
 -- an address, or an address with a length or a mask behind a slash
-abbrev pub prefix_of : List ℕ → Option Prefix
+unfoldable pub prefix_of : List ℕ → Option Prefix
 prefix_of text = option_map_or
     (λ parts. option_and_then (λ a. option_map (λ n. record { addr = first_bits n a; len = n }) (prefix_len_of parts.1)) (quad_of parts.0))
     (split_once 47 text)
     (option_map (λ a. record { addr = a; len = 32 }) (quad_of text))
+
+-- what is read of a spelled number is that number
+abbrev pub DecimalsAreRead : Type 0
+DecimalsAreRead = (n most : ℕ) → n < 2 ^ 64 → n ≤ most → dec_of (decimal n) most ≡ Some n
+
+-- what is read of a spelled address is that address, and nothing else is read
+abbrev pub QuadsAreDotted : Type 0
+QuadsAreDotted = ((a : ℕ) → a < 2 ^ 32 → quad_of (dotted a) ≡ Some a)
+    × ((text : List ℕ) (a : ℕ) → quad_of text ≡ Some a → (a < 2 ^ 32) × (text ≡ dotted a))

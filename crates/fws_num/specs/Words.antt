@@ -1,9 +1,10 @@
 -- The words of a line: divided by blanks and tabs, or in quotes.
 use Rattle.std.specs.Prelude.{ℕ, Bool, true, false, ◌||◌, ◌&&◌, nat_eq, nat_le, List, [], ◌∷◌, ◌++◌, if◌then◌else◌}
 use Rattle.std.specs.List.{list_all}
-use Rattle.fws_num.specs.declared.words.Word.{Word}
-use Rattle.fws_num.specs.declared.words.Mode.{Mode}
-use Rattle.fws_num.specs.declared.words.Mode.TheVariants.{Between, Plain, Quoted, Escaped}
+use Rattle.fws_num.specs.declared.word.Word.{Word}
+use Rattle.fws_num.specs.declared.word.Mode.{Mode}
+use Rattle.fws_num.specs.declared.word.Reader.{Reader}
+use Rattle.fws_num.specs.declared.word.Mode.TheVariants.{Between, Plain, Quoted, Escaped}
 
 -- a space or a tab
 abbrev pub is_blank : ℕ → Bool
@@ -43,6 +44,10 @@ words_from line Escaped text (c ∷ cs) = words_from line Quoted (text ++ unesca
 -- the words of the line with this number
 abbrev pub words_of : ℕ → List ℕ → List Word
 words_of line bytes = words_from line Between [] bytes
+
+-- the words of a line that was read so far, and of what is left of it
+abbrev pub words_ahead : Reader → List ℕ → List Word
+words_ahead reader rest = reader.words.items ++ words_from reader.line reader.mode reader.text rest
 
 -- a byte that may stand outside quotes within a word
 abbrev pub is_printed : ℕ → Bool

@@ -30,6 +30,13 @@ impl<T: Drop> Items<T> {
         }
     }
 
+    /// The list of these items.
+    pub fn from_vec(items: Vec<T>) -> Items<T>
+        ensures { result ≡ items.items }
+    {
+        Items { items }
+    }
+
     /// Appends the item. After want of memory the list is as before and the item is dropped.
     pub fn put(&mut self, item: T) -> Result<(), Memory>
         ensures ok { OnOk result (self.new ≡ self.old ++ item ∷ []) }

@@ -5,13 +5,22 @@ mod compared;
 mod items;
 mod lines;
 mod memory;
+mod numbers;
 mod prefix;
+mod prefixes;
+mod spelling;
 mod text;
-mod words;
+mod word;
 
 pub use items::Items;
-pub use lines::{Line, Lines};
+pub use lines::{Line, Lines, read_lines};
 pub use memory::Memory;
+pub use numbers::{decimals_are_read, quads_are_dotted, read_dec, read_quad, split_once};
 pub use prefix::Prefix;
+pub use prefixes::read_prefix;
+pub use spelling::{put_dec, put_quad};
 pub use text::Text;
-pub use words::{Mode, Word};
+pub use word::{Word, are_sound, words};
+
+#[cfg(test)]
+mod tests;

@@ -1,7 +1,14 @@
 //! The lines of a text.
 
+ghost use Rattle.std.specs.Prelude.{◌≡◌, ◌+◌, ◌++◌, length, IfOk, OnOk};
+ghost use Rattle.std.specs.Str.Lines.{strip_carriage_return};
+ghost use Rattle.fws_num.specs.Lines.{is_hash_comment, last_line, numbered, read_line, read_of};
+
 use crate::items::Items;
-use crate::words::Word;
+use crate::memory::Memory;
+use crate::numbers::split_once;
+use crate::word::{Word, words};
+use std::alloc::Global;
 
 /// A line that has words and is no comment.
 #[derive(Drop)]
@@ -19,4 +26,86 @@ pub struct Lines {
     pub lines: Items<Line>,
     /// The number of the text's lines plus one: where a text that ends too early is refused.
     pub past: u32,
+}
+
+fn without_carriage_return(line: &[u8]) -> &[u8]
+    ensures { result.now ≡ strip_carriage_return line.now }
+{
+    match line {
+        [front @ .., b'\r'] => front,
+        _ => line,
+    }
+}
+
+/// Its first byte that isn't a blank or a tab is `#`.
+fn is_hash_comment(line: &[u8]) -> bool
+    ensures { result ≡ is_hash_comment line.now }
+{
+    for c in line {
+        if *c != b' ' && *c != b'\t' {
+            return *c == b'#';
+        }
+    }
+    false
+}
+
+/// Adds the line of these bytes, if it has words and is no comment.
+fn put_line(alloc: Global, lines: &mut Items<Line>, number: u32, bytes: &[u8]) -> Result<(), Memory>
+    ensures { OnOk result (lines.new ≡ lines.old ++ read_line number bytes.now) }
+{
+    if is_hash_comment(bytes) {
+        return Ok(());
+    }
+    let words = words(alloc, bytes, number)?;
+    if words.is_empty() {
+        return Ok(());
+    }
+    lines.put(Line {
+        number,
+        words: Items::from_vec(words),
+    })?;
+    Ok(())
+}
+
+/// The number behind this one.
+fn next_number(number: u32) -> Result<u32, Memory>
+    ensures { IfOk result (λ next. next ≡ number + 1) }
+{
+    number.checked_add(1).ok_or(Memory)
+}
+
+/// Adds what stands behind the last line feed, if anything does, and gives the number past it.
+fn put_last(
+    alloc: Global,
+    lines: &mut Items<Line>,
+    number: u32,
+    bytes: &[u8],
+) -> Result<u32, Memory>
+    ensures lines { OnOk result (lines.new ≡ lines.old ++ numbered number (last_line bytes.now)) }
+    ensures past { IfOk result (λ past. past ≡ number + length (last_line bytes.now)) }
+{
+    match bytes {
+        [] => Ok(number),
+        [_, ..] => {
+            put_line(alloc, lines, number, bytes)?;
+            next_number(number)
+        }
+    }
+}
+
+/// The lines of a text that have words and are no comments, with their numbers, and the number past
+/// the last line. A line ends at a line feed; a carriage return before it doesn't count.
+pub fn read_lines(alloc: Global, text: &[u8]) -> Result<Lines, Memory>
+    ensures { IfOk result (λ ls. ls ≡ read_of text.now) }
+{
+    let mut lines = Items::new(alloc);
+    let mut number = 1;
+    let mut rest = text;
+    while let Some((line, behind)) = split_once(rest, b'\n') {
+        put_line(alloc, &mut lines, number, without_carriage_return(line))?;
+        number = next_number(number)?;
+        rest = behind;
+    }
+    let past = put_last(alloc, &mut lines, number, rest)?;
+    Ok(Lines { lines, past })
 }
