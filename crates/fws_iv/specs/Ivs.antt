@@ -1,5 +1,5 @@
 -- Sets of numbers as lists of intervals.
-use Rattle.std.specs.Prelude.{ℕ, ◌+◌, ◌≤◌, Bool, ◌&&◌, nat_le, List, [], ◌∷◌}
+use Rattle.std.specs.Prelude.{◌≡◌, ℕ, ◌+◌, ◌≤◌, Bool, ◌&&◌, nat_le, List, [], ◌∷◌, Option, Some, None}
 use Rattle.std.specs.List.{list_any}
 use Rattle.fws_iv.specs.declared.iv.Iv.{Iv}
 
@@ -19,3 +19,22 @@ IsRegularFrom from (x ∷ xs) = (from ≤ x.lo) × (x.lo ≤ x.hi) × IsRegularF
 -- ascending intervals, none empty, no two touching
 abbrev pub IsRegular : List Iv → Type 0
 IsRegular s = IsRegularFrom 0 s
+
+-- the least member of a regular list
+abbrev pub least : List Iv → Option ℕ
+least [] = None
+least (x ∷ xs) = Some x.lo
+
+-- where the last interval begins; the number where there is none
+abbrev pub last_start : ℕ → List Iv → ℕ
+last_start from [] = from
+last_start from (x ∷ xs) = last_start x.lo xs
+
+-- where a further interval may begin that touches none; the number where there is none yet
+abbrev pub past : ℕ → List Iv → ℕ
+past from [] = from
+past from (x ∷ xs) = past (x.hi + 2) xs
+
+-- regular lists with the same members are equal
+abbrev pub SameMembersSameList : Type 0
+SameMembersSameList = (s t : List Iv) → IsRegular s → IsRegular t → ((v : ℕ) → has s v ≡ has t v) → s ≡ t

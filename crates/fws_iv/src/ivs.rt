@@ -1,17 +1,22 @@
 //! Interval lists: sorted, disjoint, not touching.
 
-ghost use Rattle.std.specs.Prelude.{◌≡◌, ◌≤◌, Bool, ◌&&◌, nat_le, [], ◌∷◌, IfOk};
-ghost use Rattle.fws_iv.specs.Ivs.{has, IsRegular};
+ghost use Rattle.std.specs.Prelude.{◌≡◌, ◌<◌, ◌≤◌, ◌↔◌, ◌&&◌, ◌||◌, not, ℕ, nat_le, true, [], ◌∷◌, IsTrue, Some, unwrap_or, IfOk, OnOk, OnErr};
+ghost use Rattle.fws_iv.specs.Ivs.{has, IsRegular, least};
 
+use crate::find::has_number;
+use crate::inter::inter_into;
 use crate::iv::Iv;
-use fws_num::{Items, Memory};
+use crate::joined::join_last;
+use crate::minus::minus_into;
+use crate::union::union_into;
+use fws_num::Memory;
 use std::alloc::Global;
 use std::marker::Model;
 
 /// A set of numbers, as the list of its intervals in ascending order, of which no two touch.
 #[derive(Drop)]
 pub struct Ivs {
-    parts: Items<Iv>,
+    parts: Vec<Iv>,
 }
 
 impl Model for Ivs {
@@ -22,9 +27,9 @@ impl Model for Ivs {
 
     ghost use Rattle.fws_iv.specs.Ivs.{IsRegular};
 
-    ghost view = { λ s. s.parts };
+    ghost view = { λ s. s.parts.items };
 
-    ghost invariant = { λ s. IsRegular s.parts };
+    ghost invariant = { λ s. IsRegular s.parts.items };
 }
 
 impl Ivs {
@@ -33,7 +38,7 @@ impl Ivs {
         ensures { result ≡ [] }
     {
         Ivs {
-            parts: Items::new(alloc),
+            parts: Vec::new(alloc),
         }
     }
 
@@ -44,14 +49,81 @@ impl Ivs {
     {
         self.parts.as_slice()
     }
+
+    /// Whether there is no member.
+    pub fn is_empty(&self) -> bool
+        ensures { IsTrue result ↔ (self.now ≡ []) }
+    {
+        self.parts.is_empty()
+    }
+
+    /// Whether `v` is a member. The time is logarithmic in the number of intervals.
+    pub fn has(&self, v: u32) -> bool
+        ensures { result ≡ has self.now v }
+    {
+        has_number(self.parts.as_slice(), v)
+    }
+
+    /// An equal set. An error is want of memory.
+    pub fn copy(&self, alloc: Global) -> Result<Ivs, Memory>
+        ensures { IfOk result (λ s. s ≡ self.now) }
+    {
+        Ok(Ivs {
+            parts: Vec::from_slice(alloc, self.parts.as_slice())?,
+        })
+    }
+
+    /// Adds the numbers from `lo` to `hi`, all past those that are there; they join the last interval
+    /// where they touch it. An error is want of memory, after which the set is as before.
+    pub fn extend(&mut self, lo: u32, hi: u32) -> Result<(), Memory>
+        requires order { lo ≤ hi }
+        requires behind { (v : ℕ) → has self.old v ≡ true → v < lo }
+        ensures ok { OnOk result ((v : ℕ) → has self.new v ≡ (has self.old v || (nat_le lo v && nat_le v hi))) }
+        ensures first { OnOk result (least self.new ≡ Some (unwrap_or (least self.old) lo)) }
+        ensures alone { OnOk result (self.old ≡ [] → self.new ≡ record { lo = lo; hi = hi } ∷ []) }
+        ensures regular { IsRegular self.new }
+        ensures err { OnErr result (self.new ≡ self.old) }
+    {
+        join_last(&mut self.parts, lo, hi)
+    }
+
+    /// The members of either set. The time is linear in the number of intervals. An error is want of
+    /// memory.
+    pub fn union(&self, alloc: Global, other: &Ivs) -> Result<Ivs, Memory>
+        ensures { IfOk result (λ s. (v : ℕ) → has s v ≡ (has self.now v || has other.now v)) }
+    {
+        let mut parts = Vec::new(alloc);
+        union_into(&mut parts, self.parts(), other.parts())?;
+        Ok(Ivs { parts })
+    }
+
+    /// The members that the sets share. The time is linear in the number of intervals. An error is
+    /// want of memory.
+    pub fn inter(&self, alloc: Global, other: &Ivs) -> Result<Ivs, Memory>
+        ensures { IfOk result (λ s. (v : ℕ) → has s v ≡ (has self.now v && has other.now v)) }
+    {
+        let mut parts = Vec::new(alloc);
+        inter_into(&mut parts, self.parts(), other.parts())?;
+        Ok(Ivs { parts })
+    }
+
+    /// The members that `other` has not. The time is linear in the number of intervals. An error is
+    /// want of memory.
+    pub fn minus(&self, alloc: Global, other: &Ivs) -> Result<Ivs, Memory>
+        ensures { IfOk result (λ s. (v : ℕ) → has s v ≡ (has self.now v && not (has other.now v))) }
+    {
+        let mut parts = Vec::new(alloc);
+        minus_into(&mut parts, self.parts(), other.parts())?;
+        Ok(Ivs { parts })
+    }
 }
 
-/// The numbers from `lo` to `hi`.
+/// The numbers from `lo` to `hi`, of which `lo` is no greater. An error is want of memory.
 pub fn one(alloc: Global, lo: u32, hi: u32) -> Result<Ivs, Memory>
     requires { lo ≤ hi }
     ensures { IfOk result (λ s. s ≡ record { lo = lo; hi = hi } ∷ []) }
 {
-    let mut parts = Items::new(alloc);
-    parts.put(Iv { lo, hi })?;
+    let mut parts = Vec::new(alloc);
+    parts.push(Iv { lo, hi })?;
     Ok(Ivs { parts })
 }

@@ -1,8 +1,25 @@
 //! Sets of 32-bit numbers as sorted lists of intervals.
 #![tactic(auto)]
 
+mod compared;
+mod coverage;
+mod find;
+mod inter;
 mod iv;
 mod ivs;
+mod joined;
+mod law;
+mod minus;
+#[cfg(test)]
+mod tests;
+mod union;
 
+pub use coverage::Overlap;
+pub use find::{first_reaching, has_number, overlap};
+pub use inter::inter_into;
 pub use iv::Iv;
 pub use ivs::{Ivs, one};
+pub use joined::join_last;
+pub use law::same_members_same_list;
+pub use minus::minus_into;
+pub use union::union_into;
