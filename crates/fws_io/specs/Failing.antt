@@ -1,0 +1,24 @@
+-- Which calls of a shelf or a sink in memory are to fail.
+use Rattle.std.specs.Prelude.{ℕ, List}
+use Rattle.fws_io.specs.declared.mem_shelf.MemShelf.{MemShelf}
+use Rattle.fws_io.specs.declared.mem_sink.MemSink.{MemSink}
+
+-- the numbers of the reads that fail
+abbrev pub shelf_fails : MemShelf → List ℕ
+shelf_fails shelf = shelf.failing.listed
+
+-- how many reads were made
+abbrev pub reads_made : MemShelf → ℕ
+reads_made shelf = shelf.failing.made
+
+-- the numbers of the puts that fail
+abbrev pub sink_fails : MemSink → List ℕ
+sink_fails sink = sink.failing.listed
+
+-- how many puts were made of a piece that isn't empty
+abbrev pub puts_made : MemSink → ℕ
+puts_made sink = sink.failing.made
+
+-- the greatest length of one put
+abbrev pub most_of : MemSink → ℕ
+most_of sink = sink.most

@@ -1,0 +1,87 @@
+//! A sink in memory, of which chosen calls fail.
+
+ghost use Rattle.std.specs.Prelude.{◌≡◌, ◌+◌, ◌-◌, ◌^◌, ◌<◌, ◌≤◌, min, false, [], ◌++◌, length, take, IfOk, OnOk, OnErr};
+ghost use Rattle.fws_io.specs.Outside.{Rose, is_listed};
+
+use crate::faults::{FailingCalls, FaultCount};
+use crate::sink::{Failed, Sink};
+use fws_num::{Items, Text};
+use std::alloc::Global;
+
+/// Bytes in memory, a greatest length for one put, and a list of the puts that fail. A put that
+/// fails, or for which there is no memory, raises the count of faults.
+#[derive(Drop)]
+pub struct MemSink {
+    bytes: Text,
+    most: usize,
+    failing: FailingCalls,
+    faults: FaultCount,
+    ghost takes: { 1 ≤ most },
+}
+
+impl MemSink {
+    ghost use Rattle.fws_io.specs.Failing.{sink_fails, puts_made, most_of};
+
+    /// A sink without bytes, which takes at most `most` bytes at a time. The puts whose numbers are
+    /// in `fails` will fail; those whose piece isn't empty are numbered from 1, and the number stays
+    /// at its last value.
+    pub fn new(alloc: Global, most: usize, fails: Items<u64>) -> MemSink
+        requires { 1 ≤ most }
+        ensures written { ⟦<MemSink as Sink>⟧.written result ≡ Some [] }
+        ensures faults { ⟦<MemSink as Sink>⟧.faults result ≡ 0 }
+        ensures most { most_of result ≡ most }
+        ensures fails { sink_fails result ≡ fails }
+        ensures made { puts_made result ≡ 0 }
+    {
+        MemSink {
+            bytes: Text::new(alloc),
+            most,
+            failing: FailingCalls::new(fails),
+            faults: FaultCount::none(),
+        }
+    }
+
+    /// The bytes written.
+    pub fn bytes(&self) -> &[u8]
+        ensures { ⟦<MemSink as Sink>⟧.written self.now ≡ Some result.now }
+    {
+        self.bytes.as_slice()
+    }
+
+    /// Appends at most `most` bytes of a piece that isn't empty, unless this call is to fail.
+    fn append(&mut self, piece: &[u8]) -> Result<usize, Failed>
+        requires { 0 < length piece.now }
+        ensures most { IfOk result (λ taken. taken ≡ min (length piece.now) (most_of self.old)) }
+        ensures appended { IfOk result (λ taken. self.new.bytes ≡ self.old.bytes ++ take taken piece.now) }
+        ensures same { OnErr result (self.new.bytes ≡ self.old.bytes) }
+        ensures listed { OnOk result (is_listed (sink_fails self.old) (puts_made self.new) ≡ false) }
+        ensures failed { OnErr result (Rose self.old.faults.count self.new.faults.count) }
+        ensures count { OnOk result (self.new.faults ≡ self.old.faults) }
+        ensures never_falls { self.old.faults.count ≤ self.new.faults.count }
+        ensures limit { most_of self.new ≡ most_of self.old }
+        ensures list { sink_fails self.new ≡ sink_fails self.old }
+        ensures number { puts_made self.new ≡ min (puts_made self.old + 1) (2 ^ 64 - 1) }
+    {
+        let taken = piece.len().min(self.most);
+        if self.failing.next_fails() || self.bytes.put(&piece[..taken]).is_err() {
+            self.faults.raise();
+            return Err(Failed);
+        }
+        Ok(taken)
+    }
+}
+
+impl Sink for MemSink {
+    ghost use Rattle.std.specs.Prelude.{Some};
+
+    ghost written = { λ s. Some s.bytes };
+
+    ghost faults = { λ s. s.faults.count };
+
+    fn put(&mut self, piece: &[u8]) -> Result<usize, Failed> {
+        if piece.is_empty() {
+            return Ok(0);
+        }
+        self.append(piece)
+    }
+}
