@@ -38,10 +38,14 @@ exit_at site entry dst =
     else if is_local site dst then Deliver
     else if site.forwarding then Out (route_of site dst) else Lost
 
+-- an address of 32 bits, and a length of 1 to 32
+abbrev pub IsSoundFace : Iface → Type 0
+IsSoundFace face = (1 ≤ face.len) × (face.len ≤ 32) × (face.addr < 2 ^ 32)
+
 -- what every site that was read meets: 1 to 14 interfaces, lengths of 1 to 32, and a fallback among the interfaces
 pub record IsSound (site : Site) : Type 0 where
   pub some_faces : 1 ≤ length site.faces
   pub few_faces : length site.faces ≤ 14
-  pub lengths : All (λ face. (1 ≤ face.len) × (face.len ≤ 32) × (face.addr < 2 ^ 32)) site.faces
+  pub lengths : All IsSoundFace site.faces
   pub fallback_low : 2 ≤ site.fallback
   pub fallback_high : site.fallback ≤ length site.faces + 1

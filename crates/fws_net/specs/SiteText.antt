@@ -1,9 +1,9 @@
 -- A site file: its value, or its first refused line with the cause.
 use Rattle.std.specs.Prelude.{ℕ, suc, ◌*◌, ◌^◌, Bool, true, false, ◌&&◌, ◌||◌, not, min, nat_eq, nat_le, Option, Some, None, option_and_then, Result, Ok, Err, List, [], ◌∷◌, ◌++◌, length, drop, codes, if◌then◌else◌}
 use Rattle.std.specs.Str.{bytes_eq}
-use Rattle.std.specs.Option.{ok_or}
+use Rattle.std.specs.Option.{ok_or, option_map}
 use Rattle.std.specs.List.{starts_with, list_any, list_all}
-use Rattle.fws_num.specs.declared.words.Word.{Word}
+use Rattle.fws_num.specs.declared.word.Word.{Word}
 use Rattle.fws_num.specs.declared.lines.Line.{Line}
 use Rattle.fws_num.specs.Numbers.{is_digit, dec_of, quad_of, split_once}
 use Rattle.fws_num.specs.Words.{is_sound}
@@ -68,10 +68,14 @@ side_of w =
     else if is_word (codes "nat=outside") w then Ok Outside
     else if is_word (codes "nat=none") w then Ok Neither else Err Syntax
 
+-- a decimal 1 to 32
+abbrev pub len_of : List ℕ → Option ℕ
+len_of text = option_and_then (λ len. if nat_eq len 0 then None else Some len) (dec_of text 32)
+
 -- an address and a length of 1 to 32 behind a slash
 abbrev pub net_of : List ℕ → Option (ℕ × ℕ)
-net_of text = option_and_then (λ parts. option_and_then (λ addr. option_and_then
-    (λ len. if nat_eq len 0 then None else Some (addr, len)) (dec_of parts.1 32)) (quad_of parts.0)) (split_once 47 text)
+net_of text = option_and_then
+    (λ parts. option_and_then (λ addr. option_map (λ len. (addr, len)) (len_of parts.1)) (quad_of parts.0)) (split_once 47 text)
 
 -- Lines of a fixed form
 
@@ -87,15 +91,25 @@ choice_of key yes_word no_word _ = Err Syntax
 
 -- Interfaces
 
--- an interface as its line spells it
-unfoldable pub spelled_face : Word → Word → List Word → Result Iface SiteCause
-spelled_face name net (a ∷ b ∷ c ∷ d ∷ e ∷ []) = do
-  text ← name_of name.text
-  prefix ← ok_or (net_of net.text) Syntax
+-- four names and a side
+unfoldable pub names_and_side : Word → Word → Word → Word → Word → Result (Names × Side) SiteCause
+names_and_side a b c d e = do
   names ← names_of a b c d
   side ← side_of e
-  Ok (record { name = text; addr = prefix.0; len = prefix.1; names = names; side = side })
-spelled_face name net _ = Err Syntax
+  Ok (names, side)
+
+-- what stands behind the network of an interface
+abbrev pub behind_net : List Word → Result (Names × Side) SiteCause
+behind_net (a ∷ b ∷ c ∷ d ∷ e ∷ []) = names_and_side a b c d e
+behind_net _ = Err Syntax
+
+-- an interface as its line spells it
+unfoldable pub spelled_face : Word → Word → List Word → Result Iface SiteCause
+spelled_face name net ws = do
+  text ← name_of name.text
+  prefix ← ok_or (net_of net.text) Syntax
+  rest ← behind_net ws
+  Ok (record { name = text; addr = prefix.0; len = prefix.1; names = rest.0; side = rest.1 })
 
 -- the networks share an address: they agree in the shorter length
 abbrev pub nets_meet : ℕ → ℕ → ℕ → ℕ → Bool
@@ -124,9 +138,13 @@ admitted seen face =
     else if name_taken seen face.name || names_taken seen face.names then Err NameTaken
     else if nat_le 14 (length seen) then Err Count else Ok face
 
+-- an interface after the earlier ones, as its line spells it behind the keyword
+abbrev pub face_behind : List Iface → Word → Word → List Word → Result Iface SiteCause
+face_behind seen name net ws = spelled_face name net ws >>= admitted seen
+
 -- an interface line
 abbrev pub face_of : List Iface → List Word → Result Iface SiteCause
-face_of seen (key ∷ name ∷ net ∷ ws) = if is_word (codes "interface") key then spelled_face name net ws >>= admitted seen else Err Syntax
+face_of seen (key ∷ name ∷ net ∷ ws) = if is_word (codes "interface") key then face_behind seen name net ws else Err Syntax
 face_of seen _ = Err Syntax
 
 -- The lines behind the interfaces
@@ -134,8 +152,13 @@ face_of seen _ = Err Syntax
 abbrev pub free_names : List Iface → Names → Result Names SiteCause
 free_names seen names = if names_taken seen names then Err NameTaken else Ok names
 
+-- the names of loopback as they are spelled behind the keyword
+abbrev pub loopback_behind : List Iface → Word → Word → Word → Word → Result Names SiteCause
+loopback_behind seen a b c d = names_of a b c d >>= free_names seen
+
+-- the loopback line
 abbrev pub loopback_of : List Iface → List Word → Result Names SiteCause
-loopback_of seen (key ∷ a ∷ b ∷ c ∷ d ∷ []) = if is_word (codes "loopback") key then names_of a b c d >>= free_names seen else Err Syntax
+loopback_of seen (key ∷ a ∷ b ∷ c ∷ d ∷ []) = if is_word (codes "loopback") key then loopback_behind seen a b c d else Err Syntax
 loopback_of seen _ = Err Syntax
 
 -- the entry of the interface with this name, counted from n
