@@ -1,3 +1,9 @@
+pub mod Building
+pub mod Exactly
+pub mod LeafEquality
 pub mod Nodes
+pub mod OutcomeEquality
 pub mod Plain
+pub mod PlainCode
 pub mod Rows
+pub mod Tree

@@ -4,7 +4,7 @@ use fws_iv::Ivs;
 use fws_num::Items;
 
 /// A node: it names earlier nodes alone.
-#[derive(Drop)]
+#[derive(PartialEq, Eq, Hash, Drop)]
 pub enum Node {
     /// A leaf, with the place of its value among the tree's leaves.
     Leaf(u32),
@@ -13,7 +13,7 @@ pub enum Node {
 }
 
 /// A set of a field's values, and the number of the node for them.
-#[derive(Drop)]
+#[derive(PartialEq, Eq, Hash, Drop)]
 pub struct Kid {
     /// The values.
     pub set: Ivs,

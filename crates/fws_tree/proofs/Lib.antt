@@ -1,0 +1,15 @@
+pub mod Gathering
+pub mod Growing
+pub mod Joining
+pub mod LeafNumbers
+pub mod LeafPlaces
+pub mod Numbered
+pub mod Parting
+pub mod PathPoints
+pub mod PathRows
+pub mod Pieces
+pub mod Places
+pub mod Reduced
+pub mod Relabel
+pub mod Splitting
+pub mod WayDown

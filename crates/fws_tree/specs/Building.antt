@@ -1,0 +1,98 @@
+-- What the builder of reduced trees keeps.
+use Rattle.std.specs.Prelude.{◌≡◌, ℕ, suc, slice_index, ◌+◌, ◌<◌, ◌≤◌, ◌⊎◌, Bool, ◌&&◌, nat_lt, nat_le, true, Option, Some, None, filter, map, slice_index_or, length, All, List, [], ◌∷◌, ◌++◌, slice_get, if◌then◌else◌}
+use Rattle.std.specs.List.{AllByRecursion}
+use Rattle.std.specs.Option.{option_map_or}
+use Rattle.fws_iv.specs.declared.iv.Iv.{Iv}
+use Rattle.fws_iv.specs.Ivs.{has, IsRegular}
+use Rattle.fws_tree.specs.declared.join.Piece.{Piece}
+use Rattle.fws_tree.specs.declared.node.Kid.{Kid}
+use Rattle.fws_tree.specs.declared.node.Node.{Node}
+use Rattle.fws_tree.specs.declared.row.Row.{Row}
+use Rattle.fws_tree.specs.Nodes.{AreOrderedFrom}
+
+-- no item stands at two places
+abbrev pub AreDifferent : {X : Type 0} → List X → Type 0
+AreDifferent {X} xs = (i j : ℕ) (x : X) → slice_get xs i ≡ Some x → slice_get xs j ≡ Some x → i ≡ j
+
+-- how many kids have the value
+abbrev pub kid_hits : List Kid → ℕ → ℕ
+kid_hits [] x = 0
+kid_hits (k ∷ ks) x = (if has k.set x then 1 else 0) + kid_hits ks x
+
+-- the least member of a set
+abbrev pub IsLeast : List Iv → ℕ → Type 0
+IsLeast s least = (has s least ≡ true) × ((x : ℕ) → has s x ≡ true → least ≤ x)
+
+-- the least values of the kids are at least from and do not fall
+abbrev pub LeastsRise : ℕ → List Kid → Type 0
+LeastsRise from [] = Unit {0}
+LeastsRise from (k ∷ ks) = (least : ℕ) × (from ≤ least) × IsLeast k.set least × LeastsRise least ks
+
+-- nodes of which each names earlier ones alone, and no two are equal
+pub record IsArena (ns : List Node) : Type 0 where
+  pub ordered : AreOrderedFrom 0 ns
+  pub different : AreDifferent ns
+
+-- the list with more behind
+abbrev pub Extends : {X : Type 0} → List X → List X → Type 0
+Extends {X} old new = (more : List X) × (new ≡ old ++ more)
+
+-- pieces one behind the other without gaps, from a number on, none empty
+abbrev pub AreInRow : {T : Type 0} → ℕ → List (Piece T) → Type 0
+AreInRow from [] = Unit {0}
+AreInRow from (p ∷ ps) = (p.lo ≡ from) × (p.lo ≤ p.hi) × AreInRow (p.hi + 1) ps
+
+-- where the next piece begins
+abbrev pub end_of : {T : Type 0} → ℕ → List (Piece T) → ℕ
+end_of from [] = from
+end_of from (p ∷ ps) = end_of (p.hi + 1) ps
+
+-- a kid with this node has the value
+abbrev pub HasKid : List Kid → ℕ → ℕ → Type 0
+HasKid [] n x = ⊥
+HasKid (k ∷ ks) n x = ((k.node ≡ n) × (has k.set x ≡ true)) ⊎ HasKid ks n x
+
+-- kids for the values below the end: each lies in one of them, and their least values rise
+pub record AreKidsTo (end : ℕ) (ks : List Kid) : Type 0 where
+  pub regular : AllByRecursion (λ k. IsRegular k.set) ks
+  pub hits : (x : ℕ) → kid_hits ks x ≡ (if nat_lt x end then 1 else 0)
+  pub rise : LeastsRise 0 ks
+
+-- a piece has the value
+abbrev pub in_piece : {T : Type 0} → Piece T → ℕ → Bool
+in_piece p x = nat_le p.lo x && nat_le x p.hi
+
+-- what the first piece of a value holds
+abbrev pub held_at : {T : Type 0} → List (Piece T) → ℕ → Option T
+held_at [] x = None
+held_at (p ∷ ps) x = if in_piece p x then Some p.held else held_at ps x
+
+-- the side of a row by its number, at a field
+abbrev pub side_of : {L : Type 0} → List (Row L) → ℕ → ℕ → List Iv
+side_of rows f n = option_map_or (λ r. slice_index_or r.sides f []) (slice_get rows n) []
+
+-- the numbers among these of the rows whose side at a field has a value
+abbrev pub live_at : {L : Type 0} → List (Row L) → ℕ → List ℕ → ℕ → List ℕ
+live_at rows f live x = filter (λ n. has (side_of rows f n) x) live
+
+-- some of these rows, in their order, that have the same rows alive at each value from lo to hi; all of them where the
+-- test says so, and at a single value the test does
+pub record IsNarrowed {L : Type 0} (rows : List (Row L)) (f lo hi : ℕ) (live kept : List ℕ) (whole : Bool) : Type 0 where
+  pub same : (x : ℕ) → lo ≤ x → x ≤ hi → live_at rows f kept x ≡ live_at rows f live x
+  pub all : whole ≡ true → (x : ℕ) → lo ≤ x → x ≤ hi → kept ≡ live_at rows f live x
+  pub single : lo ≡ hi → whole ≡ true
+  pub below : All (λ n. n < length rows) kept
+
+-- a row by its number has these values of the fields from f on
+abbrev pub row_has : {L : Type 0} → List (Row L) → ℕ → ℕ → List ℕ → Bool
+row_has rows f n [] = true
+row_has rows f n (x ∷ p) = has (side_of rows f n) x && row_has rows (suc f) n p
+
+-- the number of the leaf of the first of these rows that has the values of the fields from f on, else that of the rest
+abbrev pub first_number : {L : Type 0} → List (Row L) → List ℕ → ℕ → ℕ → List ℕ → List ℕ → ℕ
+first_number rows numbers rest f [] p = rest
+first_number rows numbers rest f (n ∷ live) p = if row_has rows f n p then slice_index numbers n else first_number rows numbers rest f live p
+
+-- numbers that stand for the leaves of rows, by their places in a list
+abbrev pub AreNumbersOf : {L : Type 0} → List L → List ℕ → List (Row L) → Type 0
+AreNumbersOf leaves numbers rows = map (λ n. slice_get leaves n) numbers ≡ map (λ r. Some r.leaf) rows

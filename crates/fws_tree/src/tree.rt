@@ -1,0 +1,108 @@
+//! Trees, seen by contracts as the tops of the fields and the plain tree.
+
+ghost use Rattle.std.specs.Prelude.{◌≡◌, ℕ, ◌<◌, List, length, Some, All, IfOk, IsTrue};
+ghost use Rattle.fws_tree.specs.Building.{AreDifferent};
+ghost use Rattle.fws_tree.specs.Nodes.{tree_of, AreOrderedFrom, relabel};
+ghost use Rattle.fws_tree.specs.Plain.{IsReduced, IsWithin, value};
+ghost use Rattle.fws_tree.specs.Rows.{sides_have, row_hits, paths_of};
+ghost use Rattle.fws_tree.specs.Tree.{AreLeavesBelow};
+
+use crate::leaf::Leaf;
+use crate::node::Node;
+use crate::paths::{add_paths, ranges};
+use crate::row::Row;
+use crate::walk::place_at;
+use fws_num::{Items, Memory};
+use std::alloc::Global;
+use std::marker::Model;
+
+/// A reduced decision tree over twelve fields, each with values from 0 to its top.
+#[derive(Drop)]
+pub struct Tree<L: Leaf> {
+    tops: [u32; 12],
+    leaves: Items<L>,
+    nodes: Items<Node>,
+    root: u32,
+}
+
+impl<L: Leaf> Model for Tree<L> {
+    ghost use Rattle.std.specs.Prelude.{List, ℕ};
+    ghost use Rattle.std.specs.Coded.{coded×, coded_list, coded_ℕ};
+    ghost use Rattle.fws_tree.specs.Plain.{Plain};
+    ghost use Rattle.fws_tree.specs.PlainCode.{coded_plain};
+
+    ghost Value = { List ℕ × Plain L };
+
+    ghost coded = { coded× (coded_list coded_ℕ) (coded_plain L.code) };
+
+    ghost use Rattle.fws_tree.specs.Nodes.{tree_of, relabel};
+    ghost use Rattle.fws_tree.specs.Tree.{IsKept};
+
+    ghost view = { λ t. (t.tops, relabel t.leaves (tree_of t.nodes t.root)) };
+
+    ghost invariant = { λ t. IsKept L t.tops t.leaves t.nodes t.root };
+}
+
+impl<L: Leaf> Tree<L> {
+    /// The greatest value of each field, in the order of the fields.
+    pub fn tops(&self) -> &[u32; 12]
+        ensures value { result.now ≡ self.now.0 }
+        ensures twelve { length self.now.0 ≡ 12 }
+        ensures reduced { IsReduced self.now.0 self.now.1 }
+    {
+        &self.tops
+    }
+
+    /// The leaf at a point whose values are at most the tops. It allocates nothing.
+    pub fn lookup(&self, p: &[u32; 12]) -> &L
+        requires { IsWithin self.now.0 p.now }
+        ensures { value self.now.1 p.now ≡ Some result.now }
+    {
+        match place_at(self.nodes.as_slice(), self.root, p) {
+            Some(n) => &self.leaves.as_slice()[n as usize],
+            None => unreachable!(),
+        }
+    }
+
+    /// The paths of the tree: a row for each leaf, depth first, with the values of each field that lead
+    /// to it. Each point whose values are at most the tops lies in just one of them.
+    pub fn paths(&self, alloc: Global) -> Result<Vec<Row<L>>, Memory>
+        ensures rows { IfOk result (λ rows. rows.items ≡ paths_of self.now.0 self.now.1) }
+        ensures once { IfOk result (λ rows. (p : List ℕ) → IsWithin self.now.0 p → row_hits rows.items p ≡ 1) }
+        ensures right { IfOk result (λ rows. (p : List ℕ) → IsWithin self.now.0 p → All (λ row. IsTrue (sides_have row.sides p) → value self.now.1 p ≡ Some row.leaf) rows.items) }
+    {
+        let mut rows = Vec::new(alloc);
+        let sides = ranges(alloc, &self.tops)?;
+        add_paths(
+            alloc,
+            self.leaves.as_slice(),
+            self.nodes.as_slice(),
+            self.root,
+            sides,
+            &mut rows,
+        )?;
+        Ok(rows)
+    }
+}
+
+/// The tree of node `root`, with the leaves at the places that its leaves name.
+pub(crate) fn from_nodes<L: Leaf>(
+    tops: &[u32; 12],
+    leaves: Items<L>,
+    nodes: Items<Node>,
+    root: u32,
+) -> Tree<L>
+    requires ordered { AreOrderedFrom 0 nodes }
+    requires inside { root < length nodes }
+    requires reduced { IsReduced tops.now (tree_of nodes root) }
+    requires different { AreDifferent leaves }
+    requires leaves { AreLeavesBelow (length leaves) (tree_of nodes root) }
+    ensures { result ≡ (tops.now, relabel leaves (tree_of nodes root)) }
+{
+    Tree {
+        tops: *tops,
+        leaves,
+        nodes,
+        root,
+    }
+}
