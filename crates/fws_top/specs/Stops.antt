@@ -1,0 +1,51 @@
+-- What the steps of a command answer in place of a value.
+use Rattle.std.specs.Prelude.{◌≡◌, ℕ, ◌<◌, Option, Some, None, Err, List, length, ◌⊎◌}
+use Rattle.fws_io.specs.Outside.{Rose}
+use Rattle.fws_net.specs.SiteText.{Refusal, site_of}
+use Rattle.fws_top.specs.declared.answer.Answer.{Answer}
+use Rattle.fws_top.specs.declared.answer.Stop.{Stop}
+use Rattle.fws_top.specs.declared.answer.Stop.TheVariants.{Due, Memory}
+use Rattle.fws_top.specs.declared.status.Status.TheVariants as status
+use Rattle.fws_top.specs.declared.texts.TheConstants.{FILE_LIMIT}
+use Rattle.fws_top.specs.Due.{IsAnswered}
+use Rattle.fws_top.specs.Forms.{Command}
+use Rattle.fws_top.specs.Lines.{cannot_read_line, too_long_line, not_built_line, site_refused_line}
+use Rattle.fws_top.specs.PlainText.{plain_of}
+
+-- this refusal
+abbrev pub Refuses : List ℕ → Answer → Type 0
+Refuses line a = (a.status ≡ status.Refused) × (a.text ≡ line)
+
+-- the name had a fault in this call
+abbrev pub Faulted : List ℕ → (List ℕ → ℕ) → (List ℕ → ℕ) → Answer → Type 0
+Faulted name old new a = (a.status ≡ status.ReadFault) × (a.text ≡ cannot_read_line name) × Rose (old name) (new name)
+
+-- the name holds too much
+abbrev pub HeldTooMuch : List ℕ → Option (List ℕ → List ℕ) → (List ℕ → ℕ) → (List ℕ → ℕ) → Answer → Type 0
+HeldTooMuch name told old new a = Refuses (too_long_line name) a × (new ≡ old)
+    × ((held : List ℕ → List ℕ) → told ≡ Some held → FILE_LIMIT < length (held name))
+
+-- a file is taken, or it had a fault, or it is too long
+abbrev pub TakeStopped : List ℕ → Option (List ℕ → List ℕ) → (List ℕ → ℕ) → (List ℕ → ℕ) → Stop → Type 0
+TakeStopped name told old new (Due a) = Faulted name old new a ⊎ HeldTooMuch name told old new a
+TakeStopped name told old new Memory = Unit {0}
+
+-- the bytes of a site are refused
+pub record SiteRefused (name bytes : List ℕ) (a : Answer) : Type 0 where
+  pub refusal : Refusal
+  pub read : site_of bytes ≡ Err refusal
+  pub says : Refuses (site_refused_line name refusal.line refusal.cause) a
+
+abbrev pub SiteStopped : List ℕ → List ℕ → Stop → Type 0
+SiteStopped name bytes (Due a) = SiteRefused name bytes a
+SiteStopped name bytes Memory = Unit {0}
+
+-- the bytes of a configuration aren't of the plain form
+abbrev pub PlainStopped : List ℕ → List ℕ → Stop → Type 0
+PlainStopped name bytes (Due a) = (plain_of bytes ≡ None) × Refuses (not_built_line name) a
+PlainStopped name bytes Memory = Unit {0}
+
+-- the command is answered
+abbrev pub CommandStopped : Command → Option (List ℕ → List ℕ) → (List ℕ → ℕ) → (List ℕ → ℕ) → Stop → Type 0
+CommandStopped command told old new (Due a) = IsAnswered command told old new a.status a.text
+CommandStopped command told old new Memory = Unit {0}

@@ -1,0 +1,148 @@
+//! What a command answers, before anything is written.
+
+ghost use Rattle.std.specs.Prelude.{◌≡◌, ℕ, ◌≤◌, List, length, IfOk, IfErr, OnOk};
+ghost use Rattle.fws_top.specs.Stops.{TakeStopped, SiteStopped, PlainStopped, CommandStopped};
+ghost use Rattle.fws_net.specs.SiteText.{site_of};
+ghost use Rattle.fws_net.specs.Routes.{IsSound};
+ghost use Rattle.fws_top.specs.Due.{IsDue, IsAnswered};
+ghost use Rattle.fws_top.specs.Forms.{command_of, synth};
+ghost use Rattle.fws_top.specs.PlainText.{plain_of};
+
+use crate::form::{Form, read_form};
+use crate::lines::{cannot_read_line, not_built_line, site_refused_line, too_long_line};
+use crate::plain::{PlainFault, PlainFilter, new_table, read_plain};
+use crate::status::Status;
+use crate::texts::{FILE_LIMIT, HELP, USAGE, VERSION};
+use fws_io::{Shelf, ShelfAnswer};
+use fws_net::{Site, SiteAnswer, read_site};
+use fws_num::{Memory, Text};
+use std::alloc::Global;
+
+/// A status, and the text that is written with it.
+#[derive(Drop)]
+pub(crate) struct Answer {
+    pub(crate) status: Status,
+    pub(crate) text: Text,
+}
+
+/// Why a step gives no value: an answer that is due in place of it, or want of memory.
+#[derive(Drop)]
+pub(crate) enum Stop {
+    Due(Answer),
+    Memory,
+}
+
+impl From<Memory> for Stop {
+    ghost use Rattle.std.specs.Prelude.{◌≡◌};
+    ghost use Rattle.fws_top.specs.declared.answer.Stop.TheVariants.{Memory as NoMemory};
+
+    ghost from_gives = { λ _ stop. stop ≡ NoMemory };
+
+    fn from(_e: Memory) -> Stop {
+        Stop::Memory
+    }
+}
+
+/// The bytes of a file. A file with a fault is a read fault, and one past the limit is refused.
+fn take<S: Shelf>(alloc: Global, shelf: &mut S, name: &[u8]) -> Result<Text, Stop>
+    ensures same { S.told shelf.new ≡ S.told shelf.old }
+    ensures whole { IfOk result (λ text. (held : List ℕ → List ℕ) → S.told shelf.old ≡ Some held → text ≡ held name.now) }
+    ensures within { IfOk result (λ text. length text ≤ FILE_LIMIT) }
+    ensures quiet { OnOk result (S.faults shelf.new ≡ S.faults shelf.old) }
+    ensures stopped { IfErr result (TakeStopped name.now (S.told shelf.old) (S.faults shelf.old) (S.faults shelf.new)) }
+{
+    match shelf.read(alloc, name, FILE_LIMIT) {
+        Ok(text) => Ok(text),
+        Err(ShelfAnswer::Memory) => Err(Stop::Memory),
+        Err(ShelfAnswer::Failed) => Err(Stop::Due(Answer {
+            status: Status::ReadFault,
+            text: cannot_read_line(alloc, name)?,
+        })),
+        Err(ShelfAnswer::TooLong(_)) => Err(Stop::Due(Answer {
+            status: Status::Refused,
+            text: too_long_line(alloc, name)?,
+        })),
+    }
+}
+
+/// The site that the bytes spell, or its refusal.
+fn take_site(alloc: Global, name: &[u8], bytes: &[u8]) -> Result<Site, Stop>
+    ensures given { IfOk result (λ site. site_of bytes.now ≡ Ok site) }
+    ensures sound { IfOk result IsSound }
+    ensures stopped { IfErr result (SiteStopped name.now bytes.now) }
+{
+    match read_site(alloc, bytes) {
+        Ok(site) => Ok(site),
+        Err(SiteAnswer::Memory) => Err(Stop::Memory),
+        Err(SiteAnswer::Refused { line, cause }) => Err(Stop::Due(Answer {
+            status: Status::Refused,
+            text: site_refused_line(alloc, name, line, cause)?,
+        })),
+    }
+}
+
+/// The plain filter that the bytes spell, or the refusal of a file that isn't of this form.
+fn take_plain(alloc: Global, name: &[u8], bytes: &[u8]) -> Result<PlainFilter, Stop>
+    ensures given { IfOk result (λ filter. plain_of bytes.now ≡ Some filter) }
+    ensures stopped { IfErr result (PlainStopped name.now bytes.now) }
+{
+    match read_plain(alloc, bytes) {
+        Ok(filter) => Ok(filter),
+        Err(PlainFault::Memory) => Err(Stop::Memory),
+        Err(PlainFault::OtherForm) => Err(Stop::Due(Answer {
+            status: Status::Refused,
+            text: not_built_line(alloc, name)?,
+        })),
+    }
+}
+
+/// The table of new packets.
+fn synth<S: Shelf>(
+    alloc: Global,
+    shelf: &mut S,
+    site_name: &[u8],
+    file_name: &[u8],
+) -> Result<Text, Stop>
+    ensures same { S.told shelf.new ≡ S.told shelf.old }
+    ensures due { IfOk result (IsDue (synth site_name.now file_name.now) (S.told shelf.old) (S.faults shelf.old) (S.faults shelf.new) Status.Ok) }
+    ensures stopped { IfErr result (CommandStopped (synth site_name.now file_name.now) (S.told shelf.old) (S.faults shelf.old) (S.faults shelf.new)) }
+{
+    let site_bytes = take(alloc, shelf, site_name)?;
+    let site = take_site(alloc, site_name, site_bytes.as_slice())?;
+    let file_bytes = take(alloc, shelf, file_name)?;
+    let filter = take_plain(alloc, file_name, file_bytes.as_slice())?;
+    Ok(new_table(alloc, &site, &filter)?)
+}
+
+/// The text of a status that needs no file.
+fn said(alloc: Global, status: Status, text: &[u8]) -> Result<Answer, Memory>
+    ensures { IfOk result (λ answer. (answer.status ≡ status) × (answer.text ≡ text.now)) }
+{
+    let mut out = Text::new(alloc);
+    out.put(text)?;
+    Ok(Answer { status, text: out })
+}
+
+/// The answer to the words.
+pub(crate) fn answer_to<S: Shelf>(
+    alloc: Global,
+    words: &[Text],
+    shelf: &mut S,
+) -> Result<Answer, Memory>
+    ensures same { S.told shelf.new ≡ S.told shelf.old }
+    ensures answered { IfOk result (λ answer. IsAnswered (command_of words.now) (S.told shelf.old) (S.faults shelf.old) (S.faults shelf.new) answer.status answer.text) }
+{
+    match read_form(words) {
+        Form::Unknown => said(alloc, Status::Usage, USAGE),
+        Form::Help => said(alloc, Status::Ok, HELP),
+        Form::Version => said(alloc, Status::Ok, VERSION),
+        Form::Synth(site, file) => match synth(alloc, shelf, site, file) {
+            Ok(text) => Ok(Answer {
+                status: Status::Ok,
+                text,
+            }),
+            Err(Stop::Due(answer)) => Ok(answer),
+            Err(Stop::Memory) => Err(Memory),
+        },
+    }
+}

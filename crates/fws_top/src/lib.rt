@@ -1,0 +1,16 @@
+//! The commands of FWS, and what each of them answers.
+#![tactic(auto)]
+
+mod answer;
+mod form;
+mod lines;
+mod plain;
+mod running;
+mod status;
+#[cfg(test)]
+mod tests;
+mod texts;
+
+pub use running::run;
+pub use status::Status;
+pub use texts::{FILE_LIMIT, HELP, USAGE, VERSION};

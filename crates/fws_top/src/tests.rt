@@ -1,0 +1,233 @@
+use super::*;
+use fws_io::{MemShelf, MemSink, SureShelf, SureSink};
+use fws_num::{Items, Memory, Text};
+use std::alloc::Global;
+use std::test::Fail;
+
+const SITE: &[u8] =
+    b"site 1\ninterface lan 10.0.0.1/24 ipt=eth0 ipfw=em0 pf=em0 ios=GigabitEthernet0/0 nat=inside\ninterface wan 203.0.113.2/30 ipt=eth1 ipfw=em1 pf=em1 ios=GigabitEthernet0/1 nat=outside\nloopback ipt=lo ipfw=lo0 pf=lo0 ios=Loopback0\ndefault wan\nforwarding yes\none_pass 1\n";
+
+const NO_FORWARDING: &[u8] =
+    b"site 1\ninterface lan 10.0.0.1/24 ipt=eth0 ipfw=em0 pf=em0 ios=GigabitEthernet0/0 nat=inside\nloopback ipt=lo ipfw=lo0 pf=lo0 ios=Loopback0\ndefault lan\nforwarding no\none_pass 1\n";
+
+const OPEN: &[u8] =
+    b"*filter\n:INPUT ACCEPT [0:0]\n:FORWARD ACCEPT [0:0]\n:OUTPUT ACCEPT [0:0]\nCOMMIT\n";
+
+const OPEN_TABLE: &[u8] = b"table new 1\n* * * * * * * * : accept\n";
+
+fn words_of(alloc: Global, words: &[&str]) -> Result<Items<Text>, Memory> {
+    let mut all = Items::new(alloc);
+    for word in words {
+        let mut text = Text::new(alloc);
+        text.put(word.as_bytes())?;
+        all.put(text)?;
+    }
+    Ok(all)
+}
+
+fn no_fails(alloc: Global) -> Items<u64> {
+    Items::new(alloc)
+}
+
+fn first_fails(alloc: Global, call: u64) -> Result<Items<u64>, Memory> {
+    let mut fails = Items::new(alloc);
+    fails.put(call)?;
+    Ok(fails)
+}
+
+/// What the words give over the two files, where writing takes at most 7 bytes at a time.
+fn told(alloc: Global, words: &[&str], site: &[u8], file: &[u8]) -> Result<(Status, Text), Memory> {
+    let mut shelf = MemShelf::new(alloc, no_fails(alloc));
+    shelf.hold(b"S", site)?;
+    shelf.hold(b"F", file)?;
+    let mut sink = MemSink::new(alloc, 7, no_fails(alloc));
+    let words = words_of(alloc, words)?;
+    let status = run(alloc, words.as_slice(), &mut shelf, &mut sink);
+    let mut written = Text::new(alloc);
+    written.put(sink.bytes())?;
+    Ok((status, written))
+}
+
+#[test]
+fn tables(rt: HostRuntime) -> Result<(), Fail> {
+    let table: [(&[u8], &[u8], &[u8]); 8] = [
+        (SITE, OPEN, OPEN_TABLE),
+        (SITE, b"", OPEN_TABLE),
+        (SITE, b"*filter\nCOMMIT", OPEN_TABLE),
+        (
+            SITE,
+            b"*filter\n:INPUT DROP [0:0]\n:FORWARD DROP [0:0]\n:OUTPUT DROP [0:0]\n-A FORWARD -d 255.255.255.255/32 -j ACCEPT\nCOMMIT\n",
+            b"table new 3\nhost * * * * * * * : drop\nlo,lan,wan * 0.0.0.0-255.255.255.254 * * * * * : drop\nlo,lan,wan * 255.255.255.255 * * * * * : accept\n",
+        ),
+        (
+            SITE,
+            b"*filter\n:INPUT ACCEPT [0:0]\n:FORWARD DROP [0:0]\n:OUTPUT ACCEPT [0:0]\n-A FORWARD -s 10.0.0.0/24 -d 198.51.100.9/32 -j ACCEPT\nCOMMIT\n",
+            b"table new 5\nhost * * * * * * * : accept\nlo,lan,wan * 0.0.0.0-10.0.0.0,10.0.0.2-126.255.255.255,128.0.0.0-198.51.100.8,198.51.100.10-203.0.113.1,203.0.113.3-255.255.255.255 * * * * * : drop\nlo,lan,wan * 10.0.0.1,127.0.0.0-127.255.255.255,203.0.113.2 * * * * * : accept\nlo,lan,wan * 198.51.100.9 * 0.0.0.0-9.255.255.255,10.0.1.0-255.255.255.255 * * * : drop\nlo,lan,wan * 198.51.100.9 * 10.0.0.0-10.0.0.255 * * * : accept\n",
+        ),
+        (
+            NO_FORWARDING,
+            OPEN,
+            b"table new 3\nhost * * * * * * * : accept\nlo,lan * 0.0.0.0-10.0.0.0,10.0.0.2-126.255.255.255,128.0.0.0-255.255.255.255 * * * * * : drop\nlo,lan * 10.0.0.1,127.0.0.0-127.255.255.255 * * * * * : accept\n",
+        ),
+        (
+            SITE,
+            b"# a comment\n\n*filter\r\n:OUTPUT DROP [12:720]\n\t-A \"OUTPUT\" -s 10.0.0.0/255.0.0.0 -j DROP\n-A OUTPUT -d 1.2.3.4 -j ACCEPT\nCOMMIT\n",
+            b"table new 4\nhost * 0.0.0.0-1.2.3.3,1.2.3.5-255.255.255.255 * * * * * : drop\nhost * 1.2.3.4 * 0.0.0.0-9.255.255.255,11.0.0.0-255.255.255.255 * * * : accept\nhost * 1.2.3.4 * 10.0.0.0-10.255.255.255 * * * : drop\nlo,lan,wan * * * * * * * : accept\n",
+        ),
+        (
+            SITE,
+            b"*filter\n:INPUT ACCEPT\n:FORWARD ACCEPT\n:OUTPUT ACCEPT\n-A OUTPUT -s 10.0.0.0/24 -j DROP\n-A OUTPUT -s 10.0.0.0/8 -j DROP\n-A OUTPUT -s 11.0.0.0/8 -j DROP\nCOMMIT\n",
+            b"table new 3\nhost * * * 0.0.0.0-9.255.255.255,12.0.0.0-255.255.255.255 * * * : accept\nhost * * * 10.0.0.0-11.255.255.255 * * * : drop\nlo,lan,wan * * * * * * * : accept\n",
+        ),
+    ];
+    for (site, file, wanted) in table {
+        let (status, written) = told(
+            rt.alloc(),
+            &["synth", "iptables", "S", "F", "new"],
+            site,
+            file,
+        )?;
+        assert_eq!(rt; status, Status::Ok);
+        assert_eq!(rt; written.as_slice(), wanted);
+    }
+    Ok(())
+}
+
+#[test]
+fn other_forms(rt: HostRuntime) -> Result<(), Fail> {
+    let table: [&[u8]; 22] = [
+        b"*nat\nCOMMIT\n",
+        b"*filter\n",
+        b"*filter\nCOMMIT\n*filter\nCOMMIT\n",
+        b"*filter\nCOMMIT\n:INPUT ACCEPT\n",
+        b":INPUT ACCEPT\n*filter\nCOMMIT\n",
+        b"COMMIT\n",
+        b"*filter extra\nCOMMIT\n",
+        b"*filter\n:INPUT ACCEPT [0:0]\n:INPUT ACCEPT [0:0]\nCOMMIT\n",
+        b"*filter\n:INPUT -\nCOMMIT\n",
+        b"*filter\n:USER - [0:0]\nCOMMIT\n",
+        b"*filter\n:INPUT ACCEPT [0:0\nCOMMIT\n",
+        b"*filter\n:INPUT ACCEPT [0:18446744073709551616]\nCOMMIT\n",
+        b"*filter\n:INPUT ACCEPT [0:0] more\nCOMMIT\n",
+        b"*filter\n-A INPUT -j DROP\nCOMMIT\n",
+        b"*filter\n:INPUT ACCEPT\n-A INPUT -j REJECT\nCOMMIT\n",
+        b"*filter\n:INPUT ACCEPT\n-A INPUT -d 1.2.3.4 -s 1.2.3.4 -j DROP\nCOMMIT\n",
+        b"*filter\n:INPUT ACCEPT\n-A INPUT -s 1.2.3.4 -s 1.2.3.4 -j DROP\nCOMMIT\n",
+        b"*filter\n:INPUT ACCEPT\n-A INPUT -s 1.2.3.4/33 -j DROP\nCOMMIT\n",
+        b"*filter\n:INPUT ACCEPT\n-A INPUT ! -s 1.2.3.4 -j DROP\nCOMMIT\n",
+        b"*filter\n:INPUT ACCEPT\n[0:0] -A INPUT -j DROP\nCOMMIT\n",
+        b"*filter\n:INPUT ACCEPT\n-A INPUT -j DROP more\nCOMMIT\n",
+        b"*filter\n:INPUT ACCEPT\n-A INPUT -j \"DROP\nCOMMIT\n",
+    ];
+    for file in table {
+        let (status, written) = told(
+            rt.alloc(),
+            &["synth", "iptables", "S", "F", "new"],
+            SITE,
+            file,
+        )?;
+        assert_eq!(rt; status, Status::Refused);
+        assert_eq!(rt; written.as_slice(), b"refused F not-built\n".as_slice());
+    }
+    Ok(())
+}
+
+#[test]
+fn command_lines(rt: HostRuntime) -> Result<(), Fail> {
+    let table: [(&[&str], Status, &[u8]); 9] = [
+        (&[], Status::Usage, b"usage: fws synth\n"),
+        (
+            &["synth", "iptables", "S", "F"],
+            Status::Usage,
+            b"usage: fws synth\n",
+        ),
+        (
+            &["synth", "iptables", "S", "F", "est"],
+            Status::Usage,
+            b"usage: fws synth\n",
+        ),
+        (
+            &["synth", "pf", "S", "F", "new"],
+            Status::Usage,
+            b"usage: fws synth\n",
+        ),
+        (
+            &["query", "iptables", "S", "F", "new"],
+            Status::Usage,
+            b"usage: fws synth\n",
+        ),
+        (&["--help", "--help"], Status::Usage, b"usage: fws synth\n"),
+        (&["--version"], Status::Ok, b"fws 0.1.0\n"),
+        (&["--help"], Status::Ok, HELP),
+        (
+            &["synth", "iptables", "F", "S", "new"],
+            Status::Refused,
+            b"refused F line 1 syntax\n",
+        ),
+    ];
+    for (words, wanted, text) in table {
+        let (status, written) = told(rt.alloc(), words, SITE, OPEN)?;
+        assert_eq!(rt; status, wanted);
+        assert_eq!(rt; written.as_slice(), text);
+    }
+    Ok(())
+}
+
+#[test]
+fn faults(rt: HostRuntime) -> Result<(), Fail> {
+    let alloc = rt.alloc();
+    let words = words_of(alloc, &["synth", "iptables", "S", "F", "new"])?;
+    let mut shelf = MemShelf::new(alloc, no_fails(alloc));
+    shelf.hold(b"S", SITE)?;
+    shelf.hold(b"F", OPEN)?;
+
+    let mut failing = MemSink::new(alloc, 10, first_fails(alloc, 2)?);
+    assert_eq!(rt;
+        run(alloc, words.as_slice(), &mut shelf, &mut failing),
+        Status::WriteFault
+    );
+    assert_eq!(rt; failing.bytes(), b"table new ".as_slice());
+
+    let mut first = MemShelf::new(alloc, first_fails(alloc, 1)?);
+    first.hold(b"S", SITE)?;
+    first.hold(b"F", OPEN)?;
+    let mut sink = MemSink::new(alloc, 100, no_fails(alloc));
+    assert_eq!(rt;
+        run(alloc, words.as_slice(), &mut first, &mut sink),
+        Status::ReadFault
+    );
+    assert_eq!(rt; sink.bytes(), b"cannot read S\n".as_slice());
+
+    let mut absent = MemShelf::new(alloc, no_fails(alloc));
+    absent.hold(b"S", SITE)?;
+    let mut sink = MemSink::new(alloc, 100, no_fails(alloc));
+    assert_eq!(rt;
+        run(alloc, words.as_slice(), &mut absent, &mut sink),
+        Status::ReadFault
+    );
+    assert_eq!(rt; sink.bytes(), b"cannot read F\n".as_slice());
+    Ok(())
+}
+
+#[test]
+fn long_files(rt: HostRuntime) -> Result<(), Fail> {
+    let alloc = rt.alloc();
+    let words = words_of(alloc, &["synth", "iptables", "S", "F", "new"])?;
+    let most = vec![in alloc; b'#'; FILE_LIMIT]?;
+    let over = vec![in alloc; b'#'; FILE_LIMIT + 1]?;
+    let mut shelf = SureShelf::new(alloc);
+    shelf.hold(b"S", SITE)?;
+    shelf.hold(b"F", most.as_slice())?;
+    assert_eq!(rt;
+        run(alloc, words.as_slice(), &mut shelf, &mut SureSink::new()),
+        Status::Ok
+    );
+    shelf.hold(b"F", over.as_slice())?;
+    let mut sink = MemSink::new(alloc, 100, no_fails(alloc));
+    assert_eq!(rt;
+        run(alloc, words.as_slice(), &mut shelf, &mut sink),
+        Status::Refused
+    );
+    assert_eq!(rt; sink.bytes(), b"refused F over 4194304 bytes\n".as_slice());
+    Ok(())
+}
