@@ -1,0 +1,20 @@
+#!/usr/bin/env bash
+# Runs the built program over plain filter files of growing length, and prints a line `rules seconds megabytes rows`
+# for each. Exit status 1 where a bound is passed. Build first: ./fws --build
+set -u
+top=$(cd "$(dirname "$0")/.." && pwd)
+program=$top/crates/fws/out/fws
+[ -x "$program" ] || { echo "not built yet: $top/fws --build" >&2; exit 1; }
+work=$(mktemp -d) || exit 1
+trap 'rm -rf "$work"' EXIT
+status=0
+
+measure() { # rules family seconds megabytes
+    python3 "$top/bench/make.py" "$1" "$2" >"$work/file" || exit 1
+    python3 "$top/bench/measure.py" "$1" "$3" "$4" "$program" synth iptables "$top/examples/site.txt" "$work/file" new || status=1
+}
+
+echo 'rules seconds megabytes rows'
+for rules in 50 100 200 400; do measure "$rules" overlapping 5 1024; done
+measure 4000 apart 120 4096
+exit "$status"
