@@ -1,3 +1,4 @@
+pub mod Changing
 pub mod Gathering
 pub mod Growing
 pub mod Joining

@@ -1,6 +1,7 @@
 //! Laws of reduced trees.
 
 ghost use Rattle.fws_tree.specs.Plain.{OneReducedTree, HasValues};
+ghost use Rattle.fws_tree.specs.Rows.{PathsGiveValues};
 
 /// Two reduced trees over the same tops with the same value at each point are equal. The call does
 /// nothing: its contract is the law.
@@ -12,4 +13,10 @@ pub fn one_reduced_tree<L: Drop>()
 /// the law.
 pub fn has_values<L: Drop>()
     ensures { HasValues L }
+{}
+
+/// Where a point lies in just one of the rows, the first leaf is that row's. The call does nothing:
+/// its contract is the law.
+pub fn first_of_paths<L: Drop>()
+    ensures { PathsGiveValues L }
 {}

@@ -3,6 +3,7 @@
 
 mod arena;
 mod build;
+mod change;
 mod join;
 mod laws;
 mod leaf;
@@ -17,7 +18,8 @@ mod tree;
 mod walk;
 
 pub use build::from_rows;
-pub use laws::{has_values, one_reduced_tree};
+pub use change::meet_sides;
+pub use laws::{first_of_paths, has_values, one_reduced_tree};
 pub use leaf::Leaf;
 pub use node::{Kid, Node};
 pub use paths::ranges;

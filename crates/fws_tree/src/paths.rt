@@ -13,7 +13,7 @@ use std::alloc::Global;
 use std::array;
 
 // Twelve sets without a member.
-fn no_sides(alloc: Global) -> [Ivs; 12] {
+pub(crate) fn no_sides(alloc: Global) -> [Ivs; 12] {
     array::from_fn(|_| Ivs::none(alloc))
 }
 
@@ -29,7 +29,7 @@ pub fn ranges(alloc: Global, tops: &[u32; 12]) -> Result<[Ivs; 12], Memory>
 }
 
 // Equal sides.
-fn copy_sides(alloc: Global, sides: &[Ivs; 12]) -> Result<[Ivs; 12], Memory>
+pub(crate) fn copy_sides(alloc: Global, sides: &[Ivs; 12]) -> Result<[Ivs; 12], Memory>
     ensures { IfOk result (λ copies. copies ≡ sides.now) }
 {
     let mut copies = no_sides(alloc);
