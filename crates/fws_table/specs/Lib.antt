@@ -1,1 +1,2 @@
+pub mod QueryText
 pub mod TableText
