@@ -63,7 +63,7 @@ rm -- "$odd"
 check 'an odd name that is absent' "cannot read $odd"$'\nstatus 4' "$(told "$program" synth iptables S "$odd" new)"
 
 check 'an argument that is no UTF-8' $'\nstatus 2' "$(told "$program" synth iptables S $'\xff' new)"
-check 'no words' $'usage: fws synth\nstatus 2' "$(told "$program")"
+check 'no words' $'usage: fws synth|query\nstatus 2' "$(told "$program")"
 check 'the version' $'fws 0.1.0\nstatus 0' "$(told "$program" --version)"
 
 echo "outside: $right passed, $wrong failed"

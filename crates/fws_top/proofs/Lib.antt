@@ -1,1 +1,3 @@
+mod AskSets
+mod Asking
 mod Rows

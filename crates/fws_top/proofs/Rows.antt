@@ -57,7 +57,7 @@ whole_side_has (top ∷ tops) [] k w lt = absurd w
 whole_side_has (top ∷ tops) (x ∷ p) zero w lt = whole_has top x w.0
 whole_side_has (top ∷ tops) (x ∷ p) (suc k) w lt = whole_side_has tops p k w.1 (omega arith)
 
-within_at : (tops p : List ℕ) (k : ℕ) → IsWithin tops p → k < length tops → get_or p k 0 ≤ get_or tops k 0
+pub within_at : (tops p : List ℕ) (k : ℕ) → IsWithin tops p → k < length tops → get_or p k 0 ≤ get_or tops k 0
 within_at [] p k w lt = absurd (omega arith)
 within_at (top ∷ tops) [] k w lt = absurd w
 within_at (top ∷ tops) (x ∷ p) zero w lt = w.0

@@ -1,5 +1,5 @@
 -- Which status and which text are due for the words of a command line and the files' bytes.
-use Rattle.std.specs.Prelude.{◌≡◌, ℕ, ◌≤◌, Option, Some, List, ◌⊎◌, length, take, nat_lt, MatchBool, MatchOption, MatchResult, IsOk}
+use Rattle.std.specs.Prelude.{◌≡◌, ℕ, ◌≤◌, true, Option, Some, None, List, ◌⊎◌, length, take, nat_lt, if◌then◌else◌, MatchBool, MatchOption, MatchResult, IsOk}
 use Rattle.fws_net.specs.declared.outcome.Outcome.{Outcome}
 use Rattle.fws_net.specs.declared.packet.State.TheVariants.{Fresh}
 use Rattle.fws_net.specs.declared.site.Site.{Site}
@@ -7,11 +7,13 @@ use Rattle.fws_net.specs.Points.{tops_of, packet_of}
 use Rattle.fws_net.specs.SiteText.{site_of}
 use Rattle.fws_tree.specs.Plain.{Plain, value, IsWithin, IsReduced}
 use Rattle.fws_table.specs.TableText.{table_text}
+use Rattle.fws_table.specs.QueryText.{asked_leaf, query_text}
+use Rattle.fws_top.specs.Asks.{asks_have, asked_verdict, are_known}
 use Rattle.fws_top.specs.declared.plain.filter.PlainFilter.{PlainFilter}
 use Rattle.fws_top.specs.declared.status.Status.{Status}
 use Rattle.fws_top.specs.declared.status.Status.TheVariants as status
 use Rattle.fws_top.specs.declared.texts.TheConstants.{FILE_LIMIT, HELP, USAGE, VERSION}
-use Rattle.fws_top.specs.Forms.{Command, unknown, help, version, synth, command_of}
+use Rattle.fws_top.specs.Forms.{Command, unknown, help, version, synth, query, command_of}
 use Rattle.fws_io.specs.Outside.{Rose, with_more}
 use Rattle.fws_top.specs.Lines.{cannot_read_line, too_long_line, not_built_line, site_refused_line}
 use Rattle.fws_top.specs.PlainText.{plain_of}
@@ -28,6 +30,17 @@ pub record IsNewTable (filter : PlainFilter) (site : Site) (t : List ℕ) : Type
   pub walked : (p : List ℕ) → IsWithin (tops_of site) p → value tree p ≡ Some (walk_plain filter site (packet_of p))
   pub spelled : t ≡ table_text site Fresh tree
 
+-- what the words of a query leave of an outcome: nothing where they don't ask for the packet or for the verdict
+abbrev pub asked_part : Site → List (List ℕ) → List ℕ → Outcome → Option Outcome
+asked_part site asks p outcome = if asks_have site asks p then asked_leaf (asked_verdict asks) outcome else None
+
+-- the paths that hold something of the reduced tree whose value at each packet is what the words leave of the walk
+pub record IsAskedTable (filter : PlainFilter) (site : Site) (asks : List (List ℕ)) (t : List ℕ) : Type 0 where
+  pub tree : Plain (Option Outcome)
+  pub reduced : IsReduced (tops_of site) tree
+  pub asked : (p : List ℕ) → IsWithin (tops_of site) p → value tree p ≡ Some (asked_part site asks p (walk_plain filter site (packet_of p)))
+  pub spelled : t ≡ query_text site Fresh tree
+
 -- a file that is too long is refused; else its bytes decide
 abbrev pub DueFile : List ℕ → List ℕ → (Status → List ℕ → Type 0) → Status → List ℕ → Type 0
 DueFile name bytes Rest s t = MatchBool (nat_lt FILE_LIMIT (length bytes)) (Says status.Refused (too_long_line name) s t) (Rest s t)
@@ -42,6 +55,20 @@ abbrev pub DueSite : List ℕ → List ℕ → (Site → Status → List ℕ →
 DueSite name bytes Rest s t = MatchResult (site_of bytes) (λ site. Rest site s t)
     (λ refusal. Says status.Refused (site_refused_line name refusal.line refusal.cause) s t)
 
+-- a configuration that isn't of the plain form is refused; else the asked part of its table is written
+abbrev pub DueQuery : List ℕ → List ℕ → Site → List (List ℕ) → Status → List ℕ → Type 0
+DueQuery file bytes site asks s t = MatchOption (plain_of bytes) (Says status.Refused (not_built_line file) s t)
+    (λ filter. (s ≡ status.Ok) × IsAskedTable filter site asks t)
+
+-- an entry that the site lacks is no form of the command line; else the configuration decides
+abbrev pub DueAsks : Site → List (List ℕ) → (Status → List ℕ → Type 0) → Status → List ℕ → Type 0
+DueAsks site asks Rest s t = MatchBool (are_known site asks) (Rest s t) (Says status.Usage USAGE.now s t)
+
+-- the site is judged first, then the names of its entries, then the configuration
+abbrev pub DueSiteQuery : List ℕ → List ℕ → List (List ℕ) → (List ℕ → List ℕ) → Status → List ℕ → Type 0
+DueSiteQuery site file asks held s t = DueFile site (held site) (DueSite site (held site)
+    (λ value s t. DueAsks value asks (DueFile file (held file) (DueQuery file (held file) value asks)) s t)) s t
+
 -- the site is judged first, then the configuration
 abbrev pub DueSynth : List ℕ → List ℕ → (List ℕ → List ℕ) → Status → List ℕ → Type 0
 DueSynth site file held s t = DueFile site (held site) (DueSite site (held site)
@@ -53,6 +80,7 @@ DueCommand unknown held s t = Says status.Usage USAGE.now s t
 DueCommand help held s t = Says status.Ok HELP.now s t
 DueCommand version held s t = Says status.Ok VERSION.now s t
 DueCommand (synth site file) held s t = DueSynth site file held s t
+DueCommand (query site file asks) held s t = DueSiteQuery site file asks held s t
 
 -- what is due for the words
 abbrev pub Due : List (List ℕ) → (List ℕ → List ℕ) → Status → List ℕ → Type 0
@@ -61,15 +89,21 @@ Due words held s t = DueCommand (command_of words) held s t
 -- a name that the command reads
 abbrev pub IsRead : Command → List ℕ → Type 0
 IsRead (synth site file) name = (name ≡ site) ⊎ (name ≡ file)
+IsRead (query site file asks) name = (name ≡ site) ⊎ (name ≡ file)
 IsRead _ name = ⊥
 
 -- the site's bytes were accepted, so that the configuration is read next
 abbrev pub SiteIsGood : List ℕ → Type 0
 SiteIsGood bytes = (length bytes ≤ FILE_LIMIT) × IsOk (site_of bytes)
 
+-- and each entry that the words of a query name is one of the site
+abbrev pub AsksAreGood : List ℕ → List (List ℕ) → Type 0
+AsksAreGood bytes asks = SiteIsGood bytes × MatchResult (site_of bytes) (λ site. are_known site asks ≡ true) (λ refusal. ⊥)
+
 -- a name whose turn comes: the site's, or the configuration's where the site was accepted
 abbrev pub IsReadInTurn : Command → (List ℕ → List ℕ) → List ℕ → Type 0
 IsReadInTurn (synth site file) held name = (name ≡ site) ⊎ ((name ≡ file) × SiteIsGood (held site))
+IsReadInTurn (query site file asks) held name = (name ≡ site) ⊎ ((name ≡ file) × AsksAreGood (held site) asks)
 IsReadInTurn _ held name = ⊥
 
 -- a name that the command reads had a fault in this call when its turn came, and the text says so
@@ -83,6 +117,7 @@ pub record IsReadFault (command : Command) (told : Option (List ℕ → List ℕ
 -- what each name holds, where the command reads any
 abbrev pub IsTold : Command → Option (List ℕ → List ℕ) → (List ℕ → List ℕ) → Type 0
 IsTold (synth site file) told held = told ≡ Some held
+IsTold (query site file asks) told held = told ≡ Some held
 IsTold _ told held = Unit {0}
 
 -- the statuses with which a command can end where no fault came
@@ -91,6 +126,7 @@ CanEnd unknown s = s ≡ status.Usage
 CanEnd help s = s ≡ status.Ok
 CanEnd version s = s ≡ status.Ok
 CanEnd (synth site file) s = (s ≡ status.Ok) ⊎ (s ≡ status.Refused)
+CanEnd (query site file asks) s = (s ≡ status.Ok) ⊎ (s ≡ status.Usage) ⊎ (s ≡ status.Refused)
 
 -- no fault was counted, and status and text are due for what the names hold
 pub record IsDue (command : Command) (told : Option (List ℕ → List ℕ)) (old new : List ℕ → ℕ) (s : Status) (t : List ℕ) : Type 0 where

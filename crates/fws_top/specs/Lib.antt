@@ -1,3 +1,4 @@
+pub mod Asks
 pub mod Due
 pub mod Forms
 pub mod Lines

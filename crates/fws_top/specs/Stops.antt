@@ -1,12 +1,14 @@
 -- What the steps of a command answer in place of a value.
-use Rattle.std.specs.Prelude.{◌≡◌, ℕ, ◌<◌, Option, Some, None, Err, List, length, ◌⊎◌}
+use Rattle.std.specs.Prelude.{◌≡◌, ℕ, ◌<◌, false, Option, Some, None, Err, List, length, ◌⊎◌}
 use Rattle.fws_io.specs.Outside.{Rose}
 use Rattle.fws_net.specs.SiteText.{Refusal, site_of}
+use Rattle.fws_net.specs.declared.site.Site.{Site}
+use Rattle.fws_top.specs.Asks.{are_known}
 use Rattle.fws_top.specs.declared.answer.Answer.{Answer}
 use Rattle.fws_top.specs.declared.answer.Stop.{Stop}
 use Rattle.fws_top.specs.declared.answer.Stop.TheVariants.{Due, Memory}
 use Rattle.fws_top.specs.declared.status.Status.TheVariants as status
-use Rattle.fws_top.specs.declared.texts.TheConstants.{FILE_LIMIT}
+use Rattle.fws_top.specs.declared.texts.TheConstants.{FILE_LIMIT, USAGE}
 use Rattle.fws_top.specs.Due.{IsAnswered}
 use Rattle.fws_top.specs.Forms.{Command}
 use Rattle.fws_top.specs.Lines.{cannot_read_line, too_long_line, not_built_line, site_refused_line}
@@ -44,6 +46,11 @@ SiteStopped name bytes Memory = Unit {0}
 abbrev pub PlainStopped : List ℕ → List ℕ → Stop → Type 0
 PlainStopped name bytes (Due a) = (plain_of bytes ≡ None) × Refuses (not_built_line name) a
 PlainStopped name bytes Memory = Unit {0}
+
+-- the words name an entry that the site lacks
+abbrev pub AsksStopped : Site → List (List ℕ) → Stop → Type 0
+AsksStopped site asks (Due a) = (are_known site asks ≡ false) × (a.status ≡ status.Usage) × (a.text ≡ USAGE.now)
+AsksStopped site asks Memory = Unit {0}
 
 -- the command is answered
 abbrev pub CommandStopped : Command → Option (List ℕ → List ℕ) → (List ℕ → ℕ) → (List ℕ → ℕ) → Stop → Type 0

@@ -1,16 +1,18 @@
 //! What a command answers, before anything is written.
 
-ghost use Rattle.std.specs.Prelude.{◌≡◌, ℕ, ◌≤◌, List, length, IfOk, IfErr, OnOk};
-ghost use Rattle.fws_top.specs.Stops.{TakeStopped, SiteStopped, PlainStopped, CommandStopped};
+ghost use Rattle.std.specs.Prelude.{◌≡◌, ℕ, ◌≤◌, List, Option, length, true, IfOk, IfErr, OnOk};
+ghost use Rattle.fws_top.specs.Stops.{TakeStopped, SiteStopped, PlainStopped, AsksStopped, CommandStopped};
 ghost use Rattle.fws_net.specs.SiteText.{site_of};
 ghost use Rattle.fws_net.specs.Routes.{IsSound};
 ghost use Rattle.fws_top.specs.Due.{IsDue, IsAnswered};
-ghost use Rattle.fws_top.specs.Forms.{command_of, synth};
+ghost use Rattle.fws_top.specs.Asks.{are_asks, are_known};
+ghost use Rattle.fws_top.specs.Forms.{Command, command_of, query, synth};
 ghost use Rattle.fws_top.specs.PlainText.{plain_of};
 
+use crate::ask::are_known;
 use crate::form::{Form, read_form};
 use crate::lines::{cannot_read_line, not_built_line, site_refused_line, too_long_line};
-use crate::plain::{PlainFault, PlainFilter, new_table, read_plain};
+use crate::plain::{PlainFault, PlainFilter, asked_table, new_table, read_plain};
 use crate::status::Status;
 use crate::texts::{FILE_LIMIT, HELP, USAGE, VERSION};
 use fws_io::{Shelf, ShelfAnswer};
@@ -114,6 +116,39 @@ fn synth<S: Shelf>(
     Ok(new_table(alloc, &site, &filter)?)
 }
 
+/// A site that lacks an entry that the words name makes them no command.
+fn know_entries(alloc: Global, site: &Site, asks: &[Text]) -> Result<(), Stop>
+    ensures known { OnOk result (are_known site.now asks.now ≡ true) }
+    ensures stopped { IfErr result (AsksStopped site.now asks.now) }
+{
+    if are_known(site, asks) {
+        Ok(())
+    } else {
+        Err(Stop::Due(said(alloc, Status::Usage, USAGE)?))
+    }
+}
+
+/// The part of the table of new packets for which the words ask.
+fn query<S: Shelf>(
+    alloc: Global,
+    shelf: &mut S,
+    site_name: &[u8],
+    file_name: &[u8],
+    asks: &[Text],
+) -> Result<Text, Stop>
+    requires { are_asks asks.now ≡ true }
+    ensures same { S.told shelf.new ≡ S.told shelf.old }
+    ensures due { IfOk result (IsDue (query site_name.now file_name.now asks.now) (S.told shelf.old) (S.faults shelf.old) (S.faults shelf.new) Status.Ok) }
+    ensures stopped { IfErr result (CommandStopped (query site_name.now file_name.now asks.now) (S.told shelf.old) (S.faults shelf.old) (S.faults shelf.new)) }
+{
+    let site_bytes = take(alloc, shelf, site_name)?;
+    let site = take_site(alloc, site_name, site_bytes.as_slice())?;
+    know_entries(alloc, &site, asks)?;
+    let file_bytes = take(alloc, shelf, file_name)?;
+    let filter = take_plain(alloc, file_name, file_bytes.as_slice())?;
+    Ok(asked_table(alloc, &site, &filter, asks)?)
+}
+
 /// The text of a status that needs no file.
 fn said(alloc: Global, status: Status, text: &[u8]) -> Result<Answer, Memory>
     ensures { IfOk result (λ answer. (answer.status ≡ status) × (answer.text ≡ text.now)) }
@@ -121,6 +156,21 @@ fn said(alloc: Global, status: Status, text: &[u8]) -> Result<Answer, Memory>
     let mut out = Text::new(alloc);
     out.put(text)?;
     Ok(Answer { status, text: out })
+}
+
+/// The text of a command that went well, or the answer in its place.
+fn ended(text: Result<Text, Stop>) -> Result<Answer, Memory>
+    ensures { (command : Command) (told : Option (List ℕ → List ℕ)) (old new : List ℕ → ℕ) → IfOk text (IsDue command told old new Status.Ok)
+        → IfErr text (CommandStopped command told old new) → IfOk result (λ answer. IsAnswered command told old new answer.status answer.text) }
+{
+    match text {
+        Ok(text) => Ok(Answer {
+            status: Status::Ok,
+            text,
+        }),
+        Err(Stop::Due(answer)) => Ok(answer),
+        Err(Stop::Memory) => Err(Memory),
+    }
 }
 
 /// The answer to the words.
@@ -136,13 +186,7 @@ pub(crate) fn answer_to<S: Shelf>(
         Form::Unknown => said(alloc, Status::Usage, USAGE),
         Form::Help => said(alloc, Status::Ok, HELP),
         Form::Version => said(alloc, Status::Ok, VERSION),
-        Form::Synth(site, file) => match synth(alloc, shelf, site, file) {
-            Ok(text) => Ok(Answer {
-                status: Status::Ok,
-                text,
-            }),
-            Err(Stop::Due(answer)) => Ok(answer),
-            Err(Stop::Memory) => Err(Memory),
-        },
+        Form::Synth(site, file) => ended(synth(alloc, shelf, site, file)),
+        Form::Query(site, file, asks) => ended(query(alloc, shelf, site, file, asks)),
     }
 }

@@ -2,8 +2,9 @@
 
 ghost use Rattle.std.specs.Prelude.{◌≡◌};
 ghost use Rattle.std.specs.Str.{bytes_eq};
-ghost use Rattle.fws_top.specs.Forms.{command_of, single_command, asked};
+ghost use Rattle.fws_top.specs.Forms.{command_of, single_command, state_command, asked, IsSpelled};
 
+use crate::ask::are_asks;
 use fws_num::Text;
 
 /// What the words of a command line ask for.
@@ -17,6 +18,8 @@ pub(crate) enum Form<'a> {
     Version,
     /// The table of new packets, from the names of a site file and of a configuration.
     Synth(&'a [u8], &'a [u8]),
+    /// The same table of the packets that further words ask for.
+    Query(&'a [u8], &'a [u8], &'a [Text]),
 }
 
 fn is(word: &Text, text: &[u8]) -> bool
@@ -26,7 +29,8 @@ fn is(word: &Text, text: &[u8]) -> bool
 }
 
 fn read_single(word: &Text) -> Form<'_>
-    ensures { asked result ≡ single_command word.now }
+    ensures asked { asked result ≡ single_command word.now }
+    ensures spelled { IsSpelled result }
 {
     if is(word, b"--help") {
         Form::Help
@@ -37,15 +41,34 @@ fn read_single(word: &Text) -> Form<'_>
     }
 }
 
+/// What a command asks of a site and a configuration.
+fn read_state<'a>(command: &Text, site: &'a [u8], file: &'a [u8], asks: &'a [Text]) -> Form<'a>
+    ensures asked { asked result ≡ state_command command.now site.now file.now asks.now }
+    ensures spelled { IsSpelled result }
+{
+    if is(command, b"query") {
+        if are_asks(asks) {
+            Form::Query(site, file, asks)
+        } else {
+            Form::Unknown
+        }
+    } else if is(command, b"synth") && asks.is_empty() {
+        Form::Synth(site, file)
+    } else {
+        Form::Unknown
+    }
+}
+
 /// What the words ask for.
 pub(crate) fn read_form(words: &[Text]) -> Form<'_>
-    ensures { asked result ≡ command_of words.now }
+    ensures asked { asked result ≡ command_of words.now }
+    ensures spelled { IsSpelled result }
 {
     match words {
         [word] => read_single(word),
-        [command, lang, site, file, state] => {
-            if is(command, b"synth") && is(lang, b"iptables") && is(state, b"new") {
-                Form::Synth(site.as_slice(), file.as_slice())
+        [command, lang, site, file, state, asks @ ..] => {
+            if is(lang, b"iptables") && is(state, b"new") {
+                read_state(command, site.as_slice(), file.as_slice(), asks)
             } else {
                 Form::Unknown
             }

@@ -2,6 +2,8 @@
 #![tactic(auto)]
 
 mod answer;
+mod ask;
+mod ask_set;
 mod form;
 mod lines;
 mod plain;

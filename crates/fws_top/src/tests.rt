@@ -13,6 +13,9 @@ const NO_FORWARDING: &[u8] =
 const OPEN: &[u8] =
     b"*filter\n:INPUT ACCEPT [0:0]\n:FORWARD ACCEPT [0:0]\n:OUTPUT ACCEPT [0:0]\nCOMMIT\n";
 
+const ONE_HOST: &[u8] =
+    b"*filter\n:INPUT ACCEPT [0:0]\n:FORWARD DROP [0:0]\n:OUTPUT ACCEPT [0:0]\n-A FORWARD -s 10.0.0.0/24 -d 198.51.100.9/32 -j ACCEPT\nCOMMIT\n";
+
 const OPEN_TABLE: &[u8] = b"table new 1\n* * * * * * * * : accept\n";
 
 fn words_of(alloc: Global, words: &[&str]) -> Result<Items<Text>, Memory> {
@@ -132,31 +135,186 @@ fn other_forms(rt: HostRuntime) -> Result<(), Fail> {
     Ok(())
 }
 
+/// What the words of a query give over the site and a filter that forwards to one host alone.
+fn asked(alloc: Global, asks: &[&str]) -> Result<(Status, Text), Memory> {
+    let mut shelf = MemShelf::new(alloc, no_fails(alloc));
+    shelf.hold(b"S", SITE)?;
+    shelf.hold(b"F", ONE_HOST)?;
+    let mut sink = MemSink::new(alloc, 4096, no_fails(alloc));
+    let mut words = words_of(alloc, &["query", "iptables", "S", "F", "new"])?;
+    for ask in asks {
+        let mut word = Text::new(alloc);
+        word.put(ask.as_bytes())?;
+        words.put(word)?;
+    }
+    let status = run(alloc, words.as_slice(), &mut shelf, &mut sink);
+    let mut written = Text::new(alloc);
+    written.put(sink.bytes())?;
+    Ok((status, written))
+}
+
+#[test]
+fn queries(rt: HostRuntime) -> Result<(), Fail> {
+    let table: [(&[&str], &[u8]); 8] = [
+        (
+            &["dst=198.51.100.0-198.51.100.255", "verdict=accept"],
+            b"query new 2\nhost * 198.51.100.0-198.51.100.255 * * * * * : accept\nlo,lan,wan * 198.51.100.9 * 10.0.0.0-10.0.0.255 * * * : accept\n",
+        ),
+        (
+            &[
+                "entry=wan",
+                "dst=198.51.100.9",
+                "src=9.0.0.0",
+                "verdict=accept",
+            ],
+            b"query new 0\n",
+        ),
+        (
+            &["verdict=drop", "dst=198.51.100.9", "entry=wan,lan"],
+            b"query new 1\nlan,wan * 198.51.100.9 * 0.0.0.0-9.255.255.255,10.0.1.0-255.255.255.255 * * * : drop\n",
+        ),
+        (
+            &[
+                "dst=198.51.100.9",
+                "src=10.0.0.0-10.0.0.255,1.2.3.4",
+                "entry=lo",
+                "proto=17,6,6-17",
+                "dport=0022",
+            ],
+            b"query new 2\nlo 6-17 198.51.100.9 22 1.2.3.4 * * * : drop\nlo 6-17 198.51.100.9 22 10.0.0.0-10.0.0.255 * * * : accept\n",
+        ),
+        (
+            &["entry=host", "flags=*", "icmp=0-255", "sport=65535"],
+            b"query new 1\nhost * * * * 65535 * * : accept\n",
+        ),
+        (
+            &["entry=*", "dst=10.0.0.1", "verdict=drop"],
+            b"query new 0\n",
+        ),
+        (
+            &["dst=10.0.0.1"],
+            b"query new 1\n* * 10.0.0.1 * * * * * : accept\n",
+        ),
+        (
+            &["flags=63", "proto=6", "dst=0.0.0.0", "entry=wan"],
+            b"query new 1\nwan 6 0.0.0.0 * * * 63 * : drop\n",
+        ),
+    ];
+    for (asks, wanted) in table {
+        let (status, written) = asked(rt.alloc(), asks)?;
+        assert_eq!(rt; status, Status::Ok);
+        assert_eq!(rt; written.as_slice(), wanted);
+    }
+    Ok(())
+}
+
+#[test]
+fn bad_queries(rt: HostRuntime) -> Result<(), Fail> {
+    let table: [&[&str]; 22] = [
+        &["entry=dmz"],
+        &["entry=lan,dmz"],
+        &["entry="],
+        &["entry=lan,"],
+        &["dst"],
+        &["dst="],
+        &["dst=1.2.3"],
+        &["dst=1.2.3.4-1.2.3.3"],
+        &["dst=1.2.3.4,"],
+        &["dst=1.2.3.4/24"],
+        &["dst=1.2.3.4", "src=1.2.3.4", "dst=1.2.3.4"],
+        &["proto=256"],
+        &["proto=tcp"],
+        &["dport=65536"],
+        &["sport=1-2-3"],
+        &["flags=64"],
+        &["icmp=-1"],
+        &["verdict=maybe"],
+        &["verdict=accept", "verdict=accept"],
+        &["rdst=1.2.3.4"],
+        &["=1"],
+        &["*"],
+    ];
+    for asks in table {
+        let (status, written) = asked(rt.alloc(), asks)?;
+        assert_eq!(rt; status, Status::Usage);
+        assert_eq!(rt; written.as_slice(), b"usage: fws synth|query\n".as_slice());
+    }
+    Ok(())
+}
+
+#[test]
+fn order_of_faults(rt: HostRuntime) -> Result<(), Fail> {
+    let table: [(&[&str], &[u8], Status, &[u8]); 5] = [
+        // bad words before any file is read
+        (
+            &["query", "iptables", "T", "G", "new", "dst=x"],
+            SITE,
+            Status::Usage,
+            b"usage: fws synth|query\n",
+        ),
+        // the site before its entries, and these before the configuration
+        (
+            &["query", "iptables", "T", "G", "new", "entry=dmz"],
+            SITE,
+            Status::ReadFault,
+            b"cannot read T\n",
+        ),
+        (
+            &["query", "iptables", "S", "G", "new", "entry=dmz"],
+            b"site 2\n",
+            Status::Refused,
+            b"refused S line 1 syntax\n",
+        ),
+        (
+            &["query", "iptables", "S", "G", "new", "entry=dmz"],
+            SITE,
+            Status::Usage,
+            b"usage: fws synth|query\n",
+        ),
+        (
+            &["query", "iptables", "S", "G", "new", "entry=lan"],
+            SITE,
+            Status::ReadFault,
+            b"cannot read G\n",
+        ),
+    ];
+    for (words, site, wanted, text) in table {
+        let (status, written) = told(rt.alloc(), words, site, OPEN)?;
+        assert_eq!(rt; status, wanted);
+        assert_eq!(rt; written.as_slice(), text);
+    }
+    Ok(())
+}
+
 #[test]
 fn command_lines(rt: HostRuntime) -> Result<(), Fail> {
     let table: [(&[&str], Status, &[u8]); 9] = [
-        (&[], Status::Usage, b"usage: fws synth\n"),
+        (&[], Status::Usage, b"usage: fws synth|query\n"),
         (
             &["synth", "iptables", "S", "F"],
             Status::Usage,
-            b"usage: fws synth\n",
+            b"usage: fws synth|query\n",
         ),
         (
             &["synth", "iptables", "S", "F", "est"],
             Status::Usage,
-            b"usage: fws synth\n",
+            b"usage: fws synth|query\n",
         ),
         (
             &["synth", "pf", "S", "F", "new"],
             Status::Usage,
-            b"usage: fws synth\n",
+            b"usage: fws synth|query\n",
         ),
         (
-            &["query", "iptables", "S", "F", "new"],
+            &["synth", "iptables", "S", "F", "new", "dst=1.2.3.4"],
             Status::Usage,
-            b"usage: fws synth\n",
+            b"usage: fws synth|query\n",
         ),
-        (&["--help", "--help"], Status::Usage, b"usage: fws synth\n"),
+        (
+            &["--help", "--help"],
+            Status::Usage,
+            b"usage: fws synth|query\n",
+        ),
         (&["--version"], Status::Ok, b"fws 0.1.0\n"),
         (&["--help"], Status::Ok, HELP),
         (

@@ -9,4 +9,4 @@ mod table;
 
 pub(crate) use filter::PlainFilter;
 pub(crate) use reader::{PlainFault, read_plain};
-pub(crate) use table::new_table;
+pub(crate) use table::{asked_table, new_table};
