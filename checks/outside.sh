@@ -1,6 +1,7 @@
 #!/usr/bin/env bash
 # Tries the built program on the outside as it is: full devices, closed and open pipes, folders, endless files and
-# odd names. Prints a line for each try that goes wrong, and last how many went right.
+# odd names; and that a query for everything lists the rows of the table. Prints a line for each try that goes wrong, and
+# last how many went right.
 set -u
 top=$(cd "$(dirname "$0")/.." && pwd)
 program=$top/crates/fws/out/fws
@@ -64,6 +65,14 @@ check 'an odd name that is absent' "cannot read $odd"$'\nstatus 4' "$(told "$pro
 
 check 'an argument that is no UTF-8' $'\nstatus 2' "$(told "$program" synth iptables S $'\xff' new)"
 check 'no words' $'usage: fws synth|query\nstatus 2' "$(told "$program")"
+
+for rules in "$top"/examples/*.rules; do
+    wanted=$("$program" synth iptables S "$rules" new | sed '1s/^table/query/')$'\nstatus 0'
+    check "a query without words of ${rules##*/}" "$wanted" "$(told "$program" query iptables S "$rules" new)"
+    check "a query for everything of ${rules##*/}" "$wanted" \
+        "$(told "$program" query iptables S "$rules" new 'entry=*' dst=0.0.0.0-255.255.255.255)"
+done
+
 check 'the version' $'fws 0.1.0\nstatus 0' "$(told "$program" --version)"
 
 echo "outside: $right passed, $wrong failed"
