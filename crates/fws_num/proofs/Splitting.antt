@@ -5,9 +5,11 @@ use Rattle.std.specs.Option.{option_map}
 use Rattle.std.specs.Str.Lines.{strip_carriage_return}
 use Rattle.fws_num.specs.Numbers.{split_once}
 use Rattle.fws_num.specs.declared.lines.Line.{Line}
+use Rattle.fws_num.specs.declared.comments.Comments.{Comments}
 use Rattle.fws_num.specs.declared.word.Word.{Word}
+use Rattle.fws_num.specs.Comments.{uncommented}
 use Rattle.fws_num.specs.Words.{words_of}
-use Rattle.fws_num.specs.Lines.{is_hash_comment, line_of, lines_from, lines_of, last_line, numbered, read_line}
+use Rattle.fws_num.specs.Lines.{is_indented, line_of, lines_from, lines_of, last_line, numbered, read_line}
 
 -- the lines that a first part and the text behind it make
 abbrev pub lines_at : List ℕ → List ℕ → Option (List ℕ × List ℕ) → List (List ℕ)
@@ -53,24 +55,27 @@ pub lines_of-last : (text : List ℕ) → split_once 10 text ≡ None → lines_
 lines_of-last text h = lines_from-split [] text ∙ ap (lines_at [] text) h
 
 -- a line that was read, and those that are left
-pub line_read : (lines new all : List Line) (n m : ℕ) (line : List ℕ) (left behind : List (List ℕ)) → left ≡ line ∷ behind → new ≡ lines ++ read_line n line → m ≡ n + 1
-    → lines ++ numbered n left ≡ all → new ++ numbered m behind ≡ all
-line_read lines new all n m line left behind e f g h =
-    rw (f, g, add-one) (append_assoc lines (read_line n line) (numbered (suc n) behind) ∙ rw e at h)
+pub line_read : (kind : Comments) (lines new all : List Line) (n m : ℕ) (line : List ℕ) (left behind : List (List ℕ)) → left ≡ line ∷ behind → new ≡ lines ++ read_line kind n line → m ≡ n + 1
+    → lines ++ numbered kind n left ≡ all → new ++ numbered kind m behind ≡ all
+line_read kind lines new all n m line left behind e f g h =
+    rw (f, g, add-one) (append_assoc lines (read_line kind n line) (numbered kind (suc n) behind) ∙ rw e at h)
 
 -- the last line was read
-pub lines_ended : (lines new : List Line) (n past : ℕ) (rest text : List ℕ) → split_once 10 rest ≡ None → new ≡ lines ++ numbered n (last_line rest) → past ≡ n + length (last_line rest)
-    → lines ++ numbered n (lines_of rest) ≡ numbered 1 (lines_of text) → n + length (lines_of rest) ≡ 1 + length (lines_of text)
-    → (new ≡ numbered 1 (lines_of text)) × (past ≡ suc (length (lines_of text)))
-lines_ended lines new n past rest text e f g h k =
+pub lines_ended : (kind : Comments) (lines new : List Line) (n past : ℕ) (rest text : List ℕ) → split_once 10 rest ≡ None → new ≡ lines ++ numbered kind n (last_line rest) → past ≡ n + length (last_line rest)
+    → lines ++ numbered kind n (lines_of rest) ≡ numbered kind 1 (lines_of text) → n + length (lines_of rest) ≡ 1 + length (lines_of text)
+    → (new ≡ numbered kind 1 (lines_of text)) × (past ≡ suc (length (lines_of text)))
+lines_ended kind lines new n past rest text e f g h k =
     let left = lines_of-last rest e in
     (f ∙ rw left at h, omega (arith, ap length left))
 
-pub line_of_some : (n : ℕ) (ws : List Word) → 0 < length ws → line_of n ws ≡ record { number = n; words = ws } ∷ []
-line_of_some n [] h = absurd (omega arith)
-line_of_some n (w ∷ ws) h = refl
+pub line_of_some : (n : ℕ) (indented : Bool) (ws : List Word) → 0 < length ws
+    → line_of n indented ws ≡ record { number = n; indented = indented; words = ws } ∷ []
+line_of_some n indented [] h = absurd (omega arith)
+line_of_some n indented (w ∷ ws) h = refl
 
--- a line is put that is no comment and has words
-pub line_put : (lines new : List Line) (n : ℕ) (bytes : List ℕ) (ws : List Word) → is_hash_comment bytes ≡ false → ws ≡ words_of n bytes → 0 < length ws
-    → new ≡ lines ++ record { number = n; words = ws } ∷ [] → new ≡ lines ++ read_line n bytes
-line_put lines new n bytes ws h e k f = rw h (f ∙ ap (λ l. lines ++ l) (sym (line_of_some n ws k) ∙ ap (line_of n) e))
+-- a line is put that has words outside its comment
+pub line_put : (kind : Comments) (lines new : List Line) (n : ℕ) (indented : Bool) (bytes : List ℕ) (ws : List Word) → indented ≡ is_indented bytes
+    → ws ≡ words_of n (uncommented kind bytes) → 0 < length ws
+    → new ≡ lines ++ record { number = n; indented = indented; words = ws } ∷ [] → new ≡ lines ++ read_line kind n bytes
+line_put kind lines new n indented bytes ws h e k f =
+    f ∙ ap (λ l. lines ++ l) (sym (line_of_some n indented ws k) ∙ ap (line_of n indented) e ∙ ap (λ b. line_of n b (words_of n (uncommented kind bytes))) h)

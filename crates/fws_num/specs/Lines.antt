@@ -4,6 +4,8 @@ use Rattle.std.specs.Str.Lines.{strip_carriage_return}
 use Rattle.fws_num.specs.declared.lines.Line.{Line}
 use Rattle.fws_num.specs.declared.lines.Lines.{Lines}
 use Rattle.fws_num.specs.declared.word.Word.{Word}
+use Rattle.fws_num.specs.declared.comments.Comments.{Comments}
+use Rattle.fws_num.specs.Comments.{uncommented}
 use Rattle.fws_num.specs.Words.{is_blank, words_of}
 
 -- what is left behind the last line feed is a line, unless it is empty
@@ -20,25 +22,25 @@ lines_from line (c ∷ cs) = if nat_eq c 10 then strip_carriage_return line ∷ 
 abbrev pub lines_of : List ℕ → List (List ℕ)
 lines_of text = lines_from [] text
 
--- a line whose first byte that isn't blank is `#`
-abbrev pub is_hash_comment : List ℕ → Bool
-is_hash_comment [] = false
-is_hash_comment (c ∷ cs) = if is_blank c then is_hash_comment cs else nat_eq c 35
+-- the line begins with a blank
+abbrev pub is_indented : List ℕ → Bool
+is_indented [] = false
+is_indented (c ∷ cs) = is_blank c
 
 -- the line of these words, if it has any
-abbrev pub line_of : ℕ → List Word → List Line
-line_of n [] = []
-line_of n (w ∷ ws) = record { number = n; words = w ∷ ws } ∷ []
+abbrev pub line_of : ℕ → Bool → List Word → List Line
+line_of n indented [] = []
+line_of n indented (w ∷ ws) = record { number = n; indented = indented; words = w ∷ ws } ∷ []
 
--- a line as it is read: a comment and a line without words are skipped
-abbrev pub read_line : ℕ → List ℕ → List Line
-read_line n bytes = if is_hash_comment bytes then [] else line_of n (words_of n bytes)
+-- a line as it is read, without its comment; one without words is skipped
+abbrev pub read_line : Comments → ℕ → List ℕ → List Line
+read_line kind n bytes = line_of n (is_indented bytes) (words_of n (uncommented kind bytes))
 
 -- the lines that are read, numbered from n on
-abbrev pub numbered : ℕ → List (List ℕ) → List Line
-numbered n [] = []
-numbered n (l ∷ ls) = read_line n l ++ numbered (suc n) ls
+abbrev pub numbered : Comments → ℕ → List (List ℕ) → List Line
+numbered kind n [] = []
+numbered kind n (l ∷ ls) = read_line kind n l ++ numbered kind (suc n) ls
 
--- the lines of a text that have words and are no comments, and the number past its last line
-abbrev pub read_of : List ℕ → Lines
-read_of text = record { lines = numbered 1 (lines_of text); past = suc (length (lines_of text)) }
+-- the lines of a text that have words outside comments, and the number past its last line
+abbrev pub read_of : Comments → List ℕ → Lines
+read_of kind text = record { lines = numbered kind 1 (lines_of text); past = suc (length (lines_of text)) }

@@ -37,6 +37,13 @@ impl<T: Drop> Items<T> {
         Items { items }
     }
 
+    /// The items as a vector.
+    pub fn into_vec(self) -> Vec<T>
+        ensures { result.items ≡ self }
+    {
+        self.items
+    }
+
     /// Appends the item. After want of memory the list is as before and the item is dropped.
     pub fn put(&mut self, item: T) -> Result<(), Memory>
         ensures ok { OnOk result (self.new ≡ self.old ++ item ∷ []) }

@@ -2,24 +2,27 @@
 
 ghost use Rattle.std.specs.Prelude.{◌≡◌, ◌+◌, ◌++◌, length, IfOk, OnOk};
 ghost use Rattle.std.specs.Str.Lines.{strip_carriage_return};
-ghost use Rattle.fws_num.specs.Lines.{is_hash_comment, last_line, numbered, read_line, read_of};
+ghost use Rattle.fws_num.specs.Lines.{is_indented, last_line, numbered, read_line, read_of};
 
+use crate::comments::Comments;
 use crate::items::Items;
 use crate::memory::Memory;
 use crate::numbers::split_once;
-use crate::word::{Word, words};
+use crate::word::{Word, is_blank, words};
 use std::alloc::Global;
 
-/// A line that has words and is no comment.
+/// A line that has words outside its comment.
 #[derive(Drop)]
 pub struct Line {
     /// Its number, counted from 1.
     pub number: u32,
+    /// It begins with a blank.
+    pub indented: bool,
     /// Its words, one or more.
     pub words: Items<Word>,
 }
 
-/// The lines of a text that have words and are no comments.
+/// The lines of a text that have words outside comments.
 #[derive(Drop)]
 pub struct Lines {
     /// The lines, in their order.
@@ -37,31 +40,33 @@ fn without_carriage_return(line: &[u8]) -> &[u8]
     }
 }
 
-/// Its first byte that isn't a blank or a tab is `#`.
-fn is_hash_comment(line: &[u8]) -> bool
-    ensures { result ≡ is_hash_comment line.now }
+/// It begins with a blank or a tab.
+fn is_indented(line: &[u8]) -> bool
+    ensures { result ≡ is_indented line.now }
 {
-    for c in line {
-        if *c != b' ' && *c != b'\t' {
-            return *c == b'#';
-        }
+    match line {
+        [] => false,
+        [first, ..] => is_blank(*first),
     }
-    false
 }
 
-/// Adds the line of these bytes, if it has words and is no comment.
-fn put_line(alloc: Global, lines: &mut Items<Line>, number: u32, bytes: &[u8]) -> Result<(), Memory>
-    ensures { OnOk result (lines.new ≡ lines.old ++ read_line number bytes.now) }
+/// Adds the line of these bytes, if it has words outside its comment.
+fn put_line(
+    alloc: Global,
+    comments: Comments,
+    lines: &mut Items<Line>,
+    number: u32,
+    bytes: &[u8],
+) -> Result<(), Memory>
+    ensures { OnOk result (lines.new ≡ lines.old ++ read_line comments number bytes.now) }
 {
-    if is_hash_comment(bytes) {
-        return Ok(());
-    }
-    let words = words(alloc, bytes, number)?;
+    let words = words(alloc, comments.uncommented(bytes), number)?;
     if words.is_empty() {
         return Ok(());
     }
     lines.put(Line {
         number,
+        indented: is_indented(bytes),
         words: Items::from_vec(words),
     })?;
     Ok(())
@@ -77,35 +82,42 @@ fn next_number(number: u32) -> Result<u32, Memory>
 /// Adds what stands behind the last line feed, if anything does, and gives the number past it.
 fn put_last(
     alloc: Global,
+    comments: Comments,
     lines: &mut Items<Line>,
     number: u32,
     bytes: &[u8],
 ) -> Result<u32, Memory>
-    ensures lines { OnOk result (lines.new ≡ lines.old ++ numbered number (last_line bytes.now)) }
+    ensures lines { OnOk result (lines.new ≡ lines.old ++ numbered comments number (last_line bytes.now)) }
     ensures past { IfOk result (λ past. past ≡ number + length (last_line bytes.now)) }
 {
     match bytes {
         [] => Ok(number),
         [_, ..] => {
-            put_line(alloc, lines, number, bytes)?;
+            put_line(alloc, comments, lines, number, bytes)?;
             next_number(number)
         }
     }
 }
 
-/// The lines of a text that have words and are no comments, with their numbers, and the number past
-/// the last line. A line ends at a line feed; a carriage return before it doesn't count.
-pub fn read_lines(alloc: Global, text: &[u8]) -> Result<Lines, Memory>
-    ensures { IfOk result (λ ls. ls ≡ read_of text.now) }
+/// The lines of a text that have words outside comments, with their numbers, and the number past the
+/// last line. A line ends at a line feed; a carriage return before it doesn't count.
+pub fn read_lines(alloc: Global, comments: Comments, text: &[u8]) -> Result<Lines, Memory>
+    ensures { IfOk result (λ ls. ls ≡ read_of comments text.now) }
 {
     let mut lines = Items::new(alloc);
     let mut number = 1;
     let mut rest = text;
     while let Some((line, behind)) = split_once(rest, b'\n') {
-        put_line(alloc, &mut lines, number, without_carriage_return(line))?;
+        put_line(
+            alloc,
+            comments,
+            &mut lines,
+            number,
+            without_carriage_return(line),
+        )?;
         number = next_number(number)?;
         rest = behind;
     }
-    let past = put_last(alloc, &mut lines, number, rest)?;
+    let past = put_last(alloc, comments, &mut lines, number, rest)?;
     Ok(Lines { lines, past })
 }

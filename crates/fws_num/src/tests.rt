@@ -116,7 +116,7 @@ fn words_side_by_side(rt: HostRuntime) -> Result<(), Fail> {
 
 #[test]
 fn lines_of_a_text(rt: HostRuntime) -> Result<(), Fail> {
-    let read = read_lines(rt.alloc(), b"a\r\n\t # b\n \r\n\nc\r")?;
+    let read = read_lines(rt.alloc(), Comments::HashLine, b"a\r\n\t # b\n \r\n\nc\r")?;
     assert_eq!(rt; read.past, 6);
     let lines = read.lines.as_slice();
     assert_eq!(rt; lines.len(), 2);
@@ -124,4 +124,84 @@ fn lines_of_a_text(rt: HostRuntime) -> Result<(), Fail> {
     assert!(rt; lines[0].words.as_slice().iter().all(|w| w.is(b"a")));
     assert!(rt; lines[1].words.as_slice().iter().all(|w| w.is(b"c\r")));
     Ok(())
+}
+
+#[test]
+fn ports(rt: HostRuntime) {
+    let table: [(&[u8], Option<u16>); 9] = [
+        (b"ftp-data", Some(20)),
+        (b"http", Some(80)),
+        (b"snmptrap", Some(162)),
+        (b"non500-isakmp", Some(4500)),
+        (b"65535", Some(65535)),
+        (b"65536", None),
+        (b"HTTP", None),
+        (b"gopher", None),
+        (b"", None),
+    ];
+    for (text, wanted) in table {
+        assert_eq!(rt; read_port(text), wanted);
+    }
+}
+
+#[test]
+fn ports_side_by_side(rt: HostRuntime) {
+    let table: [(&[u8], Option<(u16, u16)>); 7] = [
+        (b"ftp-data-ssh", Some((20, 22))),
+        (b"ssh-ftp-data", Some((22, 20))),
+        (b"0-65535", Some((0, 65535))),
+        (b"ftp-data", None),
+        (b"1-2-3", None),
+        (b"1-", None),
+        (b"1:2", None),
+    ];
+    for (text, wanted) in table {
+        assert_eq!(rt; read_ports_between(b'-', text), wanted);
+    }
+}
+
+#[test]
+fn protocols(rt: HostRuntime) {
+    let table: [(&[u8], Option<u8>); 6] = [
+        (b"tcp", Some(6)),
+        (b"udplite", Some(136)),
+        (b"255", Some(255)),
+        (b"256", None),
+        (b"TCP", None),
+        (b"all", None),
+    ];
+    for (text, wanted) in table {
+        assert_eq!(rt; read_protocol(text), wanted);
+    }
+}
+
+#[test]
+fn pieces_of_a_text(rt: HostRuntime) -> Result<(), Fail> {
+    let found = pieces(rt.alloc(), b',', b",ab,")?;
+    let found = found.as_slice();
+    assert_eq!(rt; found.len(), 3);
+    assert!(rt; found[0].as_slice().is_empty());
+    assert_eq!(rt; found[1].as_slice(), b"ab".as_slice());
+    assert!(rt; found[2].as_slice().is_empty());
+    assert_eq!(rt; Text::of(rt.alloc(), b"ab")?.as_slice(), b"ab".as_slice());
+    Ok(())
+}
+
+#[test]
+fn comments_of_a_line(rt: HostRuntime) {
+    let table: [(Comments, &[u8], &[u8]); 10] = [
+        (Comments::HashLine, b"\t# x", b""),
+        (Comments::HashLine, b"x # y", b"x # y"),
+        (Comments::Pf, b"a #b \"c # d\" #e", b"a "),
+        (Comments::Pf, b"a \"c # d\" #e", b"a \"c # d\" "),
+        (Comments::Pf, b"x=\"a # b\" # c", b"x=\"a # b\" "),
+        (Comments::Ipfw, b"x=\"a # b\" # c", b"x=\"a "),
+        (Comments::Ipfw, b"a // b", b"a "),
+        (Comments::Pf, b"a // b", b"a // b"),
+        (Comments::Ios, b"! x", b""),
+        (Comments::Ios, b" ! x", b" ! x"),
+    ];
+    for (comments, line, wanted) in table {
+        assert_eq!(rt; comments.uncommented(line), wanted);
+    }
 }

@@ -30,6 +30,15 @@ impl Text {
         }
     }
 
+    /// The text of these bytes. An error is want of memory.
+    pub fn of(alloc: Global, bytes: &[u8]) -> Result<Text, Memory>
+        ensures { IfOk result (λ t. t ≡ bytes.now) }
+    {
+        Ok(Text {
+            bytes: Vec::from_slice(alloc, bytes)?,
+        })
+    }
+
     /// Appends the piece. After want of memory the text is as before.
     pub fn put(&mut self, piece: &[u8]) -> Result<(), Memory>
         ensures ok { OnOk result (self.new ≡ self.old ++ piece.now) }

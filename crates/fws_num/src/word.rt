@@ -57,7 +57,7 @@ pub fn are_sound(words: &[Word]) -> bool
 
 /// Where a reader of words is.
 #[derive(Clone, Copy, Drop)]
-enum Mode {
+pub(crate) enum Mode {
     /// Between two words.
     Between,
     /// In a word without quotes.
@@ -78,7 +78,8 @@ struct Reader {
     text: Text,
 }
 
-fn is_blank(c: u8) -> bool
+/// A space or a tab.
+pub(crate) fn is_blank(c: u8) -> bool
     ensures { result ≡ is_blank c }
 {
     c == b' ' || c == b'\t'

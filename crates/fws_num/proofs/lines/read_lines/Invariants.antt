@@ -4,7 +4,7 @@ use Rattle.fws_num.proofs.lines.read_lines.Given as goal
 
 abbrev pub invariant-loop-line : goal.invariant-loop-line
 invariant-loop-line l = record {
-  so_far : l.lines ++ numbered l.number (lines_of l.rest) ≡ numbered 1 (lines_of l.fn.text);
+  so_far : l.lines ++ numbered l.comments l.number (lines_of l.rest) ≡ numbered l.comments 1 (lines_of l.fn.text);
   counted : l.number + length (lines_of l.rest) ≡ 1 + length (lines_of l.fn.text);
 }
 
