@@ -1,3 +1,4 @@
 pub mod Parts
 pub mod SameMembers
 pub mod Steps
+pub mod WithRange

@@ -1,5 +1,5 @@
 -- Sets of numbers as lists of intervals.
-use Rattle.std.specs.Prelude.{◌≡◌, ℕ, ◌+◌, ◌≤◌, Bool, ◌&&◌, nat_le, List, [], ◌∷◌, Option, Some, None}
+use Rattle.std.specs.Prelude.{◌≡◌, ℕ, ◌+◌, ◌≤◌, Bool, ◌&&◌, nat_le, nat_lt, min, max, if◌then◌else◌, List, [], ◌∷◌, Option, Some, None}
 use Rattle.std.specs.List.{list_any}
 use Rattle.fws_iv.specs.declared.iv.Iv.{Iv}
 
@@ -38,3 +38,16 @@ past from (x ∷ xs) = past (x.hi + 2) xs
 -- regular lists with the same members are equal
 abbrev pub SameMembersSameList : Type 0
 SameMembersSameList = (s t : List Iv) → IsRegular s → IsRegular t → ((v : ℕ) → has s v ≡ has t v) → s ≡ t
+
+-- the set with the numbers from lo to hi, of which lo is no greater: an interval ahead of the first that it doesn't touch,
+-- or joined with those that it touches
+abbrev pub with_range : ℕ → ℕ → List Iv → List Iv
+with_range lo hi [] = record { lo = lo; hi = hi } ∷ []
+with_range lo hi (x ∷ xs) =
+    if nat_lt (hi + 1) x.lo then record { lo = lo; hi = hi } ∷ x ∷ xs
+    else if nat_lt (x.hi + 1) lo then x ∷ with_range lo hi xs
+    else with_range (min lo x.lo) (max hi x.hi) xs
+
+-- a range more keeps a list regular
+abbrev pub RangesAreRegular : Type 0
+RangesAreRegular = (lo hi : ℕ) (s : List Iv) → lo ≤ hi → IsRegular s → IsRegular (with_range lo hi s)

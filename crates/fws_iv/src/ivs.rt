@@ -1,7 +1,7 @@
 //! Interval lists: sorted, disjoint, not touching.
 
 ghost use Rattle.std.specs.Prelude.{◌≡◌, ◌<◌, ◌≤◌, ◌↔◌, ◌&&◌, ◌||◌, not, ℕ, nat_le, true, [], ◌∷◌, IsTrue, Some, unwrap_or, IfOk, OnOk, OnErr};
-ghost use Rattle.fws_iv.specs.Ivs.{has, IsRegular, least};
+ghost use Rattle.fws_iv.specs.Ivs.{has, IsRegular, least, with_range};
 
 use crate::find::has_number;
 use crate::inter::inter_into;
@@ -94,6 +94,19 @@ impl Ivs {
     {
         let mut parts = Vec::new(alloc);
         union_into(&mut parts, self.parts(), other.parts())?;
+        Ok(Ivs { parts })
+    }
+
+    /// The members, and the numbers from `lo` to `hi`, of which `lo` is no greater. The time is linear
+    /// in the number of intervals. An error is want of memory.
+    #[tactic(auto, using(crate::proofs::WithRange::same_with_range))]
+    pub fn with_range(&self, alloc: Global, lo: u32, hi: u32) -> Result<Ivs, Memory>
+        requires { lo ≤ hi }
+        ensures value { IfOk result (λ s. s ≡ with_range lo hi self.now) }
+        ensures members { IfOk result (λ s. (v : ℕ) → has s v ≡ (has self.now v || (nat_le lo v && nat_le v hi))) }
+    {
+        let mut parts = Vec::new(alloc);
+        union_into(&mut parts, self.parts(), &[Iv { lo, hi }])?;
         Ok(Ivs { parts })
     }
 

@@ -1,8 +1,13 @@
-//! Sets are equal where their members are the same.
+//! Laws of sets.
 
-ghost use Rattle.fws_iv.specs.Ivs.{SameMembersSameList};
+ghost use Rattle.fws_iv.specs.Ivs.{SameMembersSameList, RangesAreRegular};
 
 /// Does nothing: the clause is a law of sets, for the proofs of callers.
 pub fn same_members_same_list()
     ensures { SameMembersSameList }
+{}
+
+/// Does nothing: the clause is a law of sets, for the proofs of callers.
+pub fn ranges_are_regular()
+    ensures { RangesAreRegular }
 {}

@@ -20,6 +20,6 @@ pub use inter::inter_into;
 pub use iv::Iv;
 pub use ivs::{Ivs, one};
 pub use joined::join_last;
-pub use law::same_members_same_list;
+pub use law::{ranges_are_regular, same_members_same_list};
 pub use minus::minus_into;
 pub use union::union_into;

@@ -44,6 +44,33 @@ fn answers(rt: HostRuntime) -> Result<(), Fail> {
 }
 
 #[test]
+fn ranges(rt: HostRuntime) -> Result<(), Fail> {
+    let apart = one(rt.alloc(), 5, 7)?.with_range(rt.alloc(), 20, u32::MAX)?;
+    let ends = Iv {
+        lo: 20,
+        hi: u32::MAX,
+    };
+    assert_eq!(rt; apart.parts(), [Iv { lo: 5, hi: 7 }, ends].as_slice());
+    let ahead = apart.with_range(rt.alloc(), 0, 3)?;
+    assert_eq!(rt;
+        ahead.parts(),
+        [Iv { lo: 0, hi: 3 }, Iv { lo: 5, hi: 7 }, ends].as_slice()
+    );
+    let touching = apart.with_range(rt.alloc(), 8, 9)?;
+    assert_eq!(rt; touching.parts(), [Iv { lo: 5, hi: 9 }, ends].as_slice());
+    let bridged = ahead.with_range(rt.alloc(), 4, 19)?;
+    assert_eq!(rt;
+        bridged.parts(),
+        [Iv {
+            lo: 0,
+            hi: u32::MAX
+        }]
+        .as_slice()
+    );
+    Ok(())
+}
+
+#[test]
 fn keys(rt: HostRuntime) -> Result<(), Fail> {
     let a = Key {
         field: 1,
