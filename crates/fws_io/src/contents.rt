@@ -75,8 +75,8 @@ impl Contents {
     {
         let earlier = place_of(&self.entries, name);
         let entry = Held {
-            name: copied(self.alloc, name)?,
-            content: copied(self.alloc, content)?,
+            name: Text::of(self.alloc, name)?,
+            content: Text::of(self.alloc, content)?,
         };
 
         // The new entry is found first; the earlier one, which nothing finds any more, is let go.
@@ -101,15 +101,6 @@ fn place_of(entries: &[Held], name: &[u8]) -> Option<usize>
     None
 }
 
-/// A text of these bytes.
-fn copied(alloc: Global, bytes: &[u8]) -> Result<Text, Memory>
-    ensures { IfOk result (λ text. text ≡ bytes.now) }
-{
-    let mut text = Text::new(alloc);
-    text.put(bytes)?;
-    Ok(text)
-}
-
 /// The content where it has at most `limit` bytes, and else `TooLong` with its length.
 pub(crate) fn read_within(alloc: Global, content: &[u8], limit: usize) -> Result<Text, ShelfAnswer>
     ensures whole { IfOk result (λ text. text ≡ content.now) }
@@ -120,5 +111,5 @@ pub(crate) fn read_within(alloc: Global, content: &[u8], limit: usize) -> Result
     if content.len() > limit {
         return Err(ShelfAnswer::TooLong(content.len()));
     }
-    Ok(copied(alloc, content)?)
+    Ok(Text::of(alloc, content)?)
 }
