@@ -1,5 +1,12 @@
+pub mod Conditions
+pub mod Connections
+pub mod Ends
+pub mod Faces
 pub mod Fates
 pub mod Points
+pub mod Ports
+pub mod Reading
 pub mod Routes
+pub mod Showing
 pub mod SiteAnswers
 pub mod SiteText

@@ -7,6 +7,7 @@ use Rattle.fws_num.specs.declared.word.Word.{Word}
 use Rattle.fws_num.specs.declared.lines.Line.{Line}
 use Rattle.fws_num.specs.Numbers.{is_digit, dec_of, quad_of, split_once}
 use Rattle.fws_num.specs.Words.{is_sound}
+use Rattle.fws_num.specs.declared.comments.Comments.TheVariants.{HashLine}
 use Rattle.fws_num.specs.Lines.{read_of}
 use Rattle.fws_net.specs.declared.site.Names.{Names}
 use Rattle.fws_net.specs.declared.site.Side.{Side}
@@ -221,4 +222,4 @@ site_of_lines past lines = do
 
 -- the site that a text spells
 abbrev pub site_of : List ℕ → Result Site Refusal
-site_of text = site_of_lines (read_of text).past (read_of text).lines
+site_of text = site_of_lines (read_of HashLine text).past (read_of HashLine text).lines

@@ -1,29 +1,20 @@
 //! Writing a rewriting over a packet.
 
-ghost use Rattle.std.specs.Prelude.{◌≡◌, ◌+◌, ◌-◌, ◌%◌, ◌^◌};
+ghost use Rattle.std.specs.Prelude.{◌≡◌};
 ghost use Rattle.fws_net.specs.Fates.{has_ports, written_addr, written_port, sent_port, sent};
 
 use crate::outcome::{End, Fate, Rewrite};
 use crate::packet::Packet;
 
-const TCP: u8 = 6;
+pub(crate) const TCP: u8 = 6;
 
 const UDP: u8 = 17;
 
 /// Whether packets of the protocol have ports.
-fn has_ports(proto: u8) -> bool
+pub(crate) fn has_ports(proto: u8) -> bool
     ensures { result ≡ has_ports proto }
 {
     proto == TCP || proto == UDP
-}
-
-/// The address with the first bits of the end over it.
-#[tactic(auto, using(crate::proofs::Ends::end_fits))]
-fn overwritten(end: End, a: u32) -> u32
-    ensures { result ≡ end.addr + a % 2 ^ (32 - end.len) }
-{
-    let kept = a % 2u32.pow(32 - u32::from(end.len));
-    end.addr + kept
 }
 
 /// The address with the first bits of an end, if there is one, over it.
@@ -31,7 +22,7 @@ fn written_addr(end: Option<End>, a: u32) -> u32
     ensures { result ≡ written_addr end a }
 {
     match end {
-        Some(end) => overwritten(end, a),
+        Some(end) => end.over(a),
         None => a,
     }
 }

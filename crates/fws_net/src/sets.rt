@@ -1,49 +1,36 @@
 //! Local addresses and routes as sets of addresses.
 
-ghost use Rattle.std.specs.Prelude.{◌≡◌, ℕ, ◌-◌, ◌<◌, ◌^◌, ◌&&◌, ◌||◌, nat_eq, nat_lt, IfOk};
+ghost use Rattle.std.specs.Prelude.{◌≡◌, ℕ, ◌-◌, ◌<◌, ◌^◌, ◌&&◌, ◌||◌, nat_eq, nat_lt, [], ◌∷◌, IfOk};
 ghost use Rattle.std.specs.List.{list_any};
 ghost use Rattle.fws_iv.specs.Ivs.{has};
-ghost use Rattle.fws_net.specs.Routes.{agree, net_has, is_loopback, is_local, route_of, IsSound};
+ghost use Rattle.fws_net.specs.Faces.{block, local_parts, prefix_parts, with_addrs};
+ghost use Rattle.fws_net.specs.Routes.{agree, net_has, is_local, route_of, IsSound};
 
 use crate::routes::FIRST_ENTRY;
 use crate::site::{Iface, Site};
 use fws_iv::{Ivs, one};
-use fws_num::Memory;
+use fws_num::{Memory, Prefix};
 use std::alloc::Global;
-
-/// The set of one address.
-fn only(alloc: Global, a: u32) -> Result<Ivs, Memory>
-    ensures { IfOk result (λ s. (v : ℕ) → has s v ≡ nat_eq a v) }
-{
-    one(alloc, a, a)
-}
-
-/// 127.0.0.0/8.
-fn loopback_set(alloc: Global) -> Result<Ivs, Memory>
-    ensures { IfOk result (λ s. (v : ℕ) → has s v ≡ is_loopback v) }
-{
-    one(alloc, 127 << 24, (127 << 24) + 0xff_ffff)
-}
 
 /// The addresses of the interfaces.
 fn own_set(alloc: Global, faces: &[Iface]) -> Result<Ivs, Memory>
-    ensures { IfOk result (λ s. (v : ℕ) → has s v ≡ list_any (λ face. nat_eq face.addr v) faces.now) }
+    ensures value { IfOk result (λ s. s ≡ with_addrs [] faces.now) }
+    ensures members { IfOk result (λ s. (v : ℕ) → has s v ≡ list_any (λ face. nat_eq face.addr v) faces.now) }
 {
     let mut own = Ivs::none(alloc);
     for face in faces {
-        let address = only(alloc, face.addr)?;
-        own = own.union(alloc, &address)?;
+        own = own.with_range(alloc, face.addr, face.addr)?;
     }
     Ok(own)
 }
 
-/// The addresses of the interfaces and those of 127.0.0.0/8.
+/// The addresses of the interfaces and those of 127.0.0.0/8. An error is want of memory.
 pub fn local_set(alloc: Global, site: &Site) -> Result<Ivs, Memory>
-    ensures { IfOk result (λ s. (a : ℕ) → has s a ≡ is_local site.now a) }
+    ensures value { IfOk result (λ s. s ≡ local_parts site.now) }
+    ensures members { IfOk result (λ s. (a : ℕ) → has s a ≡ is_local site.now a) }
 {
     let own = own_set(alloc, site.faces.as_slice())?;
-    let loopback = loopback_set(alloc)?;
-    own.union(alloc, &loopback)
+    own.with_range(alloc, 127 << 24, (127 << 24) + 0xff_ffff)
 }
 
 /// How many addresses agree in their first `len` bits.
@@ -53,14 +40,23 @@ fn block_size(len: u8) -> u64
     2u64.pow(32u32.saturating_sub(u32::from(len)))
 }
 
-/// The addresses that agree with this one in their first `len` bits.
+/// The addresses that agree with this one in their first `len` bits. An error is want of memory.
 pub fn agreeing_set(alloc: Global, len: u8, addr: u32) -> Result<Ivs, Memory>
-    ensures { IfOk result (λ s. (v : ℕ) → has s v ≡ agree len addr v) }
+    ensures value { IfOk result (λ s. s ≡ block len addr ∷ []) }
+    ensures members { IfOk result (λ s. (v : ℕ) → has s v ≡ agree len addr v) }
 {
     let size = block_size(len);
     let below = u64::from(addr) % size;
     let first = addr - below as u32;
     one(alloc, first, (u64::from(first) + (size - 1)) as u32)
+}
+
+/// The addresses of the prefix. An error is want of memory.
+pub fn prefix_set(alloc: Global, prefix: &Prefix) -> Result<Ivs, Memory>
+    ensures value { IfOk result (λ s. s ≡ prefix_parts prefix.now) }
+    ensures members { IfOk result (λ s. (a : ℕ) → has s a ≡ agree prefix.now.len prefix.now.addr a) }
+{
+    agreeing_set(alloc, prefix.len, prefix.addr)
 }
 
 /// The addresses of the interface's network.

@@ -9,7 +9,7 @@ ghost use Rattle.fws_net.specs.SiteAnswers.{LineGiven, Given, GivenBy};
 use crate::site::{Iface, Site};
 use crate::site_answer::{LineFault, SiteAnswer, SiteCause};
 use crate::site_lines::{read_choice, read_default, read_face, read_header, read_loopback};
-use fws_num::{Items, Line, Word, are_sound, read_lines};
+use fws_num::{Comments, Items, Line, Word, are_sound, read_lines};
 use std::alloc::Global;
 
 /// What a line was judged to be. A word with a bad byte or an open quote makes it Syntax.
@@ -145,6 +145,6 @@ pub fn read_site(alloc: Global, text: &[u8]) -> Result<Site, SiteAnswer>
     ensures given { Given result (site_of text.now) }
     ensures sound { IfOk result (λ s. IsSound s) }
 {
-    let lines = read_lines(alloc, text)?;
+    let lines = read_lines(alloc, Comments::HashLine, text)?;
     read_site_lines(alloc, lines.past, lines.lines.as_slice())
 }

@@ -3,8 +3,8 @@ ghost use Rattle.fws_net.specs.Routes.{IsSound};
 
 use crate::outcome::End;
 use crate::{
-    Exit, Fate, Packet, Rewrite, Side, Site, SiteAnswer, SiteCause, exit_of, is_local, local_set,
-    read_site, route, route_set, tops,
+    Exit, Fate, Packet, Rewrite, Side, Site, SiteAnswer, SiteCause, exit_of, is_local, read_site,
+    route, tops,
 };
 use SiteCause::{Count, Names, Overlap, Syntax};
 use fws_num::{Memory, Text};
@@ -642,7 +642,7 @@ fn refuses_a_fifteenth_interface(rt: HostRuntime) -> Result<(), Fail> {
 }
 
 /// The good site.
-fn good_site(alloc: Global) -> Result<Site, SiteAnswer>
+pub(crate) fn good_site(alloc: Global) -> Result<Site, SiteAnswer>
     ensures { IfOk result IsSound }
 {
     let text = front(alloc, 7)?;
@@ -697,15 +697,6 @@ fn routes_addresses(rt: HostRuntime) -> Result<(), Fail> {
             "at {a}"
         );
     }
-    Ok(())
-}
-
-#[test]
-fn collects_addresses(rt: HostRuntime) -> Result<(), Fail> {
-    let site = good_site(rt.alloc())?;
-    assert!(rt; local_set(rt.alloc(), &site)?.has(0x7f00_0009));
-    assert!(rt; route_set(rt.alloc(), &site, 2)?.has(0x0a00_004d));
-    assert!(rt; route_set(rt.alloc(), &site, 1)?.is_empty());
     Ok(())
 }
 

@@ -14,8 +14,8 @@ overflow_cast-from c =
     (c.from-2.ensures ∙ ap (λ a. c.args.addr - a % size) c.from.ensures) in
     omega arith
 
-pub returns : goal.returns
-returns c =
+pub returns-clause-members : goal.returns-clause-members
+returns-clause-members c =
     let size = c.block_size-size.result in
     let first : ℕ = c.args.addr - c.from.result % size in
     let last : ℕ = c.from-2.result + (size - 1) in
