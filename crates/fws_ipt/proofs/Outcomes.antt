@@ -1,0 +1,77 @@
+-- What holds of each value that a reader gives.
+use Rattle.std.proofs.Common.{◌≡◌, ℕ, Bool, true, false, cond, Option, Some, None, Result, Ok, Err, List, [], ◌∷◌, IfOk, IfSome, ok_or, refl}
+use Rattle.std.specs.Option.{option_map_or}
+use Rattle.fws_num.specs.declared.lines.Line.{Line}
+use Rattle.fws_num.specs.declared.word.Word.{Word}
+use Rattle.fws_num.specs.Words.{is_sound}
+use Rattle.fws_net.specs.declared.read_answer.Cause.{Cause}
+use Rattle.fws_net.specs.declared.read_answer.Cause.TheVariants.{Syntax, LeftOut}
+use Rattle.fws_net.specs.declared.read_answer.Checks.{Checks}
+use Rattle.fws_net.specs.Reading.{and_then, unless, checked, judged, located, words_read, lines_read}
+
+-- One step
+
+-- behind something that was read, whatever it is
+pub then_holds : {A B E : Type 0} (P : B → Type 0) (r : Result A E) (f : A → Result B E) → ((x : A) → IfOk (f x) P) → IfOk (and_then r f) P
+then_holds P (Ok x) f h = h x
+then_holds P (Err e) f h = tt
+
+-- behind something of which a fact is known
+pub then_known : {A B E : Type 0} (P : A → Type 0) (Q : B → Type 0) (r : Result A E) (f : A → Result B E) → IfOk r P → ((x : A) → P x → IfOk (f x) Q)
+    → IfOk (and_then r f) Q
+then_known P Q (Ok x) f h step = step x h
+then_known P Q (Err e) f h step = tt
+
+-- either branch of a choice
+pub either_holds : {A E : Type 0} (P : A → Type 0) (b : Bool) (r s : Result A E) → (b ≡ true → IfOk r P) → (b ≡ false → IfOk s P) → IfOk (cond b r s) P
+either_holds P true r s h k = h refl
+either_holds P false r s h k = k refl
+
+-- what was found, or was not
+pub found_holds : {A B E : Type 0} (P : B → Type 0) (o : Option A) (f : A → Result B E) (r : Result B E) → ((x : A) → o ≡ Some x → IfOk (f x) P) → IfOk r P
+    → IfOk (option_map_or f o r) P
+found_holds P None f r h k = k
+found_holds P (Some x) f r h k = h x refl
+
+pub ok_or_holds : {A E : Type 0} (P : A → Type 0) (o : Option A) (e : E) → IfSome o P → IfOk (ok_or o e) P
+ok_or_holds P None e h = tt
+ok_or_holds P (Some x) e h = h
+
+pub judged_holds : {A : Type 0} (P : A → Type 0) (w : Word) (r : Result A Cause) → IfOk r P → IfOk (judged w r) P
+judged_holds P w r h = either_holds P (is_sound w) r (Err Syntax) (λ e. h) (λ e. tt)
+
+-- Checks of a whole line
+
+unless_holds : {A : Type 0} (P : A → Type 0) (o : Option Cause) (x : A) → P x → IfOk (unless o x) P
+unless_holds P None x h = h
+unless_holds P (Some cause) x h = tt
+
+left_out_first : {A : Type 0} (P : A → Type 0) (b : Bool) (o : Option Cause) (x : A) → (b ≡ false → P x) → IfOk (unless (cond b (Some LeftOut) o) x) P
+left_out_first P true o x h = tt
+left_out_first P false o x h = unless_holds P o x (h refl)
+
+-- what passes the checks isn't left out
+pub checked_holds : {A : Type 0} (P : A → Type 0) (checks : Checks) (x : A) → (checks.left_out ≡ false → P x) → IfOk (checked checks x) P
+checked_holds P checks x h = left_out_first P checks.left_out _ x h
+
+-- All steps
+
+-- what each word keeps is kept by all
+pub words_hold : {S : Type 0} (P : S → Type 0) (step : S → Word → Result S Cause) → ((state : S) (w : Word) → P state → IfOk (step state w) P)
+    → (state : S) (ws : List Word) → P state → IfOk (words_read step state ws) P
+words_hold P step kept state [] h = h
+words_hold P step kept state (w ∷ ws) h =
+    then_known P P (judged w (step state w)) (λ next. words_read step next ws) (judged_holds P w (step state w) (kept state w h))
+    (λ next k. words_hold P step kept next ws k)
+
+located_holds : {A : Type 0} (P : A → Type 0) (n : ℕ) (r : Result A Cause) → IfOk r P → IfOk (located n r) P
+located_holds P n (Ok x) h = h
+located_holds P n (Err cause) h = tt
+
+-- what each line keeps is kept by all
+pub lines_hold : {S : Type 0} (P : S → Type 0) (step : S → Line → Result S Cause) → ((state : S) (l : Line) → P state → IfOk (step state l) P)
+    → (state : S) (ls : List Line) → P state → IfOk (lines_read step state ls) P
+lines_hold P step kept state [] h = h
+lines_hold P step kept state (l ∷ ls) h =
+    then_known P P (located l.number (step state l)) (λ next. lines_read step next ls) (located_holds P l.number (step state l) (kept state l h))
+    (λ next k. lines_hold P step kept next ls k)

@@ -1,0 +1,169 @@
+-- What a text spells, line by line, is fitting.
+use Rattle.std.proofs.Common.{◌≡◌, ℕ, Bool, true, false, ◌&&◌, ◌||◌, Option, Some, None, is_some, Ok, Err, List, [], ◌∷◌, codes, bytes_eq, if◌then◌else◌, IfOk, refl}
+use Rattle.std.proofs.lemmas.Result.{IfOk-at_ok}
+use Rattle.std.specs.List.{list_all}
+use Rattle.std.specs.Option.{option_map_or}
+use Rattle.fws_num.specs.declared.comments.Comments.TheVariants.{HashLine}
+use Rattle.fws_num.specs.declared.word.Word.{Word}
+use Rattle.fws_num.specs.Lines.{read_of}
+use Rattle.fws_net.specs.declared.read_answer.Cause.TheVariants.{Syntax, LeftOut, NoName}
+use Rattle.fws_net.specs.declared.site.Site.{Site}
+use Rattle.fws_net.specs.Reading.{lines_read}
+use Rattle.fws_ipt.specs.declared.config.IptTable.{IptTable}
+use Rattle.fws_ipt.specs.declared.config.IptChain.{IptChain}
+use Rattle.fws_ipt.specs.declared.hook.Hook.{Hook}
+use Rattle.fws_ipt.specs.declared.draft.Section.{Section}
+use Rattle.fws_ipt.specs.declared.draft.Section.TheVariants.{Met, Raw, Security}
+use Rattle.fws_ipt.specs.declared.draft.IptDraft.{IptDraft}
+use Rattle.fws_ipt.specs.FileText.{section_named, alone, opened_at, opens, table_line, commit_line, is_counters, ends_declaration, with_chain, with_builtin, policy_of, builtin_line, user_line, is_declared, builtin_declared, user_declared, builtin_hook, declared_in, chain_line, with_rule, rule_line, chain_of_rule, appended_in, appended_to, append_line, out_of_place, counted_line, counters_line, behind, word_line, first_step, words_step, line_step, fresh_text, ended}
+use Rattle.fws_ipt.specs.Hooks.{hook_named, has_hook}
+use Rattle.fws_ipt.specs.RuleText.{is_chain, chain_from, rule_of}
+use Rattle.fws_ipt.specs.Soundness.{fits, chain_fits, is_fitting, SpelledFits}
+use Rattle.fws_ipt.proofs.Drafts.{rule_fits}
+use Rattle.fws_ipt.proofs.Outcomes.{then_holds, then_known, either_holds, found_holds, ok_or_holds, judged_holds, lines_hold}
+use Rattle.fws_ipt.proofs.Users.{is_at, is_named, chain_found, longer_fits, longer_named, ruled_fits, ruled_named}
+
+-- what holds of a text so far
+record Standing (d : IptDraft) : Type 0 where
+  named : list_all is_named d.chains ≡ true
+  fitting : list_all (chain_fits d.chains) d.chains ≡ true
+
+-- Tables
+
+alone_stands : (ws : List Word) (d : IptDraft) → Standing d → IfOk (alone ws d) Standing
+alone_stands [] d h = h
+alone_stands (w ∷ ws) d h = tt
+
+table_stands : (name : List ℕ) (ws : List Word) (d : IptDraft) → Standing d → IfOk (table_line name ws d) Standing
+table_stands name ws d h =
+    found_holds Standing (section_named name) (λ section. opens section ws d) (Err LeftOut)
+    (λ section e. either_holds Standing _ (Err Syntax) (alone ws (opened_at section d)) (λ k. tt)
+    (λ k. alone_stands ws (opened_at section d) (record { named = h.named; fitting = h.fitting }))) tt
+
+commit_stands : (ws : List Word) (d : IptDraft) → Standing d → IfOk (commit_line ws d) Standing
+commit_stands ws d h =
+    let after : IptDraft = record d { within = None } in
+    either_holds Standing (is_some d.within) (alone ws after) (Err Syntax) (λ e. alone_stands ws after (record { named = h.named; fitting = h.fitting })) (λ e. tt)
+
+-- Declarations
+
+ends_stands : (ws : List Word) (d : IptDraft) → Standing d → IfOk (ends_declaration ws d) Standing
+ends_stands [] d h = h
+ends_stands (w ∷ ws) d h =
+    judged_holds Standing w _ (either_holds Standing (is_counters w.text) (alone ws d) (Err Syntax) (λ e. alone_stands ws d h) (λ e. tt))
+
+with_chain_stands : (table : IptTable) (name : List ℕ) (policy : Option Bool) (d : IptDraft) → is_named (record { table = table; name = name; policy = policy; rules = [] }) ≡ true
+    → Standing d → Standing (with_chain table name policy d)
+with_chain_stands table name policy d here h =
+    let chain : IptChain = record { table = table; name = name; policy = policy; rules = [] } in
+    record { named = longer_named d.chains chain here h.named; fitting = longer_fits d.chains chain refl h.fitting }
+
+-- a hook that was found names a built-in chain
+taken : (b : Bool) (x y : Hook) → (if b then Some x else None) ≡ Some y → b ≡ true
+taken true x y h = refl
+taken false x y h = cc
+
+hook_found : (table : IptTable) (o : Option Hook) (hook : Hook) → option_map_or (λ x. if has_hook table x then Some x else None) o None ≡ Some hook
+    → option_map_or (has_hook table) o false ≡ true
+hook_found table None hook h = cc
+hook_found table (Some found) hook h = taken (has_hook table found) found hook h
+
+with_builtin_stands : (section : Section) (hook : Hook) (name : List ℕ) (accepts : Bool) (d : IptDraft) → builtin_hook section name ≡ Some hook → Standing d
+    → Standing (with_builtin section hook name accepts d)
+with_builtin_stands (Met table) hook name accepts d e h = with_chain_stands table name (Some accepts) d (hook_found table (hook_named name) hook e) h
+with_builtin_stands Raw hook name accepts d e h = record { named = h.named; fitting = h.fitting }
+with_builtin_stands Security hook name accepts d e h = record { named = h.named; fitting = h.fitting }
+
+builtin_stands : (section : Section) (hook : Hook) (name : List ℕ) (ws : List Word) (d : IptDraft) → builtin_hook section name ≡ Some hook → Standing d
+    → IfOk (builtin_line section hook name ws d) Standing
+builtin_stands section hook name [] d e h = tt
+builtin_stands section hook name (w ∷ ws) d e h =
+    judged_holds Standing w _ (then_holds Standing (policy_of section w.text) (λ accepts. ends_declaration ws (with_builtin section hook name accepts d))
+    (λ accepts. ends_stands ws (with_builtin section hook name accepts d) (with_builtin_stands section hook name accepts d e h)))
+
+user_stands : (table : IptTable) (name : List ℕ) (ws : List Word) (d : IptDraft) → Standing d → IfOk (user_line table name ws d) Standing
+user_stands table name [] d h = tt
+user_stands table name (w ∷ ws) d h =
+    judged_holds Standing w _ (either_holds Standing (bytes_eq w.text (codes "-")) (ends_declaration ws (with_chain table name None d)) (Err Syntax)
+    (λ e. ends_stands ws (with_chain table name None d) (with_chain_stands table name None d refl h)) (λ e. tt))
+
+user_declared_stands : (section : Section) (name : List ℕ) (ws : List Word) (d : IptDraft) → Standing d → IfOk (user_declared section name ws d) Standing
+user_declared_stands (Met table) name ws d h =
+    either_holds Standing (bytes_eq name [] || is_some (chain_from 0 table name d.chains)) (Err Syntax) (user_line table name ws d) (λ e. tt)
+    (λ e. user_stands table name ws d h)
+user_declared_stands Raw name ws d h = either_holds Standing (bytes_eq name []) (Err Syntax) (Err LeftOut) (λ e. tt) (λ e. tt)
+user_declared_stands Security name ws d h = either_holds Standing (bytes_eq name []) (Err Syntax) (Err LeftOut) (λ e. tt) (λ e. tt)
+
+declared_stands : (section : Section) (name : List ℕ) (ws : List Word) (d : IptDraft) → Standing d → IfOk (declared_in section name ws d) Standing
+declared_stands section name ws d h =
+    found_holds Standing (builtin_hook section name) (λ hook. builtin_declared section hook name ws d) (user_declared section name ws d)
+    (λ hook e. either_holds Standing (is_declared section hook name d) (Err Syntax) (builtin_line section hook name ws d) (λ k. tt)
+    (λ k. builtin_stands section hook name ws d e h))
+    (user_declared_stands section name ws d h)
+
+chain_stands : (name : List ℕ) (ws : List Word) (d : IptDraft) → Standing d → IfOk (chain_line name ws d) Standing
+chain_stands name ws d h =
+    found_holds Standing d.within (λ section. declared_in section name ws d) (Err Syntax) (λ section e. declared_stands section name ws d h) tt
+
+-- Rules
+
+rule_stands : (site : Site) (table : IptTable) (name : List ℕ) (n : ℕ) (ws : List Word) (d : IptDraft) → is_at (is_chain table name) d.chains n ≡ true → Standing d
+    → IfOk (rule_line site table n ws d) Standing
+rule_stands site table name n ws d found h =
+    then_known (λ rule. fits table d.chains rule.go ≡ true) Standing (rule_of site table d.chains ws) (λ rule. Ok (record d { chains = with_rule n rule d.chains }))
+    (rule_fits site table d.chains ws h.named)
+    (λ rule k. record { named = ruled_named n rule d.chains h.named; fitting = ruled_fits table name n rule d.chains h.fitting found k })
+
+appended_stands : (site : Site) (table : IptTable) (ws : List Word) (d : IptDraft) → Standing d → IfOk (appended_in site table ws d) Standing
+appended_stands site table [] d h = tt
+appended_stands site table (w ∷ ws) d h =
+    judged_holds Standing w _ (then_known (λ n. is_at (is_chain table w.text) d.chains n ≡ true) Standing (chain_of_rule table w.text d) (λ n. rule_line site table n ws d)
+    (ok_or_holds (λ n. is_at (is_chain table w.text) d.chains n ≡ true) (chain_from 0 table w.text d.chains) NoName (chain_found table w.text d.chains))
+    (λ n found. rule_stands site table w.text n ws d found h))
+
+appended_to_stands : (site : Site) (section : Section) (ws : List Word) (d : IptDraft) → Standing d → IfOk (appended_to site section ws d) Standing
+appended_to_stands site (Met table) ws d h = appended_stands site table ws d h
+appended_to_stands site _ ws d h = tt
+
+append_stands : (site : Site) (ws : List Word) (d : IptDraft) → Standing d → IfOk (append_line site ws d) Standing
+append_stands site ws d h =
+    found_holds Standing d.within (λ section. appended_to site section ws d) (Err Syntax) (λ section e. appended_to_stands site section ws d h) tt
+
+counted_stands : (site : Site) (ws : List Word) (d : IptDraft) → Standing d → IfOk (counted_line site ws d) Standing
+counted_stands site [] d h = tt
+counted_stands site (w ∷ ws) d h =
+    judged_holds Standing w _ (either_holds Standing (bytes_eq w.text (codes "-A")) (append_line site ws d) (Err (out_of_place w.text)) (λ e. append_stands site ws d h) (λ e. tt))
+
+counters_stand : (site : Site) (text : List ℕ) (ws : List Word) (d : IptDraft) → Standing d → IfOk (counters_line site text ws d) Standing
+counters_stand site text ws d h =
+    either_holds Standing (is_some d.within && is_counters text) (counted_line site ws d) (Err Syntax) (λ e. counted_stands site ws d h) (λ e. tt)
+
+-- Lines
+
+word_stands : (site : Site) (text : List ℕ) (ws : List Word) (d : IptDraft) → Standing d → IfOk (word_line site text ws d) Standing
+word_stands site text ws d h =
+    either_holds Standing (bytes_eq text (codes "-A")) (append_line site ws d) _ (λ e. append_stands site ws d h)
+    (λ e. either_holds Standing (bytes_eq text (codes "COMMIT")) (commit_line ws d) _ (λ k. commit_stands ws d h)
+    (λ k. either_holds Standing (is_some (behind 91 text)) (counters_line site text ws d) (Err (out_of_place text)) (λ l. counters_stand site text ws d h) (λ l. tt)))
+
+first_stands : (site : Site) (text : List ℕ) (ws : List Word) (d : IptDraft) → Standing d → IfOk (first_step site text ws d) Standing
+first_stands site text ws d h =
+    found_holds Standing (behind 42 text) (λ name. table_line name ws d) _ (λ name e. table_stands name ws d h)
+    (found_holds Standing (behind 58 text) (λ name. chain_line name ws d) (word_line site text ws d) (λ name e. chain_stands name ws d h) (word_stands site text ws d h))
+
+words_stand : (site : Site) (ws : List Word) (d : IptDraft) → Standing d → IfOk (words_step site ws d) Standing
+words_stand site [] d h = h
+words_stand site (w ∷ ws) d h = judged_holds Standing w (first_step site w.text ws d) (first_stands site w.text ws d h)
+
+-- The whole text
+
+ended_fits : (past : ℕ) (d : IptDraft) → Standing d → IfOk (ended past d) (λ c. is_fitting c ≡ true)
+ended_fits past d h = either_holds (λ c. is_fitting c ≡ true) (is_some d.within) (Err _) (Ok (record { chains = d.chains })) (λ e. tt) (λ e. h.fitting)
+
+pub spelled_is_fitting : SpelledFits
+spelled_is_fitting site text c e =
+    let lines = read_of HashLine text in
+    IfOk-at_ok (λ c. is_fitting c ≡ true) e
+    (then_known Standing (λ c. is_fitting c ≡ true) (lines_read (line_step site) fresh_text lines.lines) (ended lines.past)
+    (lines_hold Standing (line_step site) (λ d l h. words_stand site l.words d h) fresh_text lines.lines (record { named = refl; fitting = refl }))
+    (ended_fits lines.past))

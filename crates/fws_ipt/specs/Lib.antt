@@ -1,0 +1,11 @@
+pub mod FileText
+pub mod FilterOnly
+pub mod Hooks
+pub mod Levels
+pub mod Options
+pub mod Refusals
+pub mod RuleText
+pub mod Soundness
+pub mod Steps
+pub mod Values
+pub mod Walk

@@ -1,0 +1,55 @@
+-- What holds of every configuration that a text spells.
+use Rattle.std.specs.Prelude.{◌≡◌, ℕ, Bool, true, false, ◌&&◌, not, slice_get, is_none, Ok, List}
+use Rattle.std.specs.List.{list_all}
+use Rattle.std.specs.Option.{option_map_or}
+use Rattle.fws_net.specs.declared.site.Site.{Site}
+use Rattle.fws_ipt.specs.declared.config.IptTable.{IptTable}
+use Rattle.fws_ipt.specs.declared.config.IptTable.TheVariants.{Nat, Mangle}
+use Rattle.fws_ipt.specs.declared.config.IptGo.{IptGo}
+use Rattle.fws_ipt.specs.declared.config.IptGo.TheVariants.{Accept, Drop, Return, Next, Jump, Goto, Mark, Source, Masquerade, Dest, Redirect}
+use Rattle.fws_ipt.specs.declared.config.IptChain.{IptChain}
+use Rattle.fws_ipt.specs.declared.config.IptConfig.{IptConfig}
+use Rattle.fws_ipt.specs.FileText.{spelled}
+use Rattle.fws_ipt.specs.FilterOnly.{is_filter_only}
+use Rattle.fws_ipt.specs.Walk.{is_table}
+
+-- the chain with this number is one of the user's in the table
+abbrev pub is_user_chain : IptTable → List IptChain → ℕ → Bool
+is_user_chain table chains c = option_map_or (λ chain. is_table table chain.table && is_none chain.policy) (slice_get chains c) false
+
+-- jumps and gotos name chains of the user's in the same table, marks are set in mangle, ends are written in nat, and nothing is dropped there
+abbrev pub fits : IptTable → List IptChain → IptGo → Bool
+fits table chains Accept = true
+fits table chains Drop = not (is_table Nat table)
+fits table chains Return = true
+fits table chains Next = true
+fits table chains (Jump c) = is_user_chain table chains c
+fits table chains (Goto c) = is_user_chain table chains c
+fits table chains (Mark v) = is_table Mangle table
+fits table chains (Source e) = is_table Nat table
+fits table chains Masquerade = is_table Nat table
+fits table chains (Dest e) = is_table Nat table
+fits table chains (Redirect port) = is_table Nat table
+
+abbrev pub chain_fits : List IptChain → IptChain → Bool
+chain_fits chains chain = list_all (λ rule. fits chain.table chains rule.go) chain.rules
+
+-- each rule of each chain fits
+abbrev pub is_fitting : IptConfig → Bool
+is_fitting c = list_all (chain_fits c.chains) c.chains
+
+-- what a text spells is fitting
+abbrev pub SpelledFits : Type 0
+SpelledFits = (site : Site) (text : List ℕ) (c : IptConfig) → spelled site text ≡ Ok c → is_fitting c ≡ true
+
+-- a rule that only filters
+abbrev pub decides_only : IptGo → Bool
+decides_only Accept = true
+decides_only Drop = true
+decides_only Return = true
+decides_only Next = true
+decides_only _ = false
+
+-- where a configuration only filters, its rules accept, drop, return or go on
+abbrev pub FilterOnlyRules : Type 0
+FilterOnlyRules = (c : IptConfig) → is_fitting c ≡ true → is_filter_only c ≡ true → list_all (λ chain. list_all (λ rule. decides_only rule.go) chain.rules) c.chains ≡ true

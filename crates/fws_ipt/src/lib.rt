@@ -1,0 +1,23 @@
+//! iptables, as iptables-save(8) writes it: what a text spells, and what a packet meets.
+#![tactic(auto)]
+
+mod config;
+mod draft;
+mod hook;
+mod laws;
+pub mod model;
+mod passage;
+mod plainness;
+mod refusal;
+#[cfg(test)]
+mod tests;
+mod words;
+
+pub use config::{IptChain, IptConfig, IptGo, IptRule, IptTable};
+pub use draft::{Expects, IptDraft, OtherChain, RuleDraft, Section};
+pub use hook::Hook;
+pub use laws::{filter_only_rules, spelled_fits};
+pub use passage::{ChainEnd, Passage};
+pub use plainness::filter_only;
+pub use refusal::UnfoldRefusal;
+pub use words::{Keyword, TargetOption, TargetWord, TestOption};

@@ -1,0 +1,62 @@
+//! What a rule sees of a packet (iptables(8), iptables-extensions(8)).
+
+ghost use Rattle.std.specs.Prelude.{◌≡◌, IfOk};
+ghost use Rattle.fws_net.specs.Routes.{IsSound};
+ghost use Rattle.fws_ipt.specs.Walk.{shows_recv, shows_xmit, view_at};
+
+use crate::hook::Hook;
+use crate::passage::Passage;
+use fws_net::{Site, View, sending_entry};
+use fws_num::{Items, Memory};
+use std::alloc::Global;
+
+/// Whether rules at the hook see the receiving interface.
+fn shows_recv(hook: Hook) -> bool
+    ensures { result ≡ shows_recv hook }
+{
+    match hook {
+        Hook::Prerouting | Hook::Input | Hook::Forward => true,
+        Hook::Output | Hook::Postrouting => false,
+    }
+}
+
+/// Whether rules at the hook see the sending interface.
+fn shows_xmit(hook: Hook) -> bool
+    ensures { result ≡ shows_xmit hook }
+{
+    match hook {
+        Hook::Prerouting | Hook::Input => false,
+        Hook::Forward | Hook::Output | Hook::Postrouting => true,
+    }
+}
+
+/// What a rule at the hook sees of a packet on its way.
+pub(crate) fn view_at(
+    alloc: Global,
+    site: &Site,
+    is_est: bool,
+    hook: Hook,
+    m: &Passage,
+) -> Result<View, Memory>
+    requires { IsSound site.now }
+    ensures { IfOk result (λ v. v ≡ view_at site.now is_est hook m.now) }
+{
+    let mut tags = Items::new(alloc);
+    tags.put(m.mark)?;
+    Ok(View {
+        packet: m.packet,
+        recv: if shows_recv(hook) {
+            m.packet.receiving()
+        } else {
+            None
+        },
+        xmit: if shows_xmit(hook) {
+            sending_entry(site, &m.packet)
+        } else {
+            None
+        },
+        outward: false,
+        est: is_est,
+        tags,
+    })
+}

@@ -1,0 +1,169 @@
+//! What a rule writes over a packet, and what becomes of an established one (iptables-extensions(8)).
+
+ghost use Rattle.std.specs.Prelude.{◌≡◌};
+ghost use Rattle.fws_ipt.specs.Walk.{rewritten, with_wrote, with_src, with_dst, with_mark, writes_dst_at, writes_src_at, masquerades_at, redirect_addr, masqueraded, with_rec_dst, with_rec_src, tracked_at};
+
+use crate::hook::Hook;
+use crate::passage::{ChainEnd, Passage};
+use fws_net::{End, Fate, LOOPBACK_ADDR, Packet, Rec, Rewrite, Site, face_addr};
+
+/// The packet that entered, with the ends over its fields.
+fn rewritten(p: &Packet, w: &Rewrite) -> Packet
+    ensures { result ≡ rewritten p.now w.now }
+{
+    let Fate::Sent {
+        dst,
+        dport,
+        src,
+        sport,
+    } = w.apply(p)
+    else {
+        unreachable!()
+    };
+    Packet {
+        dst,
+        dport,
+        src,
+        sport,
+        ..*p
+    }
+}
+
+/// The passage of the packet that entered as `p`, with these ends over its fields.
+fn with_wrote(p: &Packet, w: Rewrite, m: &Passage) -> Passage
+    ensures { result ≡ with_wrote p.now w m.now }
+{
+    Passage {
+        packet: rewritten(p, &w),
+        wrote: w,
+        ..*m
+    }
+}
+
+/// The passage with this end over the source.
+pub(crate) fn with_src(p: &Packet, end: End, m: &Passage) -> Passage
+    ensures { result ≡ with_src p.now end m.now }
+{
+    let wrote = Rewrite {
+        src: Some(end),
+        ..m.wrote
+    };
+    with_wrote(p, wrote, m)
+}
+
+/// The passage with this end over the destination.
+pub(crate) fn with_dst(p: &Packet, end: End, m: &Passage) -> Passage
+    ensures { result ≡ with_dst p.now end m.now }
+{
+    let wrote = Rewrite {
+        dst: Some(end),
+        ..m.wrote
+    };
+    with_wrote(p, wrote, m)
+}
+
+/// The passage with this mark.
+pub(crate) fn with_mark(mark: u32, m: &Passage) -> Passage
+    ensures { result ≡ with_mark mark m.now }
+{
+    Passage { mark, ..*m }
+}
+
+/// Whether DNAT and REDIRECT act at the hook.
+pub(crate) fn writes_dst_at(hook: Hook) -> bool
+    ensures { result ≡ writes_dst_at hook }
+{
+    match hook {
+        Hook::Prerouting | Hook::Output => true,
+        Hook::Input | Hook::Forward | Hook::Postrouting => false,
+    }
+}
+
+/// Whether SNAT acts at the hook.
+pub(crate) fn writes_src_at(hook: Hook) -> bool
+    ensures { result ≡ writes_src_at hook }
+{
+    match hook {
+        Hook::Input | Hook::Postrouting => true,
+        Hook::Prerouting | Hook::Forward | Hook::Output => false,
+    }
+}
+
+/// Whether MASQUERADE acts at the hook.
+pub(crate) fn masquerades_at(hook: Hook) -> bool
+    ensures { result ≡ masquerades_at hook }
+{
+    match hook {
+        Hook::Postrouting => true,
+        Hook::Prerouting | Hook::Input | Hook::Forward | Hook::Output => false,
+    }
+}
+
+/// The address that REDIRECT writes for the packet that entered as `p`.
+pub(crate) fn redirect_addr(site: &Site, p: &Packet) -> u32
+    ensures { result ≡ redirect_addr site.now p.now }
+{
+    if p.entry == 0 {
+        LOOPBACK_ADDR
+    } else {
+        face_addr(site, p.entry)
+    }
+}
+
+/// What MASQUERADE does to a packet that is sent to this interface.
+pub(crate) fn masqueraded(site: &Site, p: &Packet, xmit: Option<u8>, m: &Passage) -> ChainEnd
+    ensures { result ≡ masqueraded site.now p.now xmit m.now }
+{
+    match xmit {
+        None => ChainEnd::Through(*m),
+        Some(entry) => {
+            let end = End::host(face_addr(site, entry), None);
+            ChainEnd::Accepted(with_src(p, end, m))
+        }
+    }
+}
+
+/// The passage with the destination with which an established packet leaves.
+fn with_rec_dst(r: &Rec, m: &Passage) -> Passage
+    ensures { result ≡ with_rec_dst r.now m.now }
+{
+    let Fate::Sent { dst, dport, .. } = r.apply(&m.packet) else {
+        unreachable!()
+    };
+    Passage {
+        packet: Packet {
+            dst,
+            dport,
+            ..m.packet
+        },
+        ..*m
+    }
+}
+
+/// The passage with the source with which an established packet leaves.
+fn with_rec_src(r: &Rec, m: &Passage) -> Passage
+    ensures { result ≡ with_rec_src r.now m.now }
+{
+    let Fate::Sent { src, sport, .. } = r.apply(&m.packet) else {
+        unreachable!()
+    };
+    Passage {
+        packet: Packet {
+            src,
+            sport,
+            ..m.packet
+        },
+        ..*m
+    }
+}
+
+/// What becomes of an established packet where a chain of nat stands.
+pub(crate) fn tracked_at(r: &Rec, hook: Hook, m: &Passage) -> Passage
+    ensures { result ≡ tracked_at r.now hook m.now }
+{
+    match hook {
+        Hook::Prerouting | Hook::Output => with_rec_dst(r, m),
+        Hook::Input | Hook::Postrouting => with_rec_src(r, m),
+        Hook::Forward => *m,
+    }
+}
