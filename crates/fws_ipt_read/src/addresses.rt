@@ -1,0 +1,68 @@
+//! Addresses as `-s`, `-d`, `--src-range`, `--dst-range`, `--src-type` and `--dst-type` have them.
+
+ghost use Rattle.std.specs.Prelude.{◌≡◌};
+ghost use Rattle.std.specs.List.{list_all};
+ghost use Rattle.fws_net.specs.Ports.{address_range};
+ghost use Rattle.fws_ipt.specs.Values.{prefix_meaning, range_meaning, is_address_type, type_meaning};
+ghost use Rattle.fws_ipt_read.specs.Sets.{SetGiven};
+
+use crate::compared::is;
+use crate::literals::demand;
+use fws_iv::{Ivs, one};
+use fws_net::{Cause, LineFault, Site, local_set, prefix_set, read_address_range};
+use fws_num::{Text, pieces, read_prefix};
+use std::alloc::Global;
+
+/// The addresses of a prefix.
+pub(crate) fn read_prefix_set(alloc: Global, text: &[u8]) -> Result<Ivs, LineFault>
+    ensures { SetGiven result (λ test. prefix_meaning test text.now) }
+{
+    let prefix = demand(read_prefix(text))?;
+    Ok(prefix_set(alloc, &prefix)?)
+}
+
+/// The addresses of a range with a dash.
+pub(crate) fn read_range_set(alloc: Global, text: &[u8]) -> Result<Ivs, LineFault>
+    ensures { SetGiven result (λ test. range_meaning test (address_range text.now)) }
+{
+    let (lo, hi) = demand(read_address_range(text))?;
+    Ok(one(alloc, lo, hi)?)
+}
+
+fn is_address_type(text: &[u8]) -> bool
+    ensures { result ≡ is_address_type text.now }
+{
+    is(text, b"UNSPEC")
+        || is(text, b"UNICAST")
+        || is(text, b"LOCAL")
+        || is(text, b"BROADCAST")
+        || is(text, b"ANYCAST")
+        || is(text, b"MULTICAST")
+        || is(text, b"BLACKHOLE")
+        || is(text, b"UNREACHABLE")
+        || is(text, b"PROHIBIT")
+        || is(text, b"THROW")
+        || is(text, b"NAT")
+        || is(text, b"XRESOLVE")
+}
+
+fn are_address_types(items: &[Text]) -> bool
+    ensures { result ≡ list_all is_address_type items.now }
+{
+    items.iter().all(|item| is_address_type(item.as_slice()))
+}
+
+/// The addresses of the type LOCAL: those of the host. Other types, and several, are left out.
+pub(crate) fn read_type_set(alloc: Global, site: &Site, text: &[u8]) -> Result<Ivs, LineFault>
+    ensures { SetGiven result (λ test. type_meaning site.now test text.now) }
+{
+    if is(text, b"LOCAL") {
+        return Ok(local_set(alloc, site)?);
+    }
+    let items = pieces(alloc, b',', text)?;
+    if are_address_types(items.as_slice()) {
+        Err(LineFault::Bad(Cause::LeftOut))
+    } else {
+        Err(LineFault::Bad(Cause::Syntax))
+    }
+}

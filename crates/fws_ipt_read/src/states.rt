@@ -1,0 +1,91 @@
+//! States of connections, as `--state` and `--ctstate` have them.
+
+ghost use Rattle.std.specs.Prelude.{◌≡◌};
+ghost use Rattle.std.specs.List.{list_all, list_any};
+ghost use Rattle.std.specs.Str.{bytes_eq};
+ghost use Rattle.fws_net.specs.Reading.{CauseGiven};
+ghost use Rattle.fws_ipt.specs.Values.{is_state, is_translation_state, state_literal, states_meaning, state_meaning};
+
+use crate::compared::is;
+use crate::literals::positive;
+use fws_net::{Cause, LineFault, Lit, Test};
+use fws_num::{Text, pieces};
+use std::alloc::Global;
+
+fn is_state(text: &[u8]) -> bool
+    ensures { result ≡ is_state text.now }
+{
+    is(text, b"NEW")
+        || is(text, b"ESTABLISHED")
+        || is(text, b"RELATED")
+        || is(text, b"INVALID")
+        || is(text, b"UNTRACKED")
+        || is(text, b"SNAT")
+        || is(text, b"DNAT")
+}
+
+/// Whether it is a state of translated connections, which is left out.
+fn is_translation_state(text: &[u8]) -> bool
+    ensures { result ≡ is_translation_state text.now }
+{
+    is(text, b"SNAT") || is(text, b"DNAT")
+}
+
+fn are_states(items: &[Text]) -> bool
+    ensures { result ≡ list_all is_state items.now }
+{
+    items.iter().all(|item| is_state(item.as_slice()))
+}
+
+fn has_translation_state(items: &[Text]) -> bool
+    ensures { result ≡ list_any is_translation_state items.now }
+{
+    items
+        .iter()
+        .any(|item| is_translation_state(item.as_slice()))
+}
+
+/// Whether the name is among the items.
+fn has_state(name: &[u8], items: &[Text]) -> bool
+    ensures { result ≡ list_any (bytes_eq name.now) items.now }
+{
+    items.iter().any(|item| is(name, item.as_slice()))
+}
+
+/// The literal of new packets, of established ones, or of both: every packet is one or the other. The
+/// other states are those of no packet.
+fn state_literal(new: bool, established: bool) -> Option<Lit>
+    ensures { result ≡ state_literal new established }
+{
+    match (new, established) {
+        (true, true) => None,
+        (true, false) => Some(Lit {
+            not: true,
+            test: Test::Est,
+        }),
+        (false, true) => Some(positive(Test::Est)),
+        (false, false) => Some(positive(Test::Never)),
+    }
+}
+
+/// The literal of the states.
+fn states_meaning(items: &[Text]) -> Result<Option<Lit>, LineFault>
+    ensures { CauseGiven result (states_meaning items.now) }
+{
+    if !are_states(items) {
+        Err(LineFault::Bad(Cause::Syntax))
+    } else if has_translation_state(items) {
+        Err(LineFault::Bad(Cause::LeftOut))
+    } else {
+        Ok(state_literal(has_state(b"NEW", items), has_state(b"ESTABLISHED", items)))
+    }
+}
+
+/// The literal of states that commas join; none where it holds of every packet. SNAT and DNAT are left
+/// out.
+pub(crate) fn read_states(alloc: Global, text: &[u8]) -> Result<Option<Lit>, LineFault>
+    ensures { CauseGiven result (state_meaning text.now) }
+{
+    let items = pieces(alloc, b',', text)?;
+    states_meaning(items.as_slice())
+}
