@@ -1,0 +1,3 @@
+pub mod AreaChanges
+pub mod RowChanges
+pub mod Walking
