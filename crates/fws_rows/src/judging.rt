@@ -1,0 +1,110 @@
+//! Tables and refusals against the slow model.
+
+ghost use Rattle.fws_net.specs.Routes.{IsSound};
+
+use crate::sampling::{count, kind_of, packet_of, point_at};
+use crate::stop::Stop;
+use crate::table::{Row, read_table};
+use fws_ipt::model::{refusal, walk_packet};
+use fws_ipt::{IptConfig, UnfoldRefusal};
+use fws_net::Site;
+use fws_num::{Text, put_dec};
+use std::alloc::Global;
+
+/// How many of the packets of a row have another outcome than the row says.
+fn differing(
+    alloc: Global,
+    site: &Site,
+    config: &IptConfig,
+    est: bool,
+    row: &Row,
+) -> Result<u64, Stop>
+    requires { IsSound site.now }
+{
+    let mut differ: u64 = 0;
+    for index in 0..count(row) {
+        let point = point_at(row, index);
+        let outcome = walk_packet(
+            alloc,
+            config,
+            site,
+            &packet_of(&point),
+            &kind_of(est, &point),
+        )?;
+        if outcome != row.outcome {
+            differ = differ.saturating_add(1);
+        }
+    }
+    Ok(differ)
+}
+
+/// Walks the packets at the ends of each row of an expected table, and says how many rows agree.
+pub fn judge_table(
+    alloc: Global,
+    site: &Site,
+    config: &IptConfig,
+    expected: &[u8],
+) -> Result<Text, Stop>
+    requires { IsSound site.now }
+{
+    let table = read_table(alloc, site, expected)?;
+    let rows = table.rows.as_slice();
+    if rows.len() as u64 != u64::from(table.promised) {
+        return Err(Stop::Malformed);
+    }
+    let mut agreeing: u64 = 0;
+    for row in rows {
+        if differing(alloc, site, config, table.est, row)? == 0 {
+            agreeing = agreeing.saturating_add(1);
+        }
+    }
+    let mut said = Text::new(alloc);
+    put_dec(&mut said, agreeing)?;
+    said.put(b" of ")?;
+    put_dec(&mut said, u64::from(table.promised))?;
+    said.put(b" rows agree")?;
+    Ok(said)
+}
+
+/// The name of the chain with this number.
+fn chain_name(config: &IptConfig, chain: u32) -> &[u8] {
+    match config.chains.as_slice().get(chain as usize) {
+        Some(chain) => chain.name.as_slice(),
+        None => b"",
+    }
+}
+
+/// Whether a configuration is refused for this reason at this chain, where `none` is no refusal.
+fn is_refused_so(
+    config: &IptConfig,
+    found: Option<UnfoldRefusal>,
+    what: &[u8],
+    chain: &[u8],
+) -> bool {
+    match found {
+        None => what == b"none".as_slice(),
+        Some(UnfoldRefusal::Loop(c)) => what == b"loop".as_slice()
+            && chain == chain_name(config, c),
+        Some(UnfoldRefusal::Deep(c)) => what == b"deep".as_slice()
+            && chain == chain_name(config, c),
+        Some(UnfoldRefusal::Long(c)) => what == b"long".as_slice()
+            && chain == chain_name(config, c),
+    }
+}
+
+/// Says whether a configuration is refused for this reason at this chain.
+pub fn judge_refusal(
+    alloc: Global,
+    site: &Site,
+    config: &IptConfig,
+    what: &[u8],
+    chain: &[u8],
+) -> Result<Text, Stop> {
+    let found = refusal(alloc, site, config)?;
+    let said: &[u8] = if is_refused_so(config, found, what, chain) {
+        b"agrees"
+    } else {
+        b"differs"
+    };
+    Ok(Text::of(alloc, said)?)
+}
