@@ -14,7 +14,7 @@ use Rattle.fws_top.specs.declared.ask.Subject.{Subject}
 use Rattle.fws_top.specs.declared.ask.Subject.TheVariants.{Entry, Proto, Dst, Dport, Src, Sport, Flags, Icmp, Verdict}
 use Rattle.fws_top.specs.Asks.{items_of, number_of, item_has, set_has, HasValues, AreNarrowed}
 use Rattle.fws_top.proofs.Asking.{items_of-more, items_of-last}
-use Rattle.fws_top.proofs.Rows.{within_at, within-length}
+use Rattle.fws_top.proofs.Points.{within_at, within-length}
 
 -- one more number was tried, and passes
 pub tried_put : (f : ℕ → Bool) (old new : List Iv) (n : ℕ) → f n ≡ true → ((v : ℕ) → has new v ≡ (has old v || (nat_le n v && nat_le v n)))

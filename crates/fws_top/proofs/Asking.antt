@@ -4,7 +4,8 @@ use Rattle.std.proofs.lemmas.List.{append-nil}
 use Rattle.std.specs.List.{list_all}
 use Rattle.std.specs.Option.{option_map}
 use Rattle.fws_num.specs.Numbers.{split_once}
-use Rattle.fws_top.specs.Asks.{pieces_from, items_of}
+use Rattle.fws_num.specs.Pieces.{pieces_from}
+use Rattle.fws_top.specs.Asks.{items_of}
 
 -- the pieces that a first part and the text behind it make
 abbrev pub pieces_at : ℕ → List ℕ → List ℕ → Option (List ℕ × List ℕ) → List (List ℕ)

@@ -1,3 +1,3 @@
 mod AskSets
 mod Asking
-mod Rows
+mod Points

@@ -1,9 +1,10 @@
 -- The words of a query: `FIELD=SET`, each field at most once, and what they ask for.
-use Rattle.std.specs.Prelude.{◌≡◌, ◌≤◌, ℕ, ◌+◌, Bool, true, false, ◌&&◌, ◌||◌, not, nat_eq, nat_le, Option, Some, None, is_some, option_and_then, List, [], ◌∷◌, ◌++◌, length, slice_index, codes, if◌then◌else◌}
+use Rattle.std.specs.Prelude.{◌≡◌, ◌≤◌, ℕ, ◌+◌, Bool, true, false, ◌&&◌, ◌||◌, not, nat_eq, nat_le, Option, Some, None, is_some, option_and_then, List, [], ◌∷◌, length, slice_index, codes, if◌then◌else◌}
 use Rattle.std.specs.Option.{option_map_or, option_map}
 use Rattle.std.specs.Str.{bytes_eq}
 use Rattle.std.specs.List.{list_any, list_all, range_with_len}
 use Rattle.fws_num.specs.Numbers.{dec_of, quad_of, split_once}
+use Rattle.fws_num.specs.Pieces.{pieces_of}
 use Rattle.fws_iv.specs.declared.iv.Iv.{Iv}
 use Rattle.fws_iv.specs.Ivs.{has}
 use Rattle.fws_net.specs.declared.site.Site.{Site}
@@ -55,13 +56,9 @@ field_value Verdict text = None
 
 -- Sets
 
--- the texts between the bytes, one more than there are such bytes
-abbrev pub pieces_from : ℕ → List ℕ → List ℕ → List (List ℕ)
-pieces_from byte piece [] = piece ∷ []
-pieces_from byte piece (c ∷ cs) = if nat_eq c byte then piece ∷ pieces_from byte [] cs else pieces_from byte (piece ++ c ∷ []) cs
-
+-- the items of a set, between commas
 abbrev pub items_of : List ℕ → List (List ℕ)
-items_of set = pieces_from 44 [] set
+items_of set = pieces_of 44 set
 
 -- the range of an item `lo-hi` with lo at most hi
 abbrev pub ordered : Option ℕ → Option ℕ → Option (ℕ × ℕ)

@@ -1,5 +1,10 @@
 -- Which status and which text are due for the words of a command line and the files' bytes.
-use Rattle.std.specs.Prelude.{◌≡◌, ℕ, ◌≤◌, true, Option, Some, None, List, ◌⊎◌, length, take, nat_lt, if◌then◌else◌, MatchBool, MatchOption, MatchResult, IsOk}
+use Rattle.std.specs.Prelude.{◌≡◌, ℕ, ◌≤◌, true, Option, Some, None, List, ◌⊎◌, length, take, nat_lt, if◌then◌else◌, MatchBool, MatchResult, IsOk}
+use Rattle.fws_ipt.specs.declared.config.IptConfig.{IptConfig}
+use Rattle.fws_ipt.specs.FileText.{spelled as config_of}
+use Rattle.fws_ipt.specs.FilterOnly.{is_filter_only}
+use Rattle.fws_ipt.specs.Walk.{walk}
+use Rattle.fws_net.specs.declared.connection.Kind.TheVariants.{New}
 use Rattle.fws_net.specs.declared.outcome.Outcome.{Outcome}
 use Rattle.fws_net.specs.declared.packet.State.TheVariants.{Fresh}
 use Rattle.fws_net.specs.declared.site.Site.{Site}
@@ -9,25 +14,22 @@ use Rattle.fws_tree.specs.Plain.{Plain, value, IsWithin, IsReduced}
 use Rattle.fws_table.specs.TableText.{table_text}
 use Rattle.fws_table.specs.QueryText.{asked_leaf, query_text}
 use Rattle.fws_top.specs.Asks.{asks_have, asked_verdict, are_known}
-use Rattle.fws_top.specs.declared.plain.filter.PlainFilter.{PlainFilter}
 use Rattle.fws_top.specs.declared.status.Status.{Status}
 use Rattle.fws_top.specs.declared.status.Status.TheVariants as status
 use Rattle.fws_top.specs.declared.texts.TheConstants.{FILE_LIMIT, HELP, USAGE, VERSION}
 use Rattle.fws_top.specs.Forms.{Command, unknown, help, version, synth, query, command_of}
 use Rattle.fws_io.specs.Outside.{Rose, with_more}
-use Rattle.fws_top.specs.Lines.{cannot_read_line, too_long_line, not_built_line, site_refused_line}
-use Rattle.fws_top.specs.PlainText.{plain_of}
-use Rattle.fws_top.specs.PlainWalk.{walk_plain}
+use Rattle.fws_top.specs.Lines.{cannot_read_line, too_long_line, not_built_line, site_refused_line, config_refused_line}
 
 -- just this status and this text
 abbrev pub Says : Status → List ℕ → Status → List ℕ → Type 0
 Says due_status due_text s t = (s ≡ due_status) × (t ≡ due_text)
 
 -- the table of the reduced tree whose value at each packet is what the walk gives it
-pub record IsNewTable (filter : PlainFilter) (site : Site) (t : List ℕ) : Type 0 where
+pub record IsNewTable (config : IptConfig) (site : Site) (t : List ℕ) : Type 0 where
   pub tree : Plain Outcome
   pub reduced : IsReduced (tops_of site) tree
-  pub walked : (p : List ℕ) → IsWithin (tops_of site) p → value tree p ≡ Some (walk_plain filter site (packet_of p))
+  pub walked : (p : List ℕ) → IsWithin (tops_of site) p → value tree p ≡ Some (walk config site (packet_of p) New)
   pub spelled : t ≡ table_text site Fresh tree
 
 -- what the words of a query leave of an outcome: nothing where they don't ask for the packet or for the verdict
@@ -35,30 +37,35 @@ abbrev pub asked_part : Site → List (List ℕ) → List ℕ → Outcome → Op
 asked_part site asks p outcome = if asks_have site asks p then asked_leaf (asked_verdict asks) outcome else None
 
 -- the paths that hold something of the reduced tree whose value at each packet is what the words leave of the walk
-pub record IsAskedTable (filter : PlainFilter) (site : Site) (asks : List (List ℕ)) (t : List ℕ) : Type 0 where
+pub record IsAskedTable (config : IptConfig) (site : Site) (asks : List (List ℕ)) (t : List ℕ) : Type 0 where
   pub tree : Plain (Option Outcome)
   pub reduced : IsReduced (tops_of site) tree
-  pub asked : (p : List ℕ) → IsWithin (tops_of site) p → value tree p ≡ Some (asked_part site asks p (walk_plain filter site (packet_of p)))
+  pub asked : (p : List ℕ) → IsWithin (tops_of site) p → value tree p ≡ Some (asked_part site asks p (walk config site (packet_of p) New))
   pub spelled : t ≡ query_text site Fresh tree
 
 -- a file that is too long is refused; else its bytes decide
 abbrev pub DueFile : List ℕ → List ℕ → (Status → List ℕ → Type 0) → Status → List ℕ → Type 0
 DueFile name bytes Rest s t = MatchBool (nat_lt FILE_LIMIT (length bytes)) (Says status.Refused (too_long_line name) s t) (Rest s t)
 
--- a configuration that isn't of the plain form is refused; else its table is written
+-- a configuration that is refused is answered with its line and cause; one that does more than filter in built-in chains
+-- isn't built yet; else the rest decides
+abbrev pub DueConfig : List ℕ → List ℕ → Site → (IptConfig → Status → List ℕ → Type 0) → Status → List ℕ → Type 0
+DueConfig file bytes site Rest s t = MatchResult (config_of site bytes)
+    (λ config. MatchBool (is_filter_only config) (Rest config s t) (Says status.Refused (not_built_line file) s t))
+    (λ refusal. Says status.Refused (config_refused_line file refusal.line refusal.cause) s t)
+
+-- the table of the configuration is written
 abbrev pub DueTable : List ℕ → List ℕ → Site → Status → List ℕ → Type 0
-DueTable file bytes site s t = MatchOption (plain_of bytes) (Says status.Refused (not_built_line file) s t)
-    (λ filter. (s ≡ status.Ok) × IsNewTable filter site t)
+DueTable file bytes site s t = DueConfig file bytes site (λ config s t. (s ≡ status.Ok) × IsNewTable config site t) s t
 
 -- a site that is refused is answered with its line and cause; else the configuration decides
 abbrev pub DueSite : List ℕ → List ℕ → (Site → Status → List ℕ → Type 0) → Status → List ℕ → Type 0
 DueSite name bytes Rest s t = MatchResult (site_of bytes) (λ site. Rest site s t)
     (λ refusal. Says status.Refused (site_refused_line name refusal.line refusal.cause) s t)
 
--- a configuration that isn't of the plain form is refused; else the asked part of its table is written
+-- the asked part of the configuration's table is written
 abbrev pub DueQuery : List ℕ → List ℕ → Site → List (List ℕ) → Status → List ℕ → Type 0
-DueQuery file bytes site asks s t = MatchOption (plain_of bytes) (Says status.Refused (not_built_line file) s t)
-    (λ filter. (s ≡ status.Ok) × IsAskedTable filter site asks t)
+DueQuery file bytes site asks s t = DueConfig file bytes site (λ config s t. (s ≡ status.Ok) × IsAskedTable config site asks t) s t
 
 -- an entry that the site lacks is no form of the command line; else the configuration decides
 abbrev pub DueAsks : Site → List (List ℕ) → (Status → List ℕ → Type 0) → Status → List ℕ → Type 0

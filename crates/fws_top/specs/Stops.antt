@@ -1,6 +1,10 @@
 -- What the steps of a command answer in place of a value.
-use Rattle.std.specs.Prelude.{◌≡◌, ℕ, ◌<◌, false, Option, Some, None, Err, List, length, ◌⊎◌}
+use Rattle.std.specs.Prelude.{◌≡◌, ℕ, ◌<◌, false, Option, Some, Ok, Err, List, length, ◌⊎◌}
 use Rattle.fws_io.specs.Outside.{Rose}
+use Rattle.fws_ipt.specs.declared.config.IptConfig.{IptConfig}
+use Rattle.fws_ipt.specs.FileText.{spelled as config_of}
+use Rattle.fws_ipt.specs.FilterOnly.{is_filter_only}
+use Rattle.fws_net.specs.Reading.{Refusal as ConfigRefusal}
 use Rattle.fws_net.specs.SiteText.{Refusal, site_of}
 use Rattle.fws_net.specs.declared.site.Site.{Site}
 use Rattle.fws_top.specs.Asks.{are_known}
@@ -11,8 +15,7 @@ use Rattle.fws_top.specs.declared.status.Status.TheVariants as status
 use Rattle.fws_top.specs.declared.texts.TheConstants.{FILE_LIMIT, USAGE}
 use Rattle.fws_top.specs.Due.{IsAnswered}
 use Rattle.fws_top.specs.Forms.{Command}
-use Rattle.fws_top.specs.Lines.{cannot_read_line, too_long_line, not_built_line, site_refused_line}
-use Rattle.fws_top.specs.PlainText.{plain_of}
+use Rattle.fws_top.specs.Lines.{cannot_read_line, too_long_line, not_built_line, site_refused_line, config_refused_line}
 
 -- this refusal
 abbrev pub Refuses : List ℕ → Answer → Type 0
@@ -42,10 +45,22 @@ abbrev pub SiteStopped : List ℕ → List ℕ → Stop → Type 0
 SiteStopped name bytes (Due a) = SiteRefused name bytes a
 SiteStopped name bytes Memory = Unit {0}
 
--- the bytes of a configuration aren't of the plain form
-abbrev pub PlainStopped : List ℕ → List ℕ → Stop → Type 0
-PlainStopped name bytes (Due a) = (plain_of bytes ≡ None) × Refuses (not_built_line name) a
-PlainStopped name bytes Memory = Unit {0}
+-- the bytes of a configuration are refused
+pub record ConfigRefused (site : Site) (name bytes : List ℕ) (a : Answer) : Type 0 where
+  pub refusal : ConfigRefusal
+  pub read : config_of site bytes ≡ Err refusal
+  pub says : Refuses (config_refused_line name refusal.line refusal.cause) a
+
+-- the configuration does more than filter in built-in chains
+pub record NotBuilt (site : Site) (name bytes : List ℕ) (a : Answer) : Type 0 where
+  pub config : IptConfig
+  pub read : config_of site bytes ≡ Ok config
+  pub does_more : is_filter_only config ≡ false
+  pub says : Refuses (not_built_line name) a
+
+abbrev pub ConfigStopped : Site → List ℕ → List ℕ → Stop → Type 0
+ConfigStopped site name bytes (Due a) = ConfigRefused site name bytes a ⊎ NotBuilt site name bytes a
+ConfigStopped site name bytes Memory = Unit {0}
 
 -- the words name an entry that the site lacks
 abbrev pub AsksStopped : Site → List (List ℕ) → Stop → Type 0

@@ -1,22 +1,28 @@
 //! What a command answers, before anything is written.
 
 ghost use Rattle.std.specs.Prelude.{◌≡◌, ℕ, ◌≤◌, List, Option, length, true, IfOk, IfErr, OnOk};
-ghost use Rattle.fws_top.specs.Stops.{TakeStopped, SiteStopped, PlainStopped, AsksStopped, CommandStopped};
+ghost use Rattle.fws_top.specs.Stops.{TakeStopped, SiteStopped, ConfigStopped, AsksStopped, CommandStopped};
 ghost use Rattle.fws_net.specs.SiteText.{site_of};
 ghost use Rattle.fws_net.specs.Routes.{IsSound};
 ghost use Rattle.fws_top.specs.Due.{IsDue, IsAnswered};
 ghost use Rattle.fws_top.specs.Asks.{are_asks, are_known};
 ghost use Rattle.fws_top.specs.Forms.{Command, command_of, query, synth};
-ghost use Rattle.fws_top.specs.PlainText.{plain_of};
+ghost use Rattle.fws_ipt.specs.FileText.{spelled};
+ghost use Rattle.fws_ipt.specs.FilterOnly.{is_filter_only};
+ghost use Rattle.fws_ipt.specs.Soundness.{is_fitting};
 
 use crate::ask::are_known;
 use crate::form::{Form, read_form};
-use crate::lines::{cannot_read_line, not_built_line, site_refused_line, too_long_line};
-use crate::plain::{PlainFault, PlainFilter, asked_table, new_table, read_plain};
+use crate::lines::{
+    cannot_read_line, config_refused_line, not_built_line, site_refused_line, too_long_line,
+};
 use crate::status::Status;
+use crate::tables::{asked_table, new_table};
 use crate::texts::{FILE_LIMIT, HELP, USAGE, VERSION};
 use fws_io::{Shelf, ShelfAnswer};
-use fws_net::{Site, SiteAnswer, read_site};
+use fws_ipt::{IptConfig, filter_only};
+use fws_ipt_read::read;
+use fws_net::{ReadAnswer, Site, SiteAnswer, read_site};
 use fws_num::{Memory, Text};
 use std::alloc::Global;
 
@@ -83,19 +89,40 @@ fn take_site(alloc: Global, name: &[u8], bytes: &[u8]) -> Result<Site, Stop>
     }
 }
 
-/// The plain filter that the bytes spell, or the refusal of a file that isn't of this form.
-fn take_plain(alloc: Global, name: &[u8], bytes: &[u8]) -> Result<PlainFilter, Stop>
-    ensures given { IfOk result (λ filter. plain_of bytes.now ≡ Some filter) }
-    ensures stopped { IfErr result (PlainStopped name.now bytes.now) }
+/// The configuration that the bytes spell, or its refusal.
+fn take_spelled(alloc: Global, site: &Site, name: &[u8], bytes: &[u8]) -> Result<IptConfig, Stop>
+    requires { IsSound site.now }
+    ensures given { IfOk result (λ config. spelled site.now bytes.now ≡ Ok config) }
+    ensures fits { IfOk result (λ config. is_fitting config ≡ true) }
+    ensures stopped { IfErr result (ConfigStopped site.now name.now bytes.now) }
 {
-    match read_plain(alloc, bytes) {
-        Ok(filter) => Ok(filter),
-        Err(PlainFault::Memory) => Err(Stop::Memory),
-        Err(PlainFault::OtherForm) => Err(Stop::Due(Answer {
+    match read(alloc, bytes, site) {
+        Ok(config) => Ok(config),
+        Err(ReadAnswer::Memory) => Err(Stop::Memory),
+        Err(ReadAnswer::Refused { line, cause }) => Err(Stop::Due(Answer {
             status: Status::Refused,
-            text: not_built_line(alloc, name)?,
+            text: config_refused_line(alloc, name, line, cause)?,
         })),
     }
+}
+
+/// The configuration that the bytes spell, or its refusal, or that of one that does more than filter in
+/// built-in chains.
+fn take_config(alloc: Global, site: &Site, name: &[u8], bytes: &[u8]) -> Result<IptConfig, Stop>
+    requires { IsSound site.now }
+    ensures given { IfOk result (λ config. spelled site.now bytes.now ≡ Ok config) }
+    ensures fits { IfOk result (λ config. is_fitting config ≡ true) }
+    ensures filters { IfOk result (λ config. is_filter_only config ≡ true) }
+    ensures stopped { IfErr result (ConfigStopped site.now name.now bytes.now) }
+{
+    let config = take_spelled(alloc, site, name, bytes)?;
+    if !filter_only(&config) {
+        return Err(Stop::Due(Answer {
+            status: Status::Refused,
+            text: not_built_line(alloc, name)?,
+        }));
+    }
+    Ok(config)
 }
 
 /// The table of new packets.
@@ -112,8 +139,8 @@ fn synth<S: Shelf>(
     let site_bytes = take(alloc, shelf, site_name)?;
     let site = take_site(alloc, site_name, site_bytes.as_slice())?;
     let file_bytes = take(alloc, shelf, file_name)?;
-    let filter = take_plain(alloc, file_name, file_bytes.as_slice())?;
-    Ok(new_table(alloc, &site, &filter)?)
+    let config = take_config(alloc, &site, file_name, file_bytes.as_slice())?;
+    Ok(new_table(alloc, &site, &config)?)
 }
 
 /// A site that lacks an entry that the words name makes them no command.
@@ -145,17 +172,18 @@ fn query<S: Shelf>(
     let site = take_site(alloc, site_name, site_bytes.as_slice())?;
     know_entries(alloc, &site, asks)?;
     let file_bytes = take(alloc, shelf, file_name)?;
-    let filter = take_plain(alloc, file_name, file_bytes.as_slice())?;
-    Ok(asked_table(alloc, &site, &filter, asks)?)
+    let config = take_config(alloc, &site, file_name, file_bytes.as_slice())?;
+    Ok(asked_table(alloc, &site, &config, asks)?)
 }
 
 /// The text of a status that needs no file.
 fn said(alloc: Global, status: Status, text: &[u8]) -> Result<Answer, Memory>
     ensures { IfOk result (λ answer. (answer.status ≡ status) × (answer.text ≡ text.now)) }
 {
-    let mut out = Text::new(alloc);
-    out.put(text)?;
-    Ok(Answer { status, text: out })
+    Ok(Answer {
+        status,
+        text: Text::of(alloc, text)?,
+    })
 }
 
 /// The text of a command that went well, or the answer in its place.

@@ -6,9 +6,9 @@ mod ask;
 mod ask_set;
 mod form;
 mod lines;
-mod plain;
 mod running;
 mod status;
+mod tables;
 #[cfg(test)]
 mod tests;
 mod texts;

@@ -53,10 +53,19 @@ fn told(alloc: Global, words: &[&str], site: &[u8], file: &[u8]) -> Result<(Stat
 
 #[test]
 fn tables(rt: HostRuntime) -> Result<(), Fail> {
-    let table: [(&[u8], &[u8], &[u8]); 8] = [
+    let table: [(&[u8], &[u8], &[u8]); 9] = [
         (SITE, OPEN, OPEN_TABLE),
         (SITE, b"", OPEN_TABLE),
-        (SITE, b"*filter\nCOMMIT", OPEN_TABLE),
+        (
+            SITE,
+            b"*filter\nCOMMIT\n*nat\n:OUTPUT ACCEPT\nCOMMIT",
+            OPEN_TABLE,
+        ),
+        (
+            SITE,
+            b"*filter\n:INPUT ACCEPT [0:0]\n:FORWARD DROP [0:0]\n:OUTPUT ACCEPT [0:0]\n-A FORWARD -p tcp -m tcp --dport 22 -j ACCEPT\nCOMMIT\n",
+            b"table new 6\nhost * * * * * * * : accept\nlo,lan,wan 0-5,7-255 0.0.0.0-10.0.0.0,10.0.0.2-126.255.255.255,128.0.0.0-203.0.113.1,203.0.113.3-255.255.255.255 * * * * * : drop\nlo,lan,wan 0-5,7-255 10.0.0.1,127.0.0.0-127.255.255.255,203.0.113.2 * * * * * : accept\nlo,lan,wan 6 0.0.0.0-10.0.0.0,10.0.0.2-126.255.255.255,128.0.0.0-203.0.113.1,203.0.113.3-255.255.255.255 0-21,23-65535 * * * * : drop\nlo,lan,wan 6 0.0.0.0-10.0.0.0,10.0.0.2-126.255.255.255,128.0.0.0-203.0.113.1,203.0.113.3-255.255.255.255 22 * * * * : accept\nlo,lan,wan 6 10.0.0.1,127.0.0.0-127.255.255.255,203.0.113.2 * * * * * : accept\n",
+        ),
         (
             SITE,
             b"*filter\n:INPUT DROP [0:0]\n:FORWARD DROP [0:0]\n:OUTPUT DROP [0:0]\n-A FORWARD -d 255.255.255.255/32 -j ACCEPT\nCOMMIT\n",
@@ -97,32 +106,47 @@ fn tables(rt: HostRuntime) -> Result<(), Fail> {
 }
 
 #[test]
-fn other_forms(rt: HostRuntime) -> Result<(), Fail> {
-    let table: [&[u8]; 22] = [
-        b"*nat\nCOMMIT\n",
-        b"*filter\n",
-        b"*filter\nCOMMIT\n*filter\nCOMMIT\n",
-        b"*filter\nCOMMIT\n:INPUT ACCEPT\n",
-        b":INPUT ACCEPT\n*filter\nCOMMIT\n",
-        b"COMMIT\n",
-        b"*filter extra\nCOMMIT\n",
-        b"*filter\n:INPUT ACCEPT [0:0]\n:INPUT ACCEPT [0:0]\nCOMMIT\n",
-        b"*filter\n:INPUT -\nCOMMIT\n",
-        b"*filter\n:USER - [0:0]\nCOMMIT\n",
-        b"*filter\n:INPUT ACCEPT [0:0\nCOMMIT\n",
-        b"*filter\n:INPUT ACCEPT [0:18446744073709551616]\nCOMMIT\n",
-        b"*filter\n:INPUT ACCEPT [0:0] more\nCOMMIT\n",
-        b"*filter\n-A INPUT -j DROP\nCOMMIT\n",
-        b"*filter\n:INPUT ACCEPT\n-A INPUT -j REJECT\nCOMMIT\n",
-        b"*filter\n:INPUT ACCEPT\n-A INPUT -d 1.2.3.4 -s 1.2.3.4 -j DROP\nCOMMIT\n",
-        b"*filter\n:INPUT ACCEPT\n-A INPUT -s 1.2.3.4 -s 1.2.3.4 -j DROP\nCOMMIT\n",
-        b"*filter\n:INPUT ACCEPT\n-A INPUT -s 1.2.3.4/33 -j DROP\nCOMMIT\n",
-        b"*filter\n:INPUT ACCEPT\n-A INPUT ! -s 1.2.3.4 -j DROP\nCOMMIT\n",
-        b"*filter\n:INPUT ACCEPT\n[0:0] -A INPUT -j DROP\nCOMMIT\n",
-        b"*filter\n:INPUT ACCEPT\n-A INPUT -j DROP more\nCOMMIT\n",
-        b"*filter\n:INPUT ACCEPT\n-A INPUT -j \"DROP\nCOMMIT\n",
+fn refusals(rt: HostRuntime) -> Result<(), Fail> {
+    let table: [(&[u8], &[u8]); 10] = [
+        (b"*filter\n:USER -\nCOMMIT\n", b"refused F not-built\n"),
+        (
+            b"*nat\n:PREROUTING ACCEPT\n-A PREROUTING -j DNAT --to-destination 10.0.0.5\nCOMMIT\n",
+            b"refused F not-built\n",
+        ),
+        (
+            b"*mangle\n:FORWARD DROP\nCOMMIT\n",
+            b"refused F not-built\n",
+        ),
+        (
+            b"*filter\n:INPUT ACCEPT [0:0]\n-A INPUT -m tcp --dport 22 -j ACCEPT\nCOMMIT\n",
+            b"refused F line 3 shape\n",
+        ),
+        (
+            b"*filter\n:INPUT ACCEPT [0:0]\n-A INPUT -i eth9 -j DROP\nCOMMIT\n",
+            b"refused F line 3 no-interface\n",
+        ),
+        (
+            b"*filter\n:INPUT ACCEPT [0:0]\n-A INPUT -j NOPE\nCOMMIT\n",
+            b"refused F line 3 no-name\n",
+        ),
+        (
+            b"*filter\n:INPUT ACCEPT [0:0]\n-A INPUT -m owner -j DROP\nCOMMIT\n",
+            b"refused F line 3 left-out\n",
+        ),
+        (
+            b"*filter\n:INPUT ACCEPT [0:0]\n-A INPUT -s 10.0.0.256 -j DROP\nCOMMIT\n",
+            b"refused F line 3 syntax\n",
+        ),
+        (
+            b"*filter\n:INPUT ACCEPT [0:0]\n",
+            b"refused F line 3 syntax\n",
+        ),
+        (
+            b"*filter\n:INPUT ACCEPT\n-A INPUT -j NOPE\n-A INPUT -i eth9\nCOMMIT\n",
+            b"refused F line 3 no-name\n",
+        ),
     ];
-    for file in table {
+    for (file, wanted) in table {
         let (status, written) = told(
             rt.alloc(),
             &["synth", "iptables", "S", "F", "new"],
@@ -130,7 +154,7 @@ fn other_forms(rt: HostRuntime) -> Result<(), Fail> {
             file,
         )?;
         assert_eq!(rt; status, Status::Refused);
-        assert_eq!(rt; written.as_slice(), b"refused F not-built\n".as_slice());
+        assert_eq!(rt; written.as_slice(), wanted);
     }
     Ok(())
 }

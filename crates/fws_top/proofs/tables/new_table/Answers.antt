@@ -1,4 +1,4 @@
-use Rattle.fws_top.proofs.plain.table.new_table.Goals as goal
+use Rattle.fws_top.proofs.tables.new_table.Goals as goal
 
 pub returns : goal.returns
 returns c = record {
