@@ -1,6 +1,7 @@
 #!/usr/bin/env bash
-# Runs the built program over plain filter files of growing length, and prints a line `rules seconds megabytes rows`
-# for each; then makes trees of growing numbers of rows that have cuts of their own in four fields, and prints a line
+# Runs the built program over filter files of growing length, and prints a line `rules seconds megabytes rows` for each;
+# then over texts of up to 4 MiB that are read and not executed, and prints a line `mebibytes seconds megabytes` for each;
+# then makes trees of growing numbers of rows that have cuts of their own in four fields, and prints a line
 # `rows paths seconds` for each. Exit status 1 where a bound is passed. Build first: ./fws --build
 set -u
 top=$(cd "$(dirname "$0")/.." && pwd)
@@ -18,6 +19,11 @@ measure() { # rules family seconds megabytes
 echo 'rules seconds megabytes rows'
 for rules in 50 100 200 400; do measure "$rules" overlapping 5 1024; done
 measure 4000 apart 120 4096
+
+echo 'mebibytes seconds megabytes'
+for size in 0.5 1 2 4; do
+    python3 "$top/bench/reading.py" "$size" 10 2048 "$program" "$top/examples/site.txt" || status=1
+done
 
 cuts=$top/crates/fws_bench/out/fws_bench
 [ -x "$cuts" ] || (cd "$top/crates/fws_bench" && rt run -- 8) >/dev/null 2>&1 </dev/null

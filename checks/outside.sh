@@ -59,7 +59,7 @@ odd=$'-a name\nwith a line feed'
 cp -- F "$odd"
 check 'an odd name' "$table"$'\nstatus 0' "$(told "$program" synth iptables S "$odd" new)"
 printf '*nat\n' >"$odd"
-check 'an odd name that is refused' "refused $odd not-built"$'\nstatus 3' "$(told "$program" synth iptables S "$odd" new)"
+check 'an odd name that is refused' "refused $odd line 2 syntax"$'\nstatus 3' "$(told "$program" synth iptables S "$odd" new)"
 rm -- "$odd"
 check 'an odd name that is absent' "cannot read $odd"$'\nstatus 4' "$(told "$program" synth iptables S "$odd" new)"
 

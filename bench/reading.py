@@ -1,0 +1,61 @@
+"""python3 reading.py MEBIBYTES SECONDS MEGABYTES COMMAND SITE
+
+Writes rules of every kind into a chain of the user's, up to so many mebibytes, and runs the command over them. The whole
+text is read before the program answers that user chains aren't built yet, so that the time is that of reading. Prints a
+line `mebibytes seconds megabytes`. Exit status 1 past the bounds, or where the command ends otherwise.
+"""
+
+import os
+import resource
+import subprocess
+import sys
+import tempfile
+import time
+
+RULES = (
+    '-A USER -s 10.%d.%d.0/24 -d 172.16.%d.0/28 -p tcp -m tcp --dport %d -j ACCEPT',
+    '-A USER -i eth0 -p udp -m multiport --dports %d,1000:%d -m conntrack --ctstate NEW,ESTABLISHED -j RETURN',
+    '-A USER -p icmp -m icmp --icmp-type %d -m comment --comment "no %d" -j DROP',
+    '-A USER -m mark --mark 0x%x/0xffffffff -m iprange --src-range 10.0.0.1-10.0.%d.9 -g USER%d',
+)
+
+
+def rule(k):
+    kind = k % 4
+    numbers = ((k >> 8 & 255, k & 255, 7 * k & 255, 1 + k % 60000), (1 + k % 900, 1000 + k % 9000), (k % 255, k),
+               (k, k & 255, k % 500))
+    return RULES[kind] % numbers[kind]
+
+
+def text(size):
+    lines = ['*filter', ':INPUT ACCEPT [0:0]', ':USER - [0:0]']
+    lines += [':USER%d - [0:0]' % k for k in range(500)]
+    length = sum(len(line) + 1 for line in lines)
+    k = 0
+    while True:
+        line = rule(k)
+        if length + len(line) + 8 > size:
+            break
+        lines.append(line)
+        length += len(line) + 1
+        k += 1
+    return '\n'.join(lines + ['COMMIT', ''])
+
+
+def main(mebibytes, seconds, megabytes, program, site):
+    with tempfile.TemporaryDirectory() as work:
+        name = os.path.join(work, 'rules')
+        with open(name, 'w') as f:
+            f.write(text(int(mebibytes * 2**20)))
+        begun = time.monotonic()
+        ended = subprocess.run([program, 'synth', 'iptables', site, name, 'new'], stdout=subprocess.PIPE, timeout=300)
+        taken = time.monotonic() - begun
+    used = resource.getrusage(resource.RUSAGE_CHILDREN).ru_maxrss / 1024
+    if ended.returncode != 3 or not ended.stdout.endswith(b' not-built\n'):
+        print(mebibytes, 'ended with status', ended.returncode, ended.stdout[:200].decode())
+        return 1
+    print('%g' % mebibytes, '%.2f' % taken, '%.0f' % used)
+    return 0 if taken <= seconds and used <= megabytes else 1
+
+
+sys.exit(main(float(sys.argv[1]), float(sys.argv[2]), float(sys.argv[3]), sys.argv[4], sys.argv[5]))
