@@ -39,7 +39,7 @@ joined-at false byte c cs e more parts h =
     let one = map-some (λ (p : List ℕ × List ℕ). (c ∷ p.0, p.1)) (split_once byte cs) parts h in
     rw (← one.1.1) (ap (λ (l : List ℕ). c ∷ l) (more one.0 one.1.0))
 
-split-joined : (byte : ℕ) (text : List ℕ) (parts : List ℕ × List ℕ) → split_once byte text ≡ Some parts → text ≡ parts.0 ++ byte ∷ parts.1
+pub split-joined : (byte : ℕ) (text : List ℕ) (parts : List ℕ × List ℕ) → split_once byte text ≡ Some parts → text ≡ parts.0 ++ byte ∷ parts.1
 split-joined byte [] parts h = cc
 split-joined byte (c ∷ cs) parts h = joined-at (nat_eq c byte) byte c cs (eqb-true c byte) (split-joined byte cs) parts h
 

@@ -1,7 +1,9 @@
 pub mod Comments
 pub mod Lines
+pub mod Named
 pub mod Numbers
 pub mod Pieces
 pub mod Protocols
 pub mod Services
 pub mod Words
+pub mod Written

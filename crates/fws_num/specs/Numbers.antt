@@ -1,5 +1,5 @@
 -- Numbers, addresses and prefixes as they are spelled.
-use Rattle.std.specs.Prelude.{◌≡◌, ◌<◌, ◌≤◌, ℕ, zero, suc, ◌+◌, ◌-◌, ◌*◌, ◌/◌, ◌%◌, ◌^◌, Bool, false, ◌&&◌, nat_eq, nat_le, Option, Some, None, option_and_then, List, [], ◌∷◌, ◌++◌, length, find, if◌then◌else◌}
+use Rattle.std.specs.Prelude.{◌≡◌, ◌≢◌, ◌<◌, ◌≤◌, ℕ, zero, suc, ◌+◌, ◌-◌, ◌*◌, ◌/◌, ◌%◌, ◌^◌, Bool, true, false, ◌&&◌, ◌||◌, not, nat_eq, nat_le, Option, Some, None, option_and_then, List, [], ◌∷◌, ◌++◌, length, find, if◌then◌else◌}
 use Rattle.std.specs.Fmt.{decimal}
 use Rattle.std.specs.List.{list_all, range_with_len}
 use Rattle.std.specs.Option.{option_map, option_map_or}
@@ -23,6 +23,10 @@ abbrev pub dec_of : List ℕ → ℕ → Option ℕ
 dec_of text most =
     if list_all is_digit text && nat_le 1 (length text) && nat_le (length text) 20 && nat_le (digits_value text) most
     then Some (digits_value text) else None
+
+-- no byte of the text is this one
+abbrev pub lacks : ℕ → List ℕ → Bool
+lacks byte text = list_all (λ c. not (nat_eq c byte)) text
 
 -- what stands before the first such byte and what stands behind it
 abbrev pub split_once : ℕ → List ℕ → Option (List ℕ × List ℕ)
@@ -87,3 +91,24 @@ DecimalsAreRead = (n most : ℕ) → n < 2 ^ 64 → n ≤ most → dec_of (decim
 abbrev pub QuadsAreDotted : Type 0
 QuadsAreDotted = ((a : ℕ) → a < 2 ^ 32 → quad_of (dotted a) ≡ Some a)
     × ((text : List ℕ) (a : ℕ) → quad_of text ≡ Some a → (a < 2 ^ 32) × (text ≡ dotted a))
+
+-- what is read of a spelled prefix is that prefix
+abbrev pub PrefixesAreRead : Type 0
+PrefixesAreRead = (a n : ℕ) → a < 2 ^ 32 → n ≤ 32 → prefix_of (dotted a ++ 47 ∷ decimal n) ≡ Some (record { addr = first_bits n a; len = n })
+
+-- a text is divided at the byte behind a front that lacks it
+abbrev pub SplitsBack : Type 0
+SplitsBack = (byte : ℕ) (front behind : List ℕ) → lacks byte front ≡ true → split_once byte (front ++ byte ∷ behind) ≡ Some (front, behind)
+
+-- what stands behind the byte at which a text is divided is shorter than the text, and the two parts with the byte between are the text
+abbrev pub BehindIsShorter : Type 0
+BehindIsShorter = (byte : ℕ) (text front behind : List ℕ) → split_once byte text ≡ Some (front, behind)
+    → (length behind < length text) × (text ≡ front ++ byte ∷ behind)
+
+-- a spelled number has digits alone, and at least one
+abbrev pub NumbersAreDigits : Type 0
+NumbersAreDigits = (n : ℕ) → (list_all is_digit (decimal n) ≡ true) × (decimal n ≢ [])
+
+-- a spelled address has digits and dots alone, and isn't empty
+abbrev pub AddressesAreDotted : Type 0
+AddressesAreDotted = (a : ℕ) → (list_all (λ c. is_digit c || nat_eq c 46) (dotted a) ≡ true) × (dotted a ≢ [])

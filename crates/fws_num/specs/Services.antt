@@ -1,58 +1,24 @@
--- Ports as they are spelled: numbers and service names (IANA's registry of service names, as services(5) has them).
+-- Ports as they are spelled: numbers and names of services.
 use Rattle.std.specs.Prelude.{ℕ, ◌&&◌, nat_eq, Option, Some, None, is_some, List, [], ◌∷◌, ◌++◌, codes, if◌then◌else◌}
 use Rattle.std.specs.Option.{option_map_or}
-use Rattle.std.specs.Str.{bytes_eq}
+use Rattle.fws_num.specs.Named.{named_in}
 use Rattle.fws_num.specs.Numbers.{dec_of}
 
--- the port of a service below 100
-abbrev pub low_service : List ℕ → Option ℕ
-low_service name =
-    if bytes_eq name (codes "ftp-data") then Some 20
-    else if bytes_eq name (codes "ftp") then Some 21
-    else if bytes_eq name (codes "ssh") then Some 22
-    else if bytes_eq name (codes "telnet") then Some 23
-    else if bytes_eq name (codes "smtp") then Some 25
-    else if bytes_eq name (codes "domain") then Some 53
-    else if bytes_eq name (codes "bootps") then Some 67
-    else if bytes_eq name (codes "bootpc") then Some 68
-    else if bytes_eq name (codes "tftp") then Some 69
-    else if bytes_eq name (codes "http") then Some 80
-    else if bytes_eq name (codes "www") then Some 80
-    else None
-
--- the port of a service from 100 to 199
-abbrev pub middle_service : List ℕ → Option ℕ
-middle_service name =
-    if bytes_eq name (codes "pop3") then Some 110
-    else if bytes_eq name (codes "ident") then Some 113
-    else if bytes_eq name (codes "nntp") then Some 119
-    else if bytes_eq name (codes "ntp") then Some 123
-    else if bytes_eq name (codes "netbios-ns") then Some 137
-    else if bytes_eq name (codes "netbios-dgm") then Some 138
-    else if bytes_eq name (codes "netbios-ss") then Some 139
-    else if bytes_eq name (codes "imap") then Some 143
-    else if bytes_eq name (codes "snmp") then Some 161
-    else if bytes_eq name (codes "snmptrap") then Some 162
-    else if bytes_eq name (codes "bgp") then Some 179
-    else None
-
--- the port of a service from 200 on
-abbrev pub high_service : List ℕ → Option ℕ
-high_service name =
-    if bytes_eq name (codes "https") then Some 443
-    else if bytes_eq name (codes "smtps") then Some 465
-    else if bytes_eq name (codes "isakmp") then Some 500
-    else if bytes_eq name (codes "syslog") then Some 514
-    else if bytes_eq name (codes "lpd") then Some 515
-    else if bytes_eq name (codes "rip") then Some 520
-    else if bytes_eq name (codes "imaps") then Some 993
-    else if bytes_eq name (codes "pop3s") then Some 995
-    else if bytes_eq name (codes "non500-isakmp") then Some 4500
-    else None
+-- services and their ports, as services(5) has them from IANA's registry of service names; lpd, rip and non500-isakmp are of Cisco IOS
+abbrev pub service_names : List (List ℕ × ℕ)
+service_names =
+    (codes "ftp-data", 20) ∷ (codes "ftp", 21) ∷ (codes "ssh", 22) ∷ (codes "telnet", 23) ∷ (codes "smtp", 25) ∷
+    (codes "domain", 53) ∷ (codes "bootps", 67) ∷ (codes "bootpc", 68) ∷ (codes "tftp", 69) ∷
+    (codes "http", 80) ∷ (codes "www", 80) ∷ (codes "pop3", 110) ∷ (codes "ident", 113) ∷ (codes "nntp", 119) ∷
+    (codes "ntp", 123) ∷ (codes "netbios-ns", 137) ∷ (codes "netbios-dgm", 138) ∷ (codes "netbios-ss", 139) ∷
+    (codes "imap", 143) ∷ (codes "snmp", 161) ∷ (codes "snmptrap", 162) ∷ (codes "bgp", 179) ∷
+    (codes "https", 443) ∷ (codes "smtps", 465) ∷ (codes "isakmp", 500) ∷ (codes "syslog", 514) ∷
+    (codes "lpd", 515) ∷ (codes "rip", 520) ∷ (codes "imaps", 993) ∷ (codes "pop3s", 995) ∷
+    (codes "non500-isakmp", 4500) ∷ []
 
 -- the port of a service
-abbrev pub service_of : List ℕ → Option ℕ
-service_of name = option_map_or Some (low_service name) (option_map_or Some (middle_service name) (high_service name))
+unfoldable pub service_of : List ℕ → Option ℕ
+service_of name = named_in service_names name
 
 -- a port: a decimal 0 to 65535 or the name of a service
 abbrev pub port_of : List ℕ → Option ℕ

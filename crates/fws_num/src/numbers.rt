@@ -1,7 +1,7 @@
 //! Numbers and addresses as they are spelled.
 
 ghost use Rattle.std.specs.Prelude.{◌≡◌, ◌≤◌, Some, None, MatchOption, IfSome};
-ghost use Rattle.fws_num.specs.Numbers.{DecimalsAreRead, QuadsAreDotted, dec_of, has_leading_zero, octet_before_dot, octet_of, quad_of, split_once};
+ghost use Rattle.fws_num.specs.Numbers.{dec_of, has_leading_zero, octet_before_dot, octet_of, quad_of, split_once};
 
 /// The number of 1 to 20 decimal digits, if it is at most the limit.
 pub fn read_dec(text: &[u8], most: u64) -> Option<u64>
@@ -85,14 +85,3 @@ pub fn read_quad(text: &[u8]) -> Option<u32>
     let d = read_octet(rest)?;
     Some(((u32::from(a) * 256 + u32::from(b)) * 256 + u32::from(c)) * 256 + u32::from(d))
 }
-
-/// What is read of a spelled number is that number: a law, with nothing to do.
-pub fn decimals_are_read()
-    ensures { DecimalsAreRead }
-{}
-
-/// What is read of a spelled address is that address, and nothing else is read: a law, with nothing
-/// to do.
-pub fn quads_are_dotted()
-    ensures { QuadsAreDotted }
-{}

@@ -1,54 +1,44 @@
 //! IP protocols as they are spelled: numbers and names.
 
 ghost use Rattle.std.specs.Prelude.{◌≡◌};
-ghost use Rattle.fws_num.specs.Protocols.{protocol_named, protocol_of};
+ghost use Rattle.fws_num.specs.Protocols.{ios_protocol_of, protocol_named, protocol_of};
 
-use crate::compared::is;
+use crate::named::value_named;
 use crate::numbers::read_dec;
 
+/// Protocols by their names in protocols(5), which has them from IANA's registry of protocol numbers.
+const PROTOCOLS: [(&[u8], u8); 16] = [
+    (b"icmp", 1),
+    (b"igmp", 2),
+    (b"ipencap", 4),
+    (b"tcp", 6),
+    (b"udp", 17),
+    (b"dccp", 33),
+    (b"ipv6", 41),
+    (b"gre", 47),
+    (b"esp", 50),
+    (b"ah", 51),
+    (b"eigrp", 88),
+    (b"ospf", 89),
+    (b"pim", 103),
+    (b"vrrp", 112),
+    (b"sctp", 132),
+    (b"udplite", 136),
+];
+
+/// Further names of protocols in access lists of Cisco IOS, as its manuals have them.
+const IOS_PROTOCOLS: [(&[u8], u8); 2] = [(b"ahp", 51), (b"ipinip", 4)];
+
 /// The number of a protocol's name.
+#[tactic(auto, unfolding(crate::specs::Protocols::protocol_named))]
 fn protocol_named(name: &[u8]) -> Option<u8>
     ensures { result ≡ protocol_named name.now }
 {
-    if is(name, b"icmp") {
-        Some(1)
-    } else if is(name, b"igmp") {
-        Some(2)
-    } else if is(name, b"ipencap") {
-        Some(4)
-    } else if is(name, b"tcp") {
-        Some(6)
-    } else if is(name, b"udp") {
-        Some(17)
-    } else if is(name, b"dccp") {
-        Some(33)
-    } else if is(name, b"ipv6") {
-        Some(41)
-    } else if is(name, b"gre") {
-        Some(47)
-    } else if is(name, b"esp") {
-        Some(50)
-    } else if is(name, b"ah") {
-        Some(51)
-    } else if is(name, b"eigrp") {
-        Some(88)
-    } else if is(name, b"ospf") {
-        Some(89)
-    } else if is(name, b"pim") {
-        Some(103)
-    } else if is(name, b"vrrp") {
-        Some(112)
-    } else if is(name, b"sctp") {
-        Some(132)
-    } else if is(name, b"udplite") {
-        Some(136)
-    } else {
-        None
-    }
+    value_named(&PROTOCOLS, name)
 }
 
-/// The protocol that a decimal 0 to 255 or a name spells. The names are 16 of IANA's registry of
-/// protocol numbers, as protocols(5) has them.
+/// The protocol that a decimal 0 to 255 or a name spells. The names are 16 of protocols(5), which has
+/// them from IANA's registry of protocol numbers.
 pub fn read_protocol(text: &[u8]) -> Option<u8>
     ensures { result ≡ protocol_of text.now }
 {
@@ -56,4 +46,12 @@ pub fn read_protocol(text: &[u8]) -> Option<u8>
         Some(proto) => Some(proto as u8),
         None => protocol_named(text),
     }
+}
+
+/// The protocol that a decimal 0 to 255 or a name spells in access lists of Cisco IOS: `ahp`, `ipinip`
+/// or a name that `read_protocol` reads.
+pub fn read_ios_protocol(text: &[u8]) -> Option<u8>
+    ensures { result ≡ ios_protocol_of text.now }
+{
+    read_protocol(text).or_else(|| value_named(&IOS_PROTOCOLS, text))
 }

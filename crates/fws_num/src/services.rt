@@ -1,115 +1,59 @@
 //! Ports as they are spelled: numbers and names of services.
 
 ghost use Rattle.std.specs.Prelude.{◌≡◌};
-ghost use Rattle.fws_num.specs.Services.{low_service, middle_service, high_service, service_of, port_of, both_ports, ports_between};
+ghost use Rattle.fws_num.specs.Services.{service_of, port_of, both_ports, ports_between};
 
-use crate::compared::is;
+use crate::named::value_named;
 use crate::numbers::read_dec;
 
-/// The port of a service below 100.
-fn low_service(name: &[u8]) -> Option<u16>
-    ensures { result ≡ low_service name.now }
-{
-    if is(name, b"ftp-data") {
-        Some(20)
-    } else if is(name, b"ftp") {
-        Some(21)
-    } else if is(name, b"ssh") {
-        Some(22)
-    } else if is(name, b"telnet") {
-        Some(23)
-    } else if is(name, b"smtp") {
-        Some(25)
-    } else if is(name, b"domain") {
-        Some(53)
-    } else if is(name, b"bootps") {
-        Some(67)
-    } else if is(name, b"bootpc") {
-        Some(68)
-    } else if is(name, b"tftp") {
-        Some(69)
-    } else if is(name, b"http") {
-        Some(80)
-    } else if is(name, b"www") {
-        Some(80)
-    } else {
-        None
-    }
-}
-
-/// The port of a service from 100 to 199.
-fn middle_service(name: &[u8]) -> Option<u16>
-    ensures { result ≡ middle_service name.now }
-{
-    if is(name, b"pop3") {
-        Some(110)
-    } else if is(name, b"ident") {
-        Some(113)
-    } else if is(name, b"nntp") {
-        Some(119)
-    } else if is(name, b"ntp") {
-        Some(123)
-    } else if is(name, b"netbios-ns") {
-        Some(137)
-    } else if is(name, b"netbios-dgm") {
-        Some(138)
-    } else if is(name, b"netbios-ss") {
-        Some(139)
-    } else if is(name, b"imap") {
-        Some(143)
-    } else if is(name, b"snmp") {
-        Some(161)
-    } else if is(name, b"snmptrap") {
-        Some(162)
-    } else if is(name, b"bgp") {
-        Some(179)
-    } else {
-        None
-    }
-}
-
-/// The port of a service from 200 on.
-fn high_service(name: &[u8]) -> Option<u16>
-    ensures { result ≡ high_service name.now }
-{
-    if is(name, b"https") {
-        Some(443)
-    } else if is(name, b"smtps") {
-        Some(465)
-    } else if is(name, b"isakmp") {
-        Some(500)
-    } else if is(name, b"syslog") {
-        Some(514)
-    } else if is(name, b"lpd") {
-        Some(515)
-    } else if is(name, b"rip") {
-        Some(520)
-    } else if is(name, b"imaps") {
-        Some(993)
-    } else if is(name, b"pop3s") {
-        Some(995)
-    } else if is(name, b"non500-isakmp") {
-        Some(4500)
-    } else {
-        None
-    }
-}
+/// Ports by the names of their services in services(5), which has them from IANA's registry of service
+/// names. `lpd`, `rip` and `non500-isakmp` are the names that the manuals of Cisco IOS have for the
+/// registry's `printer`, `router` and `ipsec-nat-t`.
+const SERVICES: [(&[u8], u16); 31] = [
+    (b"ftp-data", 20),
+    (b"ftp", 21),
+    (b"ssh", 22),
+    (b"telnet", 23),
+    (b"smtp", 25),
+    (b"domain", 53),
+    (b"bootps", 67),
+    (b"bootpc", 68),
+    (b"tftp", 69),
+    (b"http", 80),
+    (b"www", 80),
+    (b"pop3", 110),
+    (b"ident", 113),
+    (b"nntp", 119),
+    (b"ntp", 123),
+    (b"netbios-ns", 137),
+    (b"netbios-dgm", 138),
+    (b"netbios-ss", 139),
+    (b"imap", 143),
+    (b"snmp", 161),
+    (b"snmptrap", 162),
+    (b"bgp", 179),
+    (b"https", 443),
+    (b"smtps", 465),
+    (b"isakmp", 500),
+    (b"syslog", 514),
+    (b"lpd", 515),
+    (b"rip", 520),
+    (b"imaps", 993),
+    (b"pop3s", 995),
+    (b"non500-isakmp", 4500),
+];
 
 /// The port of a service.
+#[tactic(auto, unfolding(crate::specs::Services::service_of))]
 fn service(name: &[u8]) -> Option<u16>
     ensures { result ≡ service_of name.now }
 {
-    if let Some(port) = low_service(name) {
-        return Some(port);
-    }
-    if let Some(port) = middle_service(name) {
-        return Some(port);
-    }
-    high_service(name)
+    value_named(&SERVICES, name)
 }
 
-/// The port that a decimal 0 to 65535 or the name of a service spells. The names are 31 of IANA's
-/// registry of service names, as services(5) has them.
+/// The port that a decimal 0 to 65535 or the name of a service spells. The names are 28 of services(5),
+/// which has them from IANA's registry of service names, with `www` beside `http` and `ident` for port
+/// 113, and `lpd`, `rip` and `non500-isakmp` of Cisco IOS.
 pub fn read_port(text: &[u8]) -> Option<u16>
     ensures { result ≡ port_of text.now }
 {
