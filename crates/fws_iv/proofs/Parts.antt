@@ -1,10 +1,12 @@
 -- Regular lists of intervals and their members.
-use Rattle.std.proofs.Common.{◌≡◌, ℕ, zero, suc, ◌+◌, ◌<◌, ◌≤◌, Bool, true, false, ◌||◌, List, [], ◌∷◌, inl, inr, refl, sym, ◌∙◌, ap, subst, arith, get_or, set, drop, length, nat_le, max, Some, unwrap_or, ◌++◌}
+use Rattle.std.proofs.Common.{◌≡◌, ℕ, zero, suc, ◌+◌, ◌-◌, ◌<◌, ◌≤◌, Bool, true, false, ◌||◌, List, [], ◌∷◌, inl, inr, refl, sym, ◌∙◌, ap, subst, arith, get_or, set, take, drop, length, nat_le, max, Some, unwrap_or, ◌++◌}
 use Rattle.std.proofs.lemmas.Bool.{le-leb, leb-true, leb-false, lt-leb, or_cases, and_parts, and_from, or_left, or_right, or_from, cases_Bool, and_left, and_right}
 use Rattle.std.proofs.lemmas.Bool.Decides.{nat_tests}
-use Rattle.std.proofs.lemmas.List.{drop_more, at_drop_more}
+use Rattle.std.proofs.lemmas.List.{drop_more, at_drop_more, take-append-drop, take_rest}
+use Rattle.std.proofs.lemmas.List.Elements.{All-head}
+use Rattle.std.proofs.lemmas.List.Folds.{list_any-append}
 use Rattle.fws_iv.specs.declared.iv.Iv.{Iv}
-use Rattle.fws_iv.specs.Ivs.{in_part, has, IsRegularFrom, past, last_start, least}
+use Rattle.fws_iv.specs.Ivs.{in_part, has, AreRanges, IsRegular, IsRegularFrom, past, last_start, least}
 
 or_false : (a : Bool) → (a || false) ≡ a
 or_false true = refl
@@ -197,3 +199,16 @@ pub has_behind : (l : ℕ) (xs : List Iv) (i : ℕ) (d : Iv) → i < length xs �
 has_behind l xs i d lt r =
     let here = regular_at l xs i d lt r in
     has_at xs i d ((get_or xs i d).hi + 1) lt ∙ gap_behind (get_or xs i d) (drop (i + 1) xs) here.2
+
+-- one range alone is a regular list
+pub regular_alone : (xs : List Iv) → length xs ≤ 1 → AreRanges xs → IsRegular xs
+regular_alone [] le r = tt
+regular_alone (x ∷ []) le r = (omega arith, All-head (λ y. y.lo ≤ y.hi) x [] r, tt)
+regular_alone (x ∷ y ∷ xs) le r = absurd (omega arith)
+
+-- what has the numbers of both halves has all numbers
+pub of_halves : (n : ℕ) (xs first second out : List Iv) → ((v : ℕ) → has first v ≡ has (take n xs) v) → ((v : ℕ) → has second v ≡ has (take (length xs - n) (drop n xs)) v)
+    → ((v : ℕ) → has out v ≡ (has first v || has second v)) → (v : ℕ) → has out v ≡ has xs v
+of_halves n xs first second out a b both v =
+    both v ∙ ap (λ t. t || has second v) (a v) ∙ ap (λ t. has (take n xs) v || t) (b v ∙ ap (λ s. has s v) (take_rest xs n))
+    ∙ sym (list_any-append (λ x. in_part x v) (take n xs) (drop n xs)) ∙ ap (λ s. has s v) (take-append-drop n xs)

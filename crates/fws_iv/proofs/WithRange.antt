@@ -1,8 +1,9 @@
--- A set with a further range.
+-- A set with further ranges.
 use Rattle.std.proofs.Common.{◌≡◌, ℕ, ◌+◌, ◌<◌, ◌≤◌, sym, Bool, true, false, cond, ◌&&◌, ◌||◌, List, [], ◌∷◌, refl, ◌∙◌, ap, arith, nat_le, nat_lt, min, max, ltb-true, ltb-false}
 use Rattle.std.proofs.lemmas.Bool.Decides.{nat_tests}
+use Rattle.std.proofs.lemmas.List.Elements.{All-head, All-tail}
 use Rattle.fws_iv.specs.declared.iv.Iv.{Iv}
-use Rattle.fws_iv.specs.Ivs.{in_part, has, IsRegular, IsRegularFrom, with_range}
+use Rattle.fws_iv.specs.Ivs.{in_part, has, IsRegular, IsRegularFrom, AreRanges, with_range, with_ranges}
 use Rattle.fws_iv.proofs.Parts.{sooner}
 use Rattle.fws_iv.proofs.SameMembers.{ivs_same}
 
@@ -80,3 +81,28 @@ pub same_with_range : (lo hi : ℕ) (s t : List Iv) → lo ≤ hi → IsRegular 
 same_with_range lo hi s t o r q h =
     ivs_same 0 0 t (with_range lo hi s) q (with_range-regular 0 lo hi s (omega arith) o r)
     (λ v. h v ∙ ap (λ b. has s v || b) (or_comm (nat_le lo v && nat_le v hi) false) ∙ sym (with_range-members 0 lo hi s o r v))
+
+pub with_ranges-regular : (s ranges : List Iv) → AreRanges ranges → IsRegular s → IsRegular (with_ranges s ranges)
+with_ranges-regular s [] o r = r
+with_ranges-regular s (x ∷ xs) o r =
+    let first : x.lo ≤ x.hi = All-head (λ y. y.lo ≤ y.hi) x xs o in
+    with_ranges-regular (with_range x.lo x.hi s) xs (All-tail (λ y. y.lo ≤ y.hi) x xs o) (with_range-regular 0 x.lo x.hi s (omega arith) first r)
+
+or_right_false : (b : Bool) → (b || false) ≡ b
+or_right_false true = refl
+or_right_false false = refl
+
+pub with_ranges-members : (s ranges : List Iv) → AreRanges ranges → IsRegular s → (v : ℕ) → has (with_ranges s ranges) v ≡ (has s v || has ranges v)
+with_ranges-members s [] o r v = sym (or_right_false (has s v))
+with_ranges-members s (x ∷ xs) o r v =
+    let first : x.lo ≤ x.hi = All-head (λ y. y.lo ≤ y.hi) x xs o in
+    let next : IsRegular (with_range x.lo x.hi s) = with_range-regular 0 x.lo x.hi s (omega arith) first r in
+    with_ranges-members (with_range x.lo x.hi s) xs (All-tail (λ y. y.lo ≤ y.hi) x xs o) next v
+    ∙ ap (λ b. b || has xs v) (with_range-members 0 x.lo x.hi s first r v)
+    ∙ sym (or_assoc (has s v) (in_part x v) (has xs v))
+
+-- a regular list with the members of the ranges is what they make from the empty set on
+pub same_with_ranges : (ranges t : List Iv) → AreRanges ranges → IsRegular t → ((v : ℕ) → has t v ≡ has ranges v) → t ≡ with_ranges [] ranges
+same_with_ranges ranges t o q h =
+    ivs_same 0 0 t (with_ranges [] ranges) q (with_ranges-regular [] ranges o tt)
+    (λ v. h v ∙ sym (with_ranges-members [] ranges o tt v))

@@ -1,5 +1,5 @@
 -- Sets of numbers as lists of intervals.
-use Rattle.std.specs.Prelude.{◌≡◌, ℕ, ◌+◌, ◌≤◌, Bool, ◌&&◌, nat_le, nat_lt, min, max, if◌then◌else◌, List, [], ◌∷◌, Option, Some, None}
+use Rattle.std.specs.Prelude.{◌≡◌, ℕ, ◌+◌, ◌≤◌, Bool, ◌&&◌, ◌||◌, nat_le, nat_lt, min, max, if◌then◌else◌, List, [], ◌∷◌, Option, Some, None, All}
 use Rattle.std.specs.List.{list_any}
 use Rattle.fws_iv.specs.declared.iv.Iv.{Iv}
 
@@ -51,3 +51,22 @@ with_range lo hi (x ∷ xs) =
 -- a range more keeps a list regular
 abbrev pub RangesAreRegular : Type 0
 RangesAreRegular = (lo hi : ℕ) (s : List Iv) → lo ≤ hi → IsRegular s → IsRegular (with_range lo hi s)
+
+-- each of the ranges has a number
+abbrev pub AreRanges : List Iv → Type 0
+AreRanges ranges = All (λ x. x.lo ≤ x.hi) ranges
+
+-- the set with the numbers of each range, one range after another
+abbrev pub with_ranges : List Iv → List Iv → List Iv
+with_ranges s [] = s
+with_ranges s (x ∷ ranges) = with_ranges (with_range x.lo x.hi s) ranges
+
+-- a further range adds its numbers
+abbrev pub RangesAddMembers : Type 0
+RangesAddMembers =
+    (lo hi : ℕ) (s : List Iv) → lo ≤ hi → IsRegular s → (v : ℕ) → has (with_range lo hi s) v ≡ (has s v || (nat_le lo v && nat_le v hi))
+
+-- ranges from the empty set on make a regular list, whose members are their numbers
+abbrev pub ManyRangesAddMembers : Type 0
+ManyRangesAddMembers =
+    (ranges : List Iv) → AreRanges ranges → IsRegular (with_ranges [] ranges) × ((v : ℕ) → has (with_ranges [] ranges) v ≡ has ranges v)

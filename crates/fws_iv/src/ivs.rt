@@ -1,13 +1,14 @@
 //! Interval lists: sorted, disjoint, not touching.
 
 ghost use Rattle.std.specs.Prelude.{◌≡◌, ◌<◌, ◌≤◌, ◌↔◌, ◌&&◌, ◌||◌, not, ℕ, nat_le, true, [], ◌∷◌, IsTrue, Some, unwrap_or, IfOk, OnOk, OnErr};
-ghost use Rattle.fws_iv.specs.Ivs.{has, IsRegular, least, with_range};
+ghost use Rattle.fws_iv.specs.Ivs.{has, AreRanges, IsRegular, least, with_range, with_ranges};
 
 use crate::find::has_number;
 use crate::inter::inter_into;
 use crate::iv::Iv;
 use crate::joined::join_last;
 use crate::minus::minus_into;
+use crate::ranges::parts_of_ranges;
 use crate::union::union_into;
 use fws_num::Memory;
 use std::alloc::Global;
@@ -40,6 +41,19 @@ impl Ivs {
         Ivs {
             parts: Vec::new(alloc),
         }
+    }
+
+    /// The numbers of all the ranges, which may overlap and stand in any order; in none is `lo` greater
+    /// than `hi`. Of n ranges the time is that of n log n steps. An error is want of memory.
+    #[tactic(auto, using(crate::proofs::WithRange::same_with_ranges))]
+    pub fn of_ranges(alloc: Global, ranges: &[Iv]) -> Result<Ivs, Memory>
+        requires { AreRanges ranges.now }
+        ensures value { IfOk result (λ s. s ≡ with_ranges [] ranges.now) }
+        ensures members { IfOk result (λ s. (v : ℕ) → has s v ≡ has ranges.now v) }
+    {
+        Ok(Ivs {
+            parts: parts_of_ranges(alloc, ranges)?,
+        })
     }
 
     /// The intervals, in ascending order.

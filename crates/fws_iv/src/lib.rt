@@ -10,8 +10,7 @@ mod ivs;
 mod joined;
 mod law;
 mod minus;
-#[cfg(test)]
-mod tests;
+mod ranges;
 mod union;
 
 pub use coverage::Overlap;
@@ -20,6 +19,8 @@ pub use inter::inter_into;
 pub use iv::Iv;
 pub use ivs::{Ivs, one};
 pub use joined::join_last;
-pub use law::{ranges_are_regular, same_members_same_list};
+pub use law::{
+    many_ranges_add_members, ranges_add_members, ranges_are_regular, same_members_same_list,
+};
 pub use minus::minus_into;
 pub use union::union_into;
