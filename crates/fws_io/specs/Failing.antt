@@ -1,5 +1,6 @@
--- Which calls of a shelf or a sink in memory are to fail.
-use Rattle.std.specs.Prelude.{ℕ, List}
+-- What a shelf or a sink in memory was made to do: which calls fail, which names are held, how much one put takes.
+use Rattle.std.specs.Prelude.{ℕ, Bool, List}
+use Rattle.fws_io.specs.Contents.{is_held}
 use Rattle.fws_io.specs.declared.mem_shelf.MemShelf.{MemShelf}
 use Rattle.fws_io.specs.declared.mem_sink.MemSink.{MemSink}
 
@@ -10,6 +11,10 @@ shelf_fails shelf = shelf.failing.listed
 -- how many reads were made
 abbrev pub reads_made : MemShelf → ℕ
 reads_made shelf = shelf.failing.made
+
+-- the shelf holds the name
+abbrev pub shelf_holds : MemShelf → List ℕ → Bool
+shelf_holds shelf name = is_held shelf.contents name
 
 -- the numbers of the puts that fail
 abbrev pub sink_fails : MemSink → List ℕ

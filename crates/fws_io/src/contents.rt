@@ -106,6 +106,7 @@ pub(crate) fn read_within(alloc: Global, content: &[u8], limit: usize) -> Result
     ensures whole { IfOk result (λ text. text ≡ content.now) }
     ensures within { IfOk result (λ text. length content.now ≤ limit) }
     ensures over { (taken : ℕ) → IsErrOf result (ShelfAnswer.TooLong taken) → (taken ≡ length content.now) × (limit < taken) }
+    ensures long { limit < length content.now → IsErrOf result (ShelfAnswer.TooLong (length content.now)) }
     ensures no_fault { IsErrOf result ShelfAnswer.Failed → ⊥ }
 {
     if content.len() > limit {

@@ -20,6 +20,3 @@ pub use std_shelf::StdShelf;
 pub use std_sink::StdSink;
 pub use sure_shelf::SureShelf;
 pub use sure_sink::SureSink;
-
-#[cfg(test)]
-mod tests;

@@ -1,7 +1,7 @@
 //! A sink in memory, of which chosen calls fail.
 
-ghost use Rattle.std.specs.Prelude.{◌≡◌, ◌+◌, ◌-◌, ◌^◌, ◌<◌, ◌≤◌, min, false, [], ◌++◌, length, take, IfOk, OnOk, OnErr};
-ghost use Rattle.fws_io.specs.Outside.{Rose, is_listed};
+ghost use Rattle.std.specs.Prelude.{◌≡◌, ◌+◌, ◌-◌, ◌^◌, ◌<◌, ◌≤◌, min, false, [], ◌++◌, length, take, IsTrue, IsErr, IfOk, OnOk, OnErr};
+ghost use Rattle.fws_io.specs.Outside.{Rose, is_listed, with_more};
 
 use crate::faults::{FailingCalls, FaultCount};
 use crate::sink::{Failed, Sink};
@@ -56,6 +56,7 @@ impl MemSink {
         ensures same { OnErr result (self.new.bytes ≡ self.old.bytes) }
         ensures listed { OnOk result (is_listed (sink_fails self.old) (puts_made self.new) ≡ false) }
         ensures failed { OnErr result (Rose self.old.faults.count self.new.faults.count) }
+        ensures counted { OnErr result (self.new.faults.count ≡ min (self.old.faults.count + 1) (2 ^ 64 - 1)) }
         ensures count { OnOk result (self.new.faults ≡ self.old.faults) }
         ensures never_falls { self.old.faults.count ≤ self.new.faults.count }
         ensures limit { most_of self.new ≡ most_of self.old }
@@ -73,12 +74,31 @@ impl MemSink {
 
 impl Sink for MemSink {
     ghost use Rattle.std.specs.Prelude.{Some};
+    ghost use Rattle.fws_io.specs.Failing.{sink_fails, puts_made, most_of};
 
     ghost written = { λ s. Some s.bytes };
 
     ghost faults = { λ s. s.faults.count };
 
-    fn put(&mut self, piece: &[u8]) -> Result<usize, Failed> {
+    fn put(&mut self, piece: &[u8]) -> Result<usize, Failed>
+        ensures most { IfOk result (λ taken. taken ≤ length piece.now) }
+        ensures least { IfOk result (λ taken. 0 < length piece.now → 0 < taken) }
+        ensures empty { piece.now ≡ [] → result ≡ Ok 0 }
+        ensures appended { IfOk result (λ taken. ⟦<MemSink as Sink>⟧.written self.new ≡ with_more (⟦<MemSink as Sink>⟧.written self.old) (take taken piece.now)) }
+        ensures same { OnErr result (⟦<MemSink as Sink>⟧.written self.new ≡ ⟦<MemSink as Sink>⟧.written self.old) }
+        ensures failed { OnErr result (Rose (⟦<MemSink as Sink>⟧.faults self.old) (⟦<MemSink as Sink>⟧.faults self.new)) }
+        ensures count { OnOk result (⟦<MemSink as Sink>⟧.faults self.new ≡ ⟦<MemSink as Sink>⟧.faults self.old) }
+        ensures never_falls { ⟦<MemSink as Sink>⟧.faults self.old ≤ ⟦<MemSink as Sink>⟧.faults self.new }
+
+        // A piece that isn't empty is a call, which fails where its number is listed and else takes what it may.
+        ensures taken { IfOk result (λ taken. taken ≡ min (length piece.now) (most_of self.old)) }
+        ensures listed { 0 < length piece.now → IsTrue (is_listed (sink_fails self.old) (puts_made self.new)) → IsErr result }
+        ensures counted { OnErr result (⟦<MemSink as Sink>⟧.faults self.new ≡ min (⟦<MemSink as Sink>⟧.faults self.old + 1) (2 ^ 64 - 1)) }
+        ensures number { 0 < length piece.now → puts_made self.new ≡ min (puts_made self.old + 1) (2 ^ 64 - 1) }
+        ensures no_call { piece.now ≡ [] → self.new ≡ self.old }
+        ensures limit { most_of self.new ≡ most_of self.old }
+        ensures list { sink_fails self.new ≡ sink_fails self.old }
+    {
         if piece.is_empty() {
             return Ok(0);
         }
