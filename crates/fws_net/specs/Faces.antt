@@ -1,13 +1,14 @@
 -- The interfaces of a site: their addresses and networks, and their names in the four systems.
-use Rattle.std.specs.Prelude.{ℕ, suc, ◌+◌, ◌-◌, ◌*◌, ◌%◌, ◌^◌, nat_eq, nat_lt, slice_get, Option, Some, None, List, [], ◌∷◌, if◌then◌else◌}
+use Rattle.std.specs.Prelude.{ℕ, suc, ◌+◌, ◌-◌, ◌*◌, ◌%◌, ◌^◌, nat_eq, nat_lt, slice_get, Option, Some, None, List, [], ◌∷◌, ◌++◌, map, if◌then◌else◌}
 use Rattle.std.specs.List.{starts_with}
 use Rattle.std.specs.Option.{option_map_or}
 use Rattle.std.specs.Str.{bytes_eq}
 use Rattle.fws_num.specs.declared.prefix.Prefix.{Prefix}
 use Rattle.fws_iv.specs.declared.iv.Iv.{Iv}
-use Rattle.fws_iv.specs.Ivs.{with_range}
+use Rattle.fws_iv.specs.Ivs.{with_range, with_ranges}
 use Rattle.fws_net.specs.declared.packet.Lang.{Lang}
 use Rattle.fws_net.specs.declared.packet.Lang.TheVariants.{Iptables, Ipfw, Pf, Ios}
+use Rattle.fws_net.specs.declared.site.Address.{Address}
 use Rattle.fws_net.specs.declared.site.Names.{Names}
 use Rattle.fws_net.specs.declared.site.Iface.{Iface}
 use Rattle.fws_net.specs.declared.site.Site.{Site}
@@ -28,30 +29,50 @@ prefix_parts p = block p.len p.addr ∷ []
 abbrev pub face_at : Site → ℕ → Option Iface
 face_at site entry = if nat_lt entry 2 then None else slice_get site.faces (entry - 2)
 
--- the address of an entry's interface
+-- the first address of an interface
+abbrev pub first_addr : Iface → ℕ
+first_addr face = option_map_or (λ own. own.addr) (slice_get face.addrs 0) 0
+
+-- the address of an entry's interface, where one is meant
 abbrev pub face_addr : Site → ℕ → ℕ
-face_addr site entry = if nat_eq entry 1 then loopback_addr else option_map_or (λ face. face.addr) (face_at site entry) 0
+face_addr site entry = if nat_eq entry 1 then loopback_addr else option_map_or first_addr (face_at site entry) 0
+
+-- an address by itself
+abbrev pub host_range : Address → Iv
+host_range own = record { lo = own.addr; hi = own.addr }
+
+-- the addresses of an interface
+abbrev pub own_ranges : Iface → List Iv
+own_ranges face = map host_range face.addrs
+
+-- the network of an address
+abbrev pub net_range : Address → Iv
+net_range own = block own.len own.addr
+
+-- the networks of an interface
+abbrev pub net_ranges : Iface → List Iv
+net_ranges face = map net_range face.addrs
 
 -- all addresses of an entry's interface
 abbrev pub face_addrs : Site → ℕ → List Iv
-face_addrs site entry = with_range (face_addr site entry) (face_addr site entry) []
-
--- the network of an interface
-abbrev pub net_parts : Iface → List Iv
-net_parts face = block face.len face.addr ∷ []
+face_addrs site entry =
+    if nat_eq entry 1 then record { lo = loopback_addr; hi = loopback_addr } ∷ []
+    else option_map_or (λ face. with_ranges [] (own_ranges face)) (face_at site entry) []
 
 -- the networks of an entry's interface, for loopback 127.0.0.0/8
 abbrev pub face_nets : Site → ℕ → List Iv
-face_nets site entry = if nat_eq entry 1 then block 8 loopback_addr ∷ [] else option_map_or net_parts (face_at site entry) []
+face_nets site entry =
+    if nat_eq entry 1 then block 8 loopback_addr ∷ []
+    else option_map_or (λ face. with_ranges [] (net_ranges face)) (face_at site entry) []
 
--- the set with the addresses of the interfaces
-abbrev pub with_addrs : List Iv → List Iface → List Iv
-with_addrs set [] = set
-with_addrs set (face ∷ faces) = with_addrs (with_range face.addr face.addr set) faces
+-- the addresses of the interfaces
+abbrev pub all_own_ranges : List Iface → List Iv
+all_own_ranges [] = []
+all_own_ranges (face ∷ faces) = own_ranges face ++ all_own_ranges faces
 
 -- the local addresses: those of the interfaces and 127.0.0.0/8
 abbrev pub local_parts : Site → List Iv
-local_parts site = with_range (127 * 2 ^ 24) (127 * 2 ^ 24 + (2 ^ 24 - 1)) (with_addrs [] site.faces)
+local_parts site = with_range (127 * 2 ^ 24) (127 * 2 ^ 24 + (2 ^ 24 - 1)) (with_ranges [] (all_own_ranges site.faces))
 
 -- a name of an interface in a system
 abbrev pub name_in : Lang → Names → List ℕ

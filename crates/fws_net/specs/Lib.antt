@@ -1,3 +1,4 @@
+pub mod Causes
 pub mod Conditions
 pub mod Connections
 pub mod Ends
@@ -6,7 +7,13 @@ pub mod Fates
 pub mod Points
 pub mod Ports
 pub mod Reading
+pub mod ReadingLaws
+pub mod RouteLaws
+pub mod RouteSets
 pub mod Routes
 pub mod Showing
-pub mod SiteAnswers
+pub mod SiteLaws
+pub mod SiteLines
+pub mod SiteSpelling
 pub mod SiteText
+pub mod SiteWords

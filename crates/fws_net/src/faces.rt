@@ -2,12 +2,12 @@
 
 ghost use Rattle.std.specs.Prelude.{◌≡◌, ◌+◌, ◌≤◌, Some, length, IfOk, IfSome};
 ghost use Rattle.std.specs.Option.{option_map};
-ghost use Rattle.fws_net.specs.Faces.{entries_beginning, entry_named, face_addr, face_addrs, face_at, face_nets, name_in, with_entry};
+ghost use Rattle.fws_net.specs.Faces.{entries_beginning, entry_named, face_addr, face_addrs, face_at, first_addr, face_nets, name_in, with_entry};
 ghost use Rattle.fws_net.specs.Routes.{IsSound};
 
 use crate::packet::Lang;
 use crate::routes::FIRST_ENTRY;
-use crate::sets::agreeing_set;
+use crate::sets::{agreeing_set, net_set, own_set};
 use crate::site::{Iface, Names, Site};
 use fws_iv::{Ivs, one};
 use fws_num::{Memory, Text};
@@ -32,7 +32,17 @@ fn face_at(site: &Site, entry: u8) -> Option<&Iface>
     site.faces.as_slice().get(usize::from(entry - FIRST_ENTRY))
 }
 
-/// The address of the interface with this entry number; 127.0.0.1 for loopback, and 0 where no
+/// The first address of the interface; 0 where it has none.
+fn first_addr(face: &Iface) -> u32
+    ensures { result ≡ first_addr face.now }
+{
+    match face.addrs.as_slice().first() {
+        Some(own) => own.addr,
+        None => 0,
+    }
+}
+
+/// The first address of the interface with this entry number; 127.0.0.1 for loopback, and 0 where no
 /// interface has the number.
 pub fn face_addr(site: &Site, entry: u8) -> u32
     ensures { result ≡ face_addr site.now entry }
@@ -41,20 +51,26 @@ pub fn face_addr(site: &Site, entry: u8) -> u32
         return LOOPBACK_ADDR;
     }
     match face_at(site, entry) {
-        Some(face) => face.addr,
+        Some(face) => first_addr(face),
         None => 0,
     }
 }
 
-/// The addresses of the interface with this entry number. An error is want of memory.
+/// The addresses of the interface with this entry number; 127.0.0.1 for loopback, and none where no
+/// interface has the number. An error is want of memory.
 pub fn face_addrs(alloc: Global, site: &Site, entry: u8) -> Result<Ivs, Memory>
     ensures { IfOk result (λ s. s ≡ face_addrs site.now entry) }
 {
-    let address = face_addr(site, entry);
-    one(alloc, address, address)
+    if entry == LOOPBACK_ENTRY {
+        return one(alloc, LOOPBACK_ADDR, LOOPBACK_ADDR);
+    }
+    match face_at(site, entry) {
+        Some(face) => own_set(alloc, face),
+        None => Ok(Ivs::none(alloc)),
+    }
 }
 
-/// The addresses of the network of the interface with this entry number; 127.0.0.0/8 for loopback,
+/// The addresses of the networks of the interface with this entry number; 127.0.0.0/8 for loopback,
 /// and none where no interface has the number. An error is want of memory.
 pub fn face_nets(alloc: Global, site: &Site, entry: u8) -> Result<Ivs, Memory>
     ensures { IfOk result (λ s. s ≡ face_nets site.now entry) }
@@ -63,7 +79,7 @@ pub fn face_nets(alloc: Global, site: &Site, entry: u8) -> Result<Ivs, Memory>
         return agreeing_set(alloc, LOOPBACK_LEN, LOOPBACK_ADDR);
     }
     match face_at(site, entry) {
-        Some(face) => agreeing_set(alloc, face.len, face.addr),
+        Some(face) => net_set(alloc, face),
         None => Ok(Ivs::none(alloc)),
     }
 }
@@ -83,7 +99,7 @@ impl Names {
 }
 
 /// The entry number of the interface with this name in the system: 1 for loopback, else that of the
-/// first such interface, 2 to 15. There is none where no interface has the name.
+/// first such interface, 2 to 63. There is none where no interface has the name.
 pub fn entry_named(site: &Site, lang: Lang, name: &[u8]) -> Option<u8>
     requires { IsSound site.now }
     ensures value { result ≡ entry_named lang site.now name.now }

@@ -1,27 +1,59 @@
 //! Local addresses and routes as sets of addresses.
 
-ghost use Rattle.std.specs.Prelude.{◌≡◌, ℕ, ◌-◌, ◌<◌, ◌^◌, ◌&&◌, ◌||◌, nat_eq, nat_lt, [], ◌∷◌, IfOk};
+ghost use Rattle.std.specs.Prelude.{◌≡◌, ℕ, ◌-◌, ◌≤◌, ◌^◌, [], ◌∷◌, ◌++◌, IfOk, OnOk};
 ghost use Rattle.std.specs.List.{list_any};
-ghost use Rattle.fws_iv.specs.Ivs.{has};
-ghost use Rattle.fws_net.specs.Faces.{block, local_parts, prefix_parts, with_addrs};
-ghost use Rattle.fws_net.specs.Routes.{agree, net_has, is_local, route_of, IsSound};
+ghost use Rattle.fws_iv.specs.Ivs.{has, with_ranges, AreRanges};
+ghost use Rattle.fws_net.specs.Faces.{all_own_ranges, block, local_parts, net_ranges, own_ranges, prefix_parts};
+ghost use Rattle.fws_net.specs.Routes.{agree, has_addr, is_local};
 
-use crate::routes::FIRST_ENTRY;
 use crate::site::{Iface, Site};
-use fws_iv::{Ivs, one};
+use fws_iv::{Iv, Ivs, one};
 use fws_num::{Memory, Prefix};
 use std::alloc::Global;
 
-/// The addresses of the interfaces.
-fn own_set(alloc: Global, faces: &[Iface]) -> Result<Ivs, Memory>
-    ensures value { IfOk result (λ s. s ≡ with_addrs [] faces.now) }
-    ensures members { IfOk result (λ s. (v : ℕ) → has s v ≡ list_any (λ face. nat_eq face.addr v) faces.now) }
+/// Puts the addresses of the interface behind the ranges.
+fn put_own_ranges(ranges: &mut Vec<Iv>, face: &Iface) -> Result<(), Memory>
+    requires { AreRanges ranges.old.items }
+    ensures ranges { OnOk result (ranges.new.items ≡ ranges.old.items ++ own_ranges face.now) }
+    ensures sound { OnOk result (AreRanges ranges.new.items) }
 {
-    let mut own = Ivs::none(alloc);
-    for face in faces {
-        own = own.with_range(alloc, face.addr, face.addr)?;
+    for own in face.addrs.as_slice() {
+        ranges.push(Iv {
+            lo: own.addr,
+            hi: own.addr,
+        })?;
     }
-    Ok(own)
+    Ok(())
+}
+
+/// The addresses of the interface. An error is want of memory.
+pub(crate) fn own_set(alloc: Global, face: &Iface) -> Result<Ivs, Memory>
+    ensures { IfOk result (λ s. s ≡ with_ranges [] (own_ranges face.now)) }
+{
+    let mut ranges = Vec::new(alloc);
+    put_own_ranges(&mut ranges, face)?;
+    Ivs::of_ranges(alloc, ranges.as_slice())
+}
+
+/// The addresses of the interfaces, one by one.
+fn all_own_ranges(alloc: Global, faces: &[Iface]) -> Result<Vec<Iv>, Memory>
+    ensures ranges { IfOk result (λ ranges. ranges.items ≡ all_own_ranges faces.now) }
+    ensures sound { IfOk result (λ ranges. AreRanges ranges.items) }
+{
+    let mut ranges = Vec::new(alloc);
+    for face in faces {
+        put_own_ranges(&mut ranges, face)?;
+    }
+    Ok(ranges)
+}
+
+/// The addresses of the interfaces.
+fn all_own_set(alloc: Global, faces: &[Iface]) -> Result<Ivs, Memory>
+    ensures value { IfOk result (λ s. s ≡ with_ranges [] (all_own_ranges faces.now)) }
+    ensures members { IfOk result (λ s. (a : ℕ) → has s a ≡ list_any (λ face. has_addr face a) faces.now) }
+{
+    let ranges = all_own_ranges(alloc, faces)?;
+    Ivs::of_ranges(alloc, ranges.as_slice())
 }
 
 /// The addresses of the interfaces and those of 127.0.0.0/8. An error is want of memory.
@@ -29,7 +61,7 @@ pub fn local_set(alloc: Global, site: &Site) -> Result<Ivs, Memory>
     ensures value { IfOk result (λ s. s ≡ local_parts site.now) }
     ensures members { IfOk result (λ s. (a : ℕ) → has s a ≡ is_local site.now a) }
 {
-    let own = own_set(alloc, site.faces.as_slice())?;
+    let own = all_own_set(alloc, site.faces.as_slice())?;
     own.with_range(alloc, 127 << 24, (127 << 24) + 0xff_ffff)
 }
 
@@ -45,10 +77,8 @@ pub fn agreeing_set(alloc: Global, len: u8, addr: u32) -> Result<Ivs, Memory>
     ensures value { IfOk result (λ s. s ≡ block len addr ∷ []) }
     ensures members { IfOk result (λ s. (v : ℕ) → has s v ≡ agree len addr v) }
 {
-    let size = block_size(len);
-    let below = u64::from(addr) % size;
-    let first = addr - below as u32;
-    one(alloc, first, (u64::from(first) + (size - 1)) as u32)
+    let range = block_range(len, addr);
+    one(alloc, range.lo, range.hi)
 }
 
 /// The addresses of the prefix. An error is want of memory.
@@ -59,40 +89,27 @@ pub fn prefix_set(alloc: Global, prefix: &Prefix) -> Result<Ivs, Memory>
     agreeing_set(alloc, prefix.len, prefix.addr)
 }
 
-/// The addresses of the interface's network.
-fn net_set(alloc: Global, face: &Iface) -> Result<Ivs, Memory>
-    ensures { IfOk result (λ s. (v : ℕ) → has s v ≡ net_has face.now v) }
+/// The range of the addresses that agree with this one in their first `len` bits.
+fn block_range(len: u8, addr: u32) -> Iv
+    ensures range { result ≡ block len addr }
+    ensures order { result.lo ≤ result.hi }
 {
-    agreeing_set(alloc, face.len, face.addr)
-}
-
-/// What is taken, and where it is asked for also what comes on top.
-fn taken_with(alloc: Global, taken: Ivs, more: &Ivs, is_asked: bool) -> Result<Ivs, Memory>
-    ensures { IfOk result (λ s. (v : ℕ) → has s v ≡ (has taken v || (is_asked && has more.now v))) }
-{
-    if is_asked {
-        taken.union(alloc, more)
-    } else {
-        Ok(taken)
+    let size = block_size(len);
+    let below = u64::from(addr) % size;
+    let lo = addr - below as u32;
+    Iv {
+        lo,
+        hi: (u64::from(lo) + (size - 1)) as u32,
     }
 }
 
-/// The addresses to which packets are sent by the interface with this entry number. No address is
-/// sent by loopback.
-pub fn route_set(alloc: Global, site: &Site, entry: u8) -> Result<Ivs, Memory>
-    requires { IsSound site.now }
-    ensures { IfOk result (λ s. (a : ℕ) → has s a ≡ (nat_eq (route_of site.now a) entry && nat_lt a (2 ^ 32))) }
+/// The networks of the interface's addresses. An error is want of memory.
+pub(crate) fn net_set(alloc: Global, face: &Iface) -> Result<Ivs, Memory>
+    ensures { IfOk result (λ s. s ≡ with_ranges [] (net_ranges face.now)) }
 {
-    let mut taken = Ivs::none(alloc);
-    // what no interface has taken so far
-    let mut left = one(alloc, 0, u32::MAX)?;
-    let mut at = FIRST_ENTRY;
-    for face in site.faces.as_slice() {
-        let net = net_set(alloc, face)?;
-        let share = left.inter(alloc, &net)?;
-        taken = taken_with(alloc, taken, &share, at == entry)?;
-        left = left.minus(alloc, &net)?;
-        at += 1;
+    let mut ranges = Vec::new(alloc);
+    for own in face.addrs.as_slice() {
+        ranges.push(block_range(own.len, own.addr))?;
     }
-    taken_with(alloc, taken, &left, site.fallback == entry)
+    Ivs::of_ranges(alloc, ranges.as_slice())
 }

@@ -1,14 +1,18 @@
 //! The words of a site file.
 
-ghost use Rattle.std.specs.Prelude.{◌≡◌, ◌≤◌, IfSome};
+ghost use Rattle.std.specs.Prelude.{◌≡◌, ◌-◌, ◌%◌, ◌^◌, ◌≤◌, IfSome};
 ghost use Rattle.std.specs.List.{list_all};
-ghost use Rattle.fws_net.specs.SiteText.{is_letter, is_name_byte, is_name, name_of, name_behind, names_of, side_of, len_of, net_of};
-ghost use Rattle.fws_net.specs.SiteAnswers.{LineGiven};
+ghost use Rattle.fws_net.specs.Reading.{CauseGiven};
+ghost use Rattle.fws_net.specs.SiteWords.{is_letter, is_name_byte, is_name, name_of, name_behind, names_of, side_of, names_and_side, address_and_len, address_of, net_of};
 
-use crate::site::{Names, Side};
-use crate::site_answer::{LineFault, SiteCause};
-use fws_num::{Text, Word, read_dec, read_quad, split_once};
+use crate::answer::LineFault;
+use crate::cause::{SiteCause, SiteFault};
+use crate::site::{Address, Names, Side};
+use fws_num::{Prefix, Text, Word, read_dec, read_quad, split_once};
 use std::alloc::Global;
+
+/// A word that isn't spelled as its place asks.
+pub(crate) const MALFORMED: SiteFault = LineFault::Bad(SiteCause::Syntax);
 
 fn is_letter(c: u8) -> bool
     ensures { result ≡ is_letter c }
@@ -40,11 +44,11 @@ pub(crate) fn is_name(text: &[u8]) -> bool
 }
 
 /// The name that a text is.
-pub(crate) fn read_name(alloc: Global, text: &[u8]) -> Result<Text, LineFault>
-    ensures { LineGiven result (name_of text.now) }
+pub(crate) fn read_name(alloc: Global, text: &[u8]) -> Result<Text, SiteFault>
+    ensures { CauseGiven result (name_of text.now) }
 {
     if !is_name(text) {
-        return Err(LineFault::Bad(SiteCause::Syntax));
+        return Err(MALFORMED);
     }
     let mut name = Text::new(alloc);
     name.put(text)?;
@@ -52,27 +56,27 @@ pub(crate) fn read_name(alloc: Global, text: &[u8]) -> Result<Text, LineFault>
 }
 
 /// The name behind a front such as `ipt=`.
-fn name_behind(alloc: Global, front: &[u8], word: &Word) -> Result<Text, LineFault>
-    ensures { LineGiven result (name_behind front.now word.now) }
+fn name_behind(alloc: Global, front: &[u8], word: &Word) -> Result<Text, SiteFault>
+    ensures { CauseGiven result (name_behind front.now word.now) }
 {
     let text = word.text.as_slice();
     if text.starts_with(front) {
         read_name(alloc, &text[front.len()..])
     } else {
-        Err(LineFault::Bad(SiteCause::Syntax))
+        Err(MALFORMED)
     }
 }
 
 /// The names in the four systems.
-#[tactic(auto, unfolding(crate::specs::SiteText::names_of))]
+#[tactic(auto, unfolding(crate::specs::SiteWords::names_of))]
 pub(crate) fn read_names(
     alloc: Global,
     a: &Word,
     b: &Word,
     c: &Word,
     d: &Word,
-) -> Result<Names, LineFault>
-    ensures { LineGiven result (names_of a.now b.now c.now d.now) }
+) -> Result<Names, SiteFault>
+    ensures { CauseGiven result (names_of a.now b.now c.now d.now) }
 {
     let ipt = name_behind(alloc, b"ipt=", a)?;
     let ipfw = name_behind(alloc, b"ipfw=", b)?;
@@ -82,8 +86,8 @@ pub(crate) fn read_names(
 }
 
 /// The side that a word such as `nat=inside` names.
-pub(crate) fn read_side(word: &Word) -> Result<Side, LineFault>
-    ensures { LineGiven result (side_of word.now) }
+pub(crate) fn read_side(word: &Word) -> Result<Side, SiteFault>
+    ensures { CauseGiven result (side_of word.now) }
 {
     if word.is(b"nat=inside") {
         Ok(Side::Inside)
@@ -92,26 +96,72 @@ pub(crate) fn read_side(word: &Word) -> Result<Side, LineFault>
     } else if word.is(b"nat=none") {
         Ok(Side::Neither)
     } else {
-        Err(LineFault::Bad(SiteCause::Syntax))
+        Err(MALFORMED)
     }
 }
 
-/// The length 1 to 32 of a network.
-fn read_len(text: &[u8]) -> Option<u8>
-    ensures value { result ≡ len_of text.now }
-    ensures in_range { IfSome result (λ len. (1 ≤ len) × (len ≤ 32)) }
+/// Four names and a side.
+#[tactic(auto, unfolding(crate::specs::SiteWords::names_and_side))]
+pub(crate) fn read_names_and_side(
+    alloc: Global,
+    a: &Word,
+    b: &Word,
+    c: &Word,
+    d: &Word,
+    e: &Word,
+) -> Result<(Names, Side), SiteFault>
+    ensures { CauseGiven result (names_and_side a.now b.now c.now d.now e.now) }
 {
-    let len = read_dec(text, 32)?;
-    if len == 0 { None } else { Some(len as u8) }
+    let names = read_names(alloc, a, b, c, d)?;
+    let side = read_side(e)?;
+    Ok((names, side))
 }
 
-/// The address and the length of a text such as `10.0.0.1/24`.
-pub(crate) fn read_net(text: &[u8]) -> Option<(u32, u8)>
-    ensures value { result ≡ net_of text.now }
-    ensures in_range { IfSome result (λ net. (1 ≤ net.1) × (net.1 ≤ 32)) }
+/// The address and the length of at most 32 of a text such as `10.0.0.1/24`.
+fn read_address_and_len(text: &[u8]) -> Option<(u32, u8)>
+    ensures value { result ≡ address_and_len text.now }
+    ensures in_range { IfSome result (λ net. net.1 ≤ 32) }
 {
     let (front, behind) = split_once(text, b'/')?;
     let addr = read_quad(front)?;
-    let len = read_len(behind)?;
-    Some((addr, len))
+    let len = read_dec(behind, 32)?;
+    Some((addr, len as u8))
+}
+
+/// An address with the length 1 to 32 of its network.
+pub(crate) fn read_address(word: &Word) -> Result<Address, SiteFault>
+    ensures { CauseGiven result (address_of word.now.text) }
+{
+    match read_address_and_len(word.text.as_slice()) {
+        Some((addr, len)) => {
+            if len == 0 {
+                Err(MALFORMED)
+            } else {
+                Ok(Address { addr, len })
+            }
+        }
+        None => Err(MALFORMED),
+    }
+}
+
+/// The address without the bits past the first `len`.
+fn cleared(addr: u32, len: u8) -> u32
+    requires { len ≤ 32 }
+    ensures { result ≡ addr - addr % 2 ^ (32 - len) }
+{
+    let size = 2u64.pow(32 - u32::from(len));
+    (u64::from(addr) - u64::from(addr) % size) as u32
+}
+
+/// A network of a length from 0 to 32, of which the bits past the length are cleared.
+pub(crate) fn read_net(word: &Word) -> Result<Prefix, SiteFault>
+    ensures { CauseGiven result (net_of word.now.text) }
+{
+    match read_address_and_len(word.text.as_slice()) {
+        Some((addr, len)) => Ok(Prefix {
+            addr: cleared(addr, len),
+            len,
+        }),
+        None => Err(MALFORMED),
+    }
 }

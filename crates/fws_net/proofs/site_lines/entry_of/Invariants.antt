@@ -1,9 +1,0 @@
-use Rattle.std.proofs.Common.{◌≡◌, ◌+◌, drop}
-use Rattle.fws_net.specs.SiteText.{entry_from}
-use Rattle.fws_net.proofs.site_lines.entry_of.Given as goal
-
-abbrev pub invariant-loop-face : goal.invariant-loop-face
-invariant-loop-face l = record {
-  so_far : entry_from l.entry (drop l.face-index l.faces) l.name ≡ entry_from 2 l.faces l.name;
-  counted : l.entry ≡ l.face-index + 2;
-}
