@@ -4,11 +4,12 @@ use Rattle.std.proofs.lemmas.Bool.{false≢true, and_parts, or_parts, or_right}
 use Rattle.std.specs.List.{list_all, list_any}
 use Rattle.std.specs.Option.{option_map_or}
 use Rattle.fws_num.specs.declared.word.Word.{Word}
-use Rattle.fws_net.specs.declared.read_answer.Cause.{Cause}
-use Rattle.fws_net.specs.declared.read_answer.Cause.TheVariants.{Syntax, LeftOut}
+use Rattle.fws_net.specs.declared.cause.Cause.{Cause}
+use Rattle.fws_net.specs.declared.cause.Cause.TheVariants.{Syntax, LeftOut}
 use Rattle.fws_net.specs.declared.site.Site.{Site}
 use Rattle.fws_net.specs.Ends.{host_end}
-use Rattle.fws_net.specs.Reading.{and_then, checked, words_read}
+use Rattle.fws_net.specs.Causes.{checked, words_read}
+use Rattle.fws_net.specs.Reading.{and_then}
 use Rattle.fws_ipt.specs.declared.config.IptTable.{IptTable}
 use Rattle.fws_ipt.specs.declared.config.IptTable.TheVariants.{Filter, Nat, Mangle}
 use Rattle.fws_ipt.specs.declared.config.IptGo.{IptGo}
@@ -168,9 +169,7 @@ protocol_kept table chains false protocol d h = h
 value_fits : (site : Site) (table : IptTable) (chains : List IptChain) (option : TestOption) (negated : Bool) (text : List ℕ) (d : RuleDraft) → Fitting table chains d
     → IfOk (value_step site option negated text d) (Fitting table chains)
 value_fits site table chains tests.Protocol negated text d h =
-    then_holds (Fitting table chains) (protocol_value text) _
-    (λ protocol. then_holds (Fitting table chains) (meaning_of site tests.Protocol text) _
-    (λ lit. record { act = protocol_kept table chains negated protocol d h.act; owned = refl }))
+    then_holds (Fitting table chains) (protocol_value text) _ (λ protocol. record { act = protocol_kept table chains negated protocol d h.act; owned = refl })
 value_fits site table chains tests.TcpFlags negated text d h =
     then_holds (Fitting table chains) (ok_or (flags_of text) Syntax) _ (λ mask. record { act = h.act; owned = refl })
 value_fits site table chains option negated text d h =

@@ -1,7 +1,10 @@
 pub mod Drafts
 pub mod Filtering
+pub mod Heights
 pub mod Levels
+pub mod Loops
 pub mod Outcomes
+pub mod Refused
 pub mod Texts
 pub mod Users
 pub mod Walks

@@ -4,10 +4,11 @@ use Rattle.std.specs.Option.{option_map_or}
 use Rattle.fws_num.specs.declared.lines.Line.{Line}
 use Rattle.fws_num.specs.declared.word.Word.{Word}
 use Rattle.fws_num.specs.Words.{is_sound}
-use Rattle.fws_net.specs.declared.read_answer.Cause.{Cause}
-use Rattle.fws_net.specs.declared.read_answer.Cause.TheVariants.{Syntax, LeftOut}
-use Rattle.fws_net.specs.declared.read_answer.Checks.{Checks}
-use Rattle.fws_net.specs.Reading.{and_then, unless, checked, judged, located, words_read, lines_read}
+use Rattle.fws_net.specs.declared.cause.Cause.{Cause}
+use Rattle.fws_net.specs.declared.cause.Cause.TheVariants.{Syntax, LeftOut}
+use Rattle.fws_net.specs.declared.cause.Checks.{Checks}
+use Rattle.fws_net.specs.Causes.{unless, checked, judged, words_read}
+use Rattle.fws_net.specs.Reading.{and_then, located, lines_read}
 
 -- One step
 
@@ -64,7 +65,7 @@ words_hold P step kept state (w ∷ ws) h =
     then_known P P (judged w (step state w)) (λ next. words_read step next ws) (judged_holds P w (step state w) (kept state w h))
     (λ next k. words_hold P step kept next ws k)
 
-located_holds : {A : Type 0} (P : A → Type 0) (n : ℕ) (r : Result A Cause) → IfOk r P → IfOk (located n r) P
+pub located_holds : {A : Type 0} (P : A → Type 0) (n : ℕ) (r : Result A Cause) → IfOk r P → IfOk (located n r) P
 located_holds P n (Ok x) h = h
 located_holds P n (Err cause) h = tt
 

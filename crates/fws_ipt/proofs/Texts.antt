@@ -6,9 +6,9 @@ use Rattle.std.specs.Option.{option_map_or}
 use Rattle.fws_num.specs.declared.comments.Comments.TheVariants.{HashLine}
 use Rattle.fws_num.specs.declared.word.Word.{Word}
 use Rattle.fws_num.specs.Lines.{read_of}
-use Rattle.fws_net.specs.declared.read_answer.Cause.TheVariants.{Syntax, LeftOut, NoName}
+use Rattle.fws_net.specs.declared.cause.Cause.TheVariants.{Syntax, LeftOut, NoName}
 use Rattle.fws_net.specs.declared.site.Site.{Site}
-use Rattle.fws_net.specs.Reading.{lines_read}
+use Rattle.fws_net.specs.Reading.{located, lines_read}
 use Rattle.fws_ipt.specs.declared.config.IptTable.{IptTable}
 use Rattle.fws_ipt.specs.declared.config.IptChain.{IptChain}
 use Rattle.fws_ipt.specs.declared.hook.Hook.{Hook}
@@ -20,7 +20,7 @@ use Rattle.fws_ipt.specs.Hooks.{hook_named, has_hook}
 use Rattle.fws_ipt.specs.RuleText.{is_chain, chain_from, rule_of}
 use Rattle.fws_ipt.specs.Soundness.{fits, chain_fits, is_fitting, SpelledFits}
 use Rattle.fws_ipt.proofs.Drafts.{rule_fits}
-use Rattle.fws_ipt.proofs.Outcomes.{then_holds, then_known, either_holds, found_holds, ok_or_holds, judged_holds, lines_hold}
+use Rattle.fws_ipt.proofs.Outcomes.{then_holds, then_known, either_holds, found_holds, ok_or_holds, judged_holds, located_holds, lines_hold}
 use Rattle.fws_ipt.proofs.Users.{is_at, is_named, chain_found, longer_fits, longer_named, ruled_fits, ruled_named}
 
 -- what holds of a text so far
@@ -157,13 +157,13 @@ words_stand site (w ∷ ws) d h = judged_holds Standing w (first_step site w.tex
 
 -- The whole text
 
-ended_fits : (past : ℕ) (d : IptDraft) → Standing d → IfOk (ended past d) (λ c. is_fitting c ≡ true)
-ended_fits past d h = either_holds (λ c. is_fitting c ≡ true) (is_some d.within) (Err _) (Ok (record { chains = d.chains })) (λ e. tt) (λ e. h.fitting)
+ended_fits : (d : IptDraft) → Standing d → IfOk (ended d) (λ c. is_fitting c ≡ true)
+ended_fits d h = either_holds (λ c. is_fitting c ≡ true) (is_some d.within) (Err Syntax) (Ok (record { chains = d.chains })) (λ e. tt) (λ e. h.fitting)
 
 pub spelled_is_fitting : SpelledFits
 spelled_is_fitting site text c e =
     let lines = read_of HashLine text in
     IfOk-at_ok (λ c. is_fitting c ≡ true) e
-    (then_known Standing (λ c. is_fitting c ≡ true) (lines_read (line_step site) fresh_text lines.lines) (ended lines.past)
+    (then_known Standing (λ c. is_fitting c ≡ true) (lines_read (line_step site) fresh_text lines.lines) (λ d. located lines.past (ended d))
     (lines_hold Standing (line_step site) (λ d l h. words_stand site l.words d h) fresh_text lines.lines (record { named = refl; fitting = refl }))
-    (ended_fits lines.past))
+    (λ d h. located_holds (λ c. is_fitting c ≡ true) lines.past (ended d) (ended_fits d h)))

@@ -6,7 +6,7 @@ use Rattle.std.proofs.lemmas.Option.{IfSome_then}
 use Rattle.std.proofs.lemmas.Slice.Eq.{bytes_eq-Decides}
 use Rattle.std.specs.List.{list_all}
 use Rattle.std.specs.Option.{option_map_or}
-use Rattle.fws_net.specs.declared.read_answer.Cause.TheVariants.{NoName}
+use Rattle.fws_net.specs.declared.cause.Cause.TheVariants.{NoName}
 use Rattle.fws_ipt.specs.declared.config.IptTable.{IptTable}
 use Rattle.fws_ipt.specs.declared.config.IptTable.TheVariants.{Filter, Nat, Mangle}
 use Rattle.fws_ipt.specs.declared.config.IptGo.{IptGo}

@@ -5,14 +5,14 @@ use Rattle.std.specs.Option.{option_map_or, ok_or}
 use Rattle.std.specs.Str.{bytes_eq}
 use Rattle.fws_num.specs.declared.comments.Comments.TheVariants.{HashLine}
 use Rattle.fws_num.specs.declared.lines.Line.{Line}
-use Rattle.fws_num.specs.declared.lines.Lines.{Lines}
 use Rattle.fws_num.specs.declared.word.Word.{Word}
-use Rattle.fws_num.specs.Lines.{read_of}
+use Rattle.fws_num.specs.Named.{named_in}
 use Rattle.fws_num.specs.Numbers.{dec_of, split_once}
-use Rattle.fws_net.specs.declared.read_answer.Cause.{Cause}
-use Rattle.fws_net.specs.declared.read_answer.Cause.TheVariants.{Syntax, LeftOut, NoName}
+use Rattle.fws_net.specs.declared.cause.Cause.{Cause}
+use Rattle.fws_net.specs.declared.cause.Cause.TheVariants.{Syntax, LeftOut, NoName}
 use Rattle.fws_net.specs.declared.site.Site.{Site}
-use Rattle.fws_net.specs.Reading.{Refusal, and_then, judged, lines_read}
+use Rattle.fws_net.specs.Causes.{judged}
+use Rattle.fws_net.specs.Reading.{Refusal, and_then, text_read}
 use Rattle.fws_ipt.specs.declared.config.IptTable.{IptTable}
 use Rattle.fws_ipt.specs.declared.config.IptTable.TheVariants.{Filter, Nat, Mangle}
 use Rattle.fws_ipt.specs.declared.config.IptRule.{IptRule}
@@ -30,14 +30,13 @@ use Rattle.fws_ipt.specs.Walk.{is_table}
 
 -- Tables
 
-abbrev pub section_named : List ℕ → Option Section
-section_named name =
-    if bytes_eq name (codes "filter") then Some (Met Filter)
-    else if bytes_eq name (codes "nat") then Some (Met Nat)
-    else if bytes_eq name (codes "mangle") then Some (Met Mangle)
-    else if bytes_eq name (codes "raw") then Some Raw
-    else if bytes_eq name (codes "security") then Some Security
-    else None
+-- the tables of a text by their names
+abbrev pub sections : List (List ℕ × Section)
+sections = (codes "filter", Met Filter) ∷ (codes "nat", Met Nat) ∷ (codes "mangle", Met Mangle) ∷ (codes "raw", Raw) ∷ (codes "security", Security) ∷ []
+
+-- the table of this name
+unfoldable pub section_named : List ℕ → Option Section
+section_named name = named_in sections name
 
 abbrev pub is_section : Section → Section → Bool
 is_section (Met a) (Met b) = is_table a b
@@ -120,12 +119,18 @@ may_drop (Met Mangle) = true
 may_drop Raw = false
 may_drop Security = false
 
+-- policies by their names: whether they accept
+abbrev pub policies : List (List ℕ × Bool)
+policies = (codes "ACCEPT", true) ∷ (codes "DROP", false) ∷ []
+
+-- whether the policy of this name accepts
+unfoldable pub policy_named : List ℕ → Option Bool
+policy_named text = named_in policies text
+
 -- the policy of a built-in chain
 abbrev pub policy_of : Section → List ℕ → Result Bool Cause
 policy_of section text =
-    if bytes_eq text (codes "ACCEPT") then Ok true
-    else if bytes_eq text (codes "DROP") then (if may_drop section then Ok false else Err LeftOut)
-    else Err Syntax
+    option_map_or (λ accepts. if accepts || may_drop section then Ok accepts else Err LeftOut) (policy_named text) (Err Syntax)
 
 -- behind the name of a built-in chain
 abbrev pub builtin_line : Section → Hook → List ℕ → List Word → IptDraft → Result IptDraft Cause
@@ -245,12 +250,9 @@ abbrev pub fresh_text : IptDraft
 fresh_text = record { opened = []; within = None; chains = []; others = [] }
 
 -- a text doesn't end within a table
-abbrev pub ended : ℕ → IptDraft → Result IptConfig Refusal
-ended past d = if is_some d.within then Err (record { line = past; cause = Syntax }) else Ok (record { chains = d.chains })
-
-abbrev pub spelled_lines : Site → Lines → Result IptConfig Refusal
-spelled_lines site lines = and_then (lines_read (line_step site) fresh_text lines.lines) (ended lines.past)
+abbrev pub ended : IptDraft → Result IptConfig Cause
+ended d = if is_some d.within then Err Syntax else Ok (record { chains = d.chains })
 
 -- the configuration that a text spells on a site
-abbrev pub spelled : Site → List ℕ → Result IptConfig Refusal
-spelled site text = spelled_lines site (read_of HashLine text)
+abbrev pub spelled : Site → List ℕ → Result IptConfig (Refusal Cause)
+spelled site text = text_read HashLine (line_step site) ended fresh_text text

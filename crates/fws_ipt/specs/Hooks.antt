@@ -1,6 +1,6 @@
 -- The built-in chains of the tables (iptables(8)).
-use Rattle.std.specs.Prelude.{ℕ, Bool, true, false, Option, Some, None, List, codes, if◌then◌else◌}
-use Rattle.std.specs.Str.{bytes_eq}
+use Rattle.std.specs.Prelude.{ℕ, Bool, true, false, Option, List, [], ◌∷◌, codes}
+use Rattle.fws_num.specs.Named.{named_in}
 use Rattle.fws_ipt.specs.declared.config.IptTable.{IptTable}
 use Rattle.fws_ipt.specs.declared.config.IptTable.TheVariants.{Filter, Nat, Mangle}
 use Rattle.fws_ipt.specs.declared.draft.Section.{Section}
@@ -8,15 +8,15 @@ use Rattle.fws_ipt.specs.declared.draft.Section.TheVariants.{Met, Raw, Security}
 use Rattle.fws_ipt.specs.declared.hook.Hook.{Hook}
 use Rattle.fws_ipt.specs.declared.hook.Hook.TheVariants.{Prerouting, Input, Forward, Output, Postrouting}
 
+-- hooks by the names of their chains
+abbrev pub hooks : List (List ℕ × Hook)
+hooks =
+    (codes "PREROUTING", Prerouting) ∷ (codes "INPUT", Input) ∷ (codes "FORWARD", Forward) ∷ (codes "OUTPUT", Output) ∷
+    (codes "POSTROUTING", Postrouting) ∷ []
+
 -- the hook of this name
-abbrev pub hook_named : List ℕ → Option Hook
-hook_named name =
-    if bytes_eq name (codes "PREROUTING") then Some Prerouting
-    else if bytes_eq name (codes "INPUT") then Some Input
-    else if bytes_eq name (codes "FORWARD") then Some Forward
-    else if bytes_eq name (codes "OUTPUT") then Some Output
-    else if bytes_eq name (codes "POSTROUTING") then Some Postrouting
-    else None
+unfoldable pub hook_named : List ℕ → Option Hook
+hook_named name = named_in hooks name
 
 -- the table has a built-in chain at the hook
 abbrev pub has_hook : IptTable → Hook → Bool

@@ -2,6 +2,7 @@ pub mod FileText
 pub mod FilterOnly
 pub mod Hooks
 pub mod Levels
+pub mod Loops
 pub mod Options
 pub mod Refusals
 pub mod RuleText

@@ -1,8 +1,9 @@
 -- The words of a rule (iptables(8), iptables-extensions(8)).
-use Rattle.std.specs.Prelude.{ℕ, Bool, true, false, Option, Some, None, List, [], ◌∷◌, codes, if◌then◌else◌}
+use Rattle.std.specs.Prelude.{ℕ, Bool, true, false, Option, Some, List, [], ◌∷◌, codes}
 use Rattle.std.specs.List.{list_any}
 use Rattle.std.specs.Option.{option_map, option_map_or}
 use Rattle.std.specs.Str.{bytes_eq}
+use Rattle.fws_num.specs.Named.{named_in}
 use Rattle.fws_ipt.specs.declared.words.Keyword.{Keyword}
 use Rattle.fws_ipt.specs.declared.words.Keyword.TheVariants.{Not, Match, Jump, Goto, Comment, Limit, Line, Test, Target}
 use Rattle.fws_ipt.specs.declared.words.TestOption.{TestOption}
@@ -14,85 +15,42 @@ use Rattle.fws_ipt.specs.declared.words.TargetWord.TheVariants as targets
 
 -- Options
 
--- an option of packets' addresses, interfaces and protocols
-abbrev pub plain_option : List ℕ → Option TestOption
-plain_option text =
-    if bytes_eq text (codes "-s") then Some tests.Source
-    else if bytes_eq text (codes "-d") then Some tests.Destination
-    else if bytes_eq text (codes "-i") then Some tests.InInterface
-    else if bytes_eq text (codes "-o") then Some tests.OutInterface
-    else if bytes_eq text (codes "-p") then Some tests.Protocol
-    else None
-
--- an option of a protocol's module
-abbrev pub protocol_option : List ℕ → Option TestOption
-protocol_option text =
-    if bytes_eq text (codes "--sport") then Some tests.SourcePort
-    else if bytes_eq text (codes "--dport") then Some tests.DestinationPort
-    else if bytes_eq text (codes "--sports") then Some tests.SourcePorts
-    else if bytes_eq text (codes "--dports") then Some tests.DestinationPorts
-    else if bytes_eq text (codes "--tcp-flags") then Some tests.TcpFlags
-    else if bytes_eq text (codes "--syn") then Some tests.Syn
-    else if bytes_eq text (codes "--icmp-type") then Some tests.IcmpType
-    else None
-
--- an option of another module
-abbrev pub module_option : List ℕ → Option TestOption
-module_option text =
-    if bytes_eq text (codes "--state") then Some tests.State
-    else if bytes_eq text (codes "--ctstate") then Some tests.ConnectionState
-    else if bytes_eq text (codes "--mark") then Some tests.Mark
-    else if bytes_eq text (codes "--src-range") then Some tests.SourceRange
-    else if bytes_eq text (codes "--dst-range") then Some tests.DestinationRange
-    else if bytes_eq text (codes "--src-type") then Some tests.SourceType
-    else if bytes_eq text (codes "--dst-type") then Some tests.DestinationType
-    else None
+-- options that test a packet
+abbrev pub test_options : List (List ℕ × TestOption)
+test_options =
+    (codes "-s", tests.Source) ∷ (codes "-d", tests.Destination) ∷ (codes "-i", tests.InInterface) ∷ (codes "-o", tests.OutInterface) ∷
+    (codes "-p", tests.Protocol) ∷ (codes "--sport", tests.SourcePort) ∷ (codes "--dport", tests.DestinationPort) ∷
+    (codes "--sports", tests.SourcePorts) ∷ (codes "--dports", tests.DestinationPorts) ∷ (codes "--tcp-flags", tests.TcpFlags) ∷
+    (codes "--syn", tests.Syn) ∷ (codes "--icmp-type", tests.IcmpType) ∷ (codes "--state", tests.State) ∷
+    (codes "--ctstate", tests.ConnectionState) ∷ (codes "--mark", tests.Mark) ∷ (codes "--src-range", tests.SourceRange) ∷
+    (codes "--dst-range", tests.DestinationRange) ∷ (codes "--src-type", tests.SourceType) ∷ (codes "--dst-type", tests.DestinationType) ∷ []
 
 -- an option that tests a packet
-abbrev pub test_option : List ℕ → Option TestOption
-test_option text = option_map_or Some (plain_option text) (option_map_or Some (protocol_option text) (module_option text))
+unfoldable pub test_option : List ℕ → Option TestOption
+test_option text = named_in test_options text
 
--- an option of LOG, NFLOG or REJECT
-abbrev pub log_option : List ℕ → Option TargetOption
-log_option text =
-    if bytes_eq text (codes "--reject-with") then Some options.RejectWith
-    else if bytes_eq text (codes "--log-prefix") then Some options.LogPrefix
-    else if bytes_eq text (codes "--log-level") then Some options.LogLevel
-    else if bytes_eq text (codes "--log-tcp-sequence") then Some options.LogTcpSequence
-    else if bytes_eq text (codes "--log-tcp-options") then Some options.LogTcpOptions
-    else if bytes_eq text (codes "--log-ip-options") then Some options.LogIpOptions
-    else if bytes_eq text (codes "--log-uid") then Some options.LogUid
-    else if bytes_eq text (codes "--nflog-group") then Some options.NflogGroup
-    else if bytes_eq text (codes "--nflog-prefix") then Some options.NflogPrefix
-    else None
-
--- an option of a target that writes
-abbrev pub write_option : List ℕ → Option TargetOption
-write_option text =
-    if bytes_eq text (codes "--set-xmark") then Some options.SetXmark
-    else if bytes_eq text (codes "--set-mark") then Some options.SetMark
-    else if bytes_eq text (codes "--to-source") then Some options.ToSource
-    else if bytes_eq text (codes "--to-destination") then Some options.ToDestination
-    else if bytes_eq text (codes "--to-ports") then Some options.ToPorts
-    else None
+-- options of targets
+abbrev pub target_options : List (List ℕ × TargetOption)
+target_options =
+    (codes "--reject-with", options.RejectWith) ∷ (codes "--log-prefix", options.LogPrefix) ∷ (codes "--log-level", options.LogLevel) ∷
+    (codes "--log-tcp-sequence", options.LogTcpSequence) ∷ (codes "--log-tcp-options", options.LogTcpOptions) ∷
+    (codes "--log-ip-options", options.LogIpOptions) ∷ (codes "--log-uid", options.LogUid) ∷ (codes "--nflog-group", options.NflogGroup) ∷
+    (codes "--nflog-prefix", options.NflogPrefix) ∷ (codes "--set-xmark", options.SetXmark) ∷ (codes "--set-mark", options.SetMark) ∷
+    (codes "--to-source", options.ToSource) ∷ (codes "--to-destination", options.ToDestination) ∷ (codes "--to-ports", options.ToPorts) ∷ []
 
 -- an option of a target
-abbrev pub target_option : List ℕ → Option TargetOption
-target_option text = option_map_or Some (log_option text) (write_option text)
+unfoldable pub target_option : List ℕ → Option TargetOption
+target_option text = named_in target_options text
+
+-- keywords that are no options of tests or targets
+abbrev pub other_keywords : List (List ℕ × Keyword)
+other_keywords =
+    (codes "!", Not) ∷ (codes "-m", Match) ∷ (codes "-j", Jump) ∷ (codes "-g", Goto) ∷ (codes "--comment", Comment) ∷ (codes "--limit", Limit) ∷
+    (codes "--limit-burst", Limit) ∷ (codes "-A", Line) ∷ (codes "COMMIT", Line) ∷ []
 
 -- a keyword that is no option of a test or a target
-abbrev pub other_keyword : List ℕ → Option Keyword
-other_keyword text =
-    if bytes_eq text (codes "!") then Some Not
-    else if bytes_eq text (codes "-m") then Some Match
-    else if bytes_eq text (codes "-j") then Some Jump
-    else if bytes_eq text (codes "-g") then Some Goto
-    else if bytes_eq text (codes "--comment") then Some Comment
-    else if bytes_eq text (codes "--limit") then Some Limit
-    else if bytes_eq text (codes "--limit-burst") then Some Limit
-    else if bytes_eq text (codes "-A") then Some Line
-    else if bytes_eq text (codes "COMMIT") then Some Line
-    else None
+unfoldable pub other_keyword : List ℕ → Option Keyword
+other_keyword text = named_in other_keywords text
 
 -- the keyword that a word is, if it is one
 abbrev pub keyword_of : List ℕ → Option Keyword
@@ -102,35 +60,41 @@ keyword_of text =
 
 -- Modules and targets
 
+-- the text is one of the names
 abbrev pub is_one_of : List (List ℕ) → List ℕ → Bool
 is_one_of names text = list_any (bytes_eq text) names
 
+-- modules whose options are read
+abbrev pub modules : List (List ℕ)
+modules =
+    codes "tcp" ∷ codes "udp" ∷ codes "icmp" ∷ codes "multiport" ∷ codes "state" ∷ codes "conntrack" ∷ codes "mark" ∷
+    codes "iprange" ∷ codes "addrtype" ∷ codes "comment" ∷ codes "limit" ∷ []
+
 -- a module whose options are read
-abbrev pub is_module : List ℕ → Bool
-is_module text = is_one_of (codes "tcp" ∷ codes "udp" ∷ codes "icmp" ∷ codes "multiport" ∷ codes "state" ∷ codes "conntrack" ∷ codes "mark"
-    ∷ codes "iprange" ∷ codes "addrtype" ∷ codes "comment" ∷ codes "limit" ∷ []) text
+unfoldable pub is_module : List ℕ → Bool
+is_module text = is_one_of modules text
+
+-- targets that are read
+abbrev pub target_words : List (List ℕ × TargetWord)
+target_words =
+    (codes "ACCEPT", targets.Accept) ∷ (codes "DROP", targets.Drop) ∷ (codes "RETURN", targets.Return) ∷ (codes "REJECT", targets.Reject) ∷
+    (codes "LOG", targets.Log) ∷ (codes "NFLOG", targets.Nflog) ∷ (codes "MARK", targets.Mark) ∷ (codes "SNAT", targets.Source) ∷
+    (codes "DNAT", targets.Destination) ∷ (codes "MASQUERADE", targets.Masquerade) ∷ (codes "REDIRECT", targets.Redirect) ∷ []
 
 -- a target that is read
-abbrev pub target_word : List ℕ → Option TargetWord
-target_word text =
-    if bytes_eq text (codes "ACCEPT") then Some targets.Accept
-    else if bytes_eq text (codes "DROP") then Some targets.Drop
-    else if bytes_eq text (codes "RETURN") then Some targets.Return
-    else if bytes_eq text (codes "REJECT") then Some targets.Reject
-    else if bytes_eq text (codes "LOG") then Some targets.Log
-    else if bytes_eq text (codes "NFLOG") then Some targets.Nflog
-    else if bytes_eq text (codes "MARK") then Some targets.Mark
-    else if bytes_eq text (codes "SNAT") then Some targets.Source
-    else if bytes_eq text (codes "DNAT") then Some targets.Destination
-    else if bytes_eq text (codes "MASQUERADE") then Some targets.Masquerade
-    else if bytes_eq text (codes "REDIRECT") then Some targets.Redirect
-    else None
+unfoldable pub target_word : List ℕ → Option TargetWord
+target_word text = named_in target_words text
+
+-- targets that are left out
+abbrev pub left_out_targets : List (List ℕ)
+left_out_targets =
+    codes "CHECKSUM" ∷ codes "CLASSIFY" ∷ codes "CONNMARK" ∷ codes "CT" ∷ codes "DSCP" ∷ codes "HL" ∷ codes "NETMAP" ∷
+    codes "NFQUEUE" ∷ codes "NOTRACK" ∷ codes "QUEUE" ∷ codes "SECMARK" ∷ codes "SET" ∷ codes "TCPMSS" ∷ codes "TEE" ∷
+    codes "TOS" ∷ codes "TPROXY" ∷ codes "TRACE" ∷ codes "TTL" ∷ codes "ULOG" ∷ []
 
 -- a target that is left out
-abbrev pub is_left_out_target : List ℕ → Bool
-is_left_out_target text = is_one_of (codes "CHECKSUM" ∷ codes "CLASSIFY" ∷ codes "CONNMARK" ∷ codes "CT" ∷ codes "DSCP" ∷ codes "HL"
-    ∷ codes "NETMAP" ∷ codes "NFQUEUE" ∷ codes "NOTRACK" ∷ codes "QUEUE" ∷ codes "SECMARK" ∷ codes "SET" ∷ codes "TCPMSS" ∷ codes "TEE"
-    ∷ codes "TOS" ∷ codes "TPROXY" ∷ codes "TRACE" ∷ codes "TTL" ∷ codes "ULOG" ∷ []) text
+unfoldable pub is_left_out_target : List ℕ → Bool
+is_left_out_target text = is_one_of left_out_targets text
 
 -- the option is one of the target's
 abbrev pub belongs : TargetOption → TargetWord → Bool

@@ -6,12 +6,13 @@ use Rattle.std.specs.Str.{bytes_eq}
 use Rattle.fws_num.specs.declared.word.Word.{Word}
 use Rattle.fws_net.specs.declared.condition.Lit.{Lit}
 use Rattle.fws_net.specs.declared.condition.Test.TheVariants as tests
-use Rattle.fws_net.specs.declared.read_answer.Cause.{Cause}
-use Rattle.fws_net.specs.declared.read_answer.Cause.TheVariants.{Syntax, LeftOut, NoName}
-use Rattle.fws_net.specs.declared.read_answer.Checks.{Checks}
+use Rattle.fws_net.specs.declared.cause.Cause.{Cause}
+use Rattle.fws_net.specs.declared.cause.Cause.TheVariants.{Syntax, LeftOut, NoName}
+use Rattle.fws_net.specs.declared.cause.Checks.{Checks}
 use Rattle.fws_net.specs.declared.site.Site.{Site}
 use Rattle.fws_net.specs.Ends.{host_end}
-use Rattle.fws_net.specs.Reading.{and_then, checked, words_read}
+use Rattle.fws_net.specs.Causes.{checked, words_read}
+use Rattle.fws_net.specs.Reading.{and_then}
 use Rattle.fws_ipt.specs.declared.config.IptTable.{IptTable}
 use Rattle.fws_ipt.specs.declared.config.IptTable.TheVariants.{Filter, Nat, Mangle}
 use Rattle.fws_ipt.specs.declared.config.IptGo.{IptGo}
@@ -30,7 +31,7 @@ use Rattle.fws_ipt.specs.declared.draft.Expects.{Expects}
 use Rattle.fws_ipt.specs.declared.draft.Expects.TheVariants as expect
 use Rattle.fws_ipt.specs.declared.draft.RuleDraft.{RuleDraft}
 use Rattle.fws_ipt.specs.Options.{keyword_of, is_module, target_word, is_left_out_target, belongs, needs_option}
-use Rattle.fws_ipt.specs.Values.{meaning_of, literals, protocol_value, flags_of, syn_literal, positive, xmark_value, set_mark_value, place_of, to_port}
+use Rattle.fws_ipt.specs.Values.{meaning_of, literals, protocol_value, protocol_literal, flags_of, syn_literal, positive, xmark_value, set_mark_value, place_of, to_port}
 use Rattle.fws_ipt.specs.Hooks.{has_hook, hook_named}
 use Rattle.fws_ipt.specs.Walk.{is_table}
 
@@ -107,9 +108,9 @@ with_protocol true protocol d = d
 with_protocol false protocol d = record d { protocol = protocol }
 
 -- the value of `-p`
-abbrev pub protocol_step : Site → Bool → List ℕ → RuleDraft → Result RuleDraft Cause
-protocol_step site negated text d = and_then (protocol_value text) (λ protocol. and_then (meaning_of site Protocol text)
-    (λ lit. Ok (with_literals (literals negated lit) (with_protocol negated protocol d))))
+abbrev pub protocol_step : Bool → List ℕ → RuleDraft → Result RuleDraft Cause
+protocol_step negated text d =
+    and_then (protocol_value text) (λ protocol. Ok (with_literals (literals negated (protocol_literal protocol)) (with_protocol negated protocol d)))
 
 -- the mask of `--tcp-flags`
 abbrev pub mask_step : Bool → List ℕ → RuleDraft → Result RuleDraft Cause
@@ -125,7 +126,7 @@ plain_step site negated option text d = and_then (meaning_of site option text) (
 
 -- the value of an option
 abbrev pub value_step : Site → TestOption → Bool → List ℕ → RuleDraft → Result RuleDraft Cause
-value_step site Protocol negated text d = protocol_step site negated text d
+value_step site Protocol negated text d = protocol_step negated text d
 value_step site TcpFlags negated text d = mask_step negated text d
 value_step site option negated text d = plain_step site negated option text d
 

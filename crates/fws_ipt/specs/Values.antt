@@ -4,6 +4,7 @@ use Rattle.std.specs.List.{list_all, list_any}
 use Rattle.std.specs.Option.{option_map, option_map_or, ok_or}
 use Rattle.std.specs.Str.{bytes_eq}
 use Rattle.std.specs.Int.Bits.{bit_or}
+use Rattle.fws_num.specs.Named.{named_in}
 use Rattle.fws_num.specs.Numbers.{is_digit, dec_of, quad_of, prefix_of, split_once}
 use Rattle.fws_num.specs.Pieces.{pieces_of}
 use Rattle.fws_num.specs.Protocols.{protocol_of}
@@ -13,8 +14,8 @@ use Rattle.fws_net.specs.declared.condition.Lit.{Lit}
 use Rattle.fws_net.specs.declared.condition.Test.{Test}
 use Rattle.fws_net.specs.declared.condition.Test.TheVariants as tests
 use Rattle.fws_net.specs.declared.packet.Lang.TheVariants.{Iptables}
-use Rattle.fws_net.specs.declared.read_answer.Cause.{Cause}
-use Rattle.fws_net.specs.declared.read_answer.Cause.TheVariants.{Syntax, LeftOut, NoInterface}
+use Rattle.fws_net.specs.declared.cause.Cause.{Cause}
+use Rattle.fws_net.specs.declared.cause.Cause.TheVariants.{Syntax, LeftOut, NoInterface}
 use Rattle.fws_net.specs.declared.site.Site.{Site}
 use Rattle.fws_net.specs.Faces.{prefix_parts, local_parts, entry_named, entries_beginning}
 use Rattle.fws_net.specs.Ports.{in_order, ports_of, address_range, addresses_between}
@@ -60,10 +61,15 @@ interfaces_of site text = option_map_or (λ front. Ok (entries_beginning Iptable
 abbrev pub interface_meaning : Site → (List Iv → Test) → List ℕ → Result (Option Lit) Cause
 interface_meaning site test text = and_then (interfaces_of site text) (λ set. Ok (Some (positive (test set))))
 
+-- types of addresses
+abbrev pub address_types : List (List ℕ)
+address_types =
+    codes "UNSPEC" ∷ codes "UNICAST" ∷ codes "LOCAL" ∷ codes "BROADCAST" ∷ codes "ANYCAST" ∷ codes "MULTICAST" ∷
+    codes "BLACKHOLE" ∷ codes "UNREACHABLE" ∷ codes "PROHIBIT" ∷ codes "THROW" ∷ codes "NAT" ∷ codes "XRESOLVE" ∷ []
+
 -- a type of addresses
-abbrev pub is_address_type : List ℕ → Bool
-is_address_type text = is_one_of (codes "UNSPEC" ∷ codes "UNICAST" ∷ codes "LOCAL" ∷ codes "BROADCAST" ∷ codes "ANYCAST" ∷ codes "MULTICAST"
-    ∷ codes "BLACKHOLE" ∷ codes "UNREACHABLE" ∷ codes "PROHIBIT" ∷ codes "THROW" ∷ codes "NAT" ∷ codes "XRESOLVE" ∷ []) text
+unfoldable pub is_address_type : List ℕ → Bool
+is_address_type text = is_one_of address_types text
 
 -- LOCAL alone is read of the types of addresses
 abbrev pub type_meaning : Site → (List Iv → Test) → List ℕ → Result (Option Lit) Cause
@@ -79,11 +85,9 @@ protocol_value text =
     if bytes_eq text (codes "all") then Ok None
     else option_map_or (λ n. if nat_eq n 0 then Ok None else Ok (Some n)) (protocol_of text) (Err Syntax)
 
+-- the literal of a protocol; none for every one
 abbrev pub protocol_literal : Option ℕ → Option Lit
 protocol_literal protocol = option_map (λ n. positive (tests.Proto (one n n))) protocol
-
-abbrev pub protocol_meaning : List ℕ → Result (Option Lit) Cause
-protocol_meaning text = and_then (protocol_value text) (λ protocol. Ok (protocol_literal protocol))
 
 -- an end of a port range; one that is left empty is the given one
 abbrev pub end_of_range : ℕ → List ℕ → Option ℕ
@@ -96,15 +100,21 @@ open_range text = option_map_or
     (split_once 58 text)
     (option_map (λ p. (p, p)) (port_of text))
 
-abbrev pub flag_of : List ℕ → Option ℕ
-flag_of text =
-    if bytes_eq text (codes "FIN") then Some 1
-    else if bytes_eq text (codes "SYN") then Some 2
-    else if bytes_eq text (codes "RST") then Some 4
-    else if bytes_eq text (codes "PSH") then Some 8
-    else if bytes_eq text (codes "ACK") then Some 16
-    else if bytes_eq text (codes "URG") then Some 32
-    else None
+-- TCP flags and their bits
+abbrev pub tcp_flags : List (List ℕ × ℕ)
+tcp_flags = (codes "FIN", 1) ∷ (codes "SYN", 2) ∷ (codes "RST", 4) ∷ (codes "PSH", 8) ∷ (codes "ACK", 16) ∷ (codes "URG", 32) ∷ []
+
+-- the bit of a flag
+unfoldable pub flag_of : List ℕ → Option ℕ
+flag_of text = named_in tcp_flags text
+
+-- words that stand alone for several flags
+abbrev pub flag_sets : List (List ℕ × ℕ)
+flag_sets = (codes "ALL", 63) ∷ (codes "NONE", 0) ∷ []
+
+-- the bits of such a word
+unfoldable pub flag_set : List ℕ → Option ℕ
+flag_set text = named_in flag_sets text
 
 -- the flags of the items, beside these
 abbrev pub with_flags : ℕ → List (List ℕ) → Option ℕ
@@ -113,10 +123,7 @@ with_flags flags (item ∷ items) = option_and_then (λ flag. with_flags (bit_or
 
 -- flags joined by commas, or ALL or NONE alone
 abbrev pub flags_of : List ℕ → Option ℕ
-flags_of text =
-    if bytes_eq text (codes "ALL") then Some 63
-    else if bytes_eq text (codes "NONE") then Some 0
-    else with_flags 0 (pieces_of 44 text)
+flags_of text = option_map_or Some (flag_set text) (with_flags 0 (pieces_of 44 text))
 
 -- `--syn` stands for `--tcp-flags FIN,SYN,RST,ACK SYN`
 abbrev pub syn_literal : Lit
@@ -136,11 +143,21 @@ icmp_meaning text =
 
 -- Connections and marks
 
-abbrev pub is_state : List ℕ → Bool
-is_state text = is_one_of (codes "NEW" ∷ codes "ESTABLISHED" ∷ codes "RELATED" ∷ codes "INVALID" ∷ codes "UNTRACKED" ∷ codes "SNAT" ∷ codes "DNAT" ∷ []) text
+-- states of connections
+abbrev pub states : List (List ℕ)
+states = codes "NEW" ∷ codes "ESTABLISHED" ∷ codes "RELATED" ∷ codes "INVALID" ∷ codes "UNTRACKED" ∷ codes "SNAT" ∷ codes "DNAT" ∷ []
 
-abbrev pub is_translation_state : List ℕ → Bool
-is_translation_state text = is_one_of (codes "SNAT" ∷ codes "DNAT" ∷ []) text
+-- a state of connections
+unfoldable pub is_state : List ℕ → Bool
+is_state text = is_one_of states text
+
+-- states of translated connections, which are left out
+abbrev pub translation_states : List (List ℕ)
+translation_states = codes "SNAT" ∷ codes "DNAT" ∷ []
+
+-- a state of translated connections
+unfoldable pub is_translation_state : List ℕ → Bool
+is_translation_state text = is_one_of translation_states text
 
 -- every packet is new or established, and no packet is anything else
 abbrev pub state_literal : Bool → Bool → Option Lit
@@ -252,13 +269,13 @@ to_port text = option_map_or Ok (port_of text) (if is_some (ports_between 45 tex
 
 -- Options
 
--- the literal of an option with one value; none where it holds of every packet. The flags of `--tcp-flags` are two values
+-- the literal of an option with one value; none where it holds of every packet. `-p`, `--tcp-flags` and `--syn` have steps of their own
 abbrev pub meaning_of : Site → TestOption → List ℕ → Result (Option Lit) Cause
 meaning_of site options.Source text = prefix_meaning tests.Src text
 meaning_of site options.Destination text = prefix_meaning tests.Dst text
 meaning_of site options.InInterface text = interface_meaning site tests.Recv text
 meaning_of site options.OutInterface text = interface_meaning site tests.Xmit text
-meaning_of site options.Protocol text = protocol_meaning text
+meaning_of site options.Protocol text = Err Syntax
 meaning_of site options.SourcePort text = range_meaning tests.Sport (open_range text)
 meaning_of site options.DestinationPort text = range_meaning tests.Dport (open_range text)
 meaning_of site options.SourcePorts text = set_meaning tests.Sport (ports_of 58 text)

@@ -1,5 +1,6 @@
 //! Laws over configurations and their texts: functions with nothing to do.
 
+ghost use Rattle.fws_ipt.specs.Loops.{FittingNamesChains, LoopsAreFound, LoopsAreReal, RefusedLoopsAreReal, SizesStandStill, SizesUnfold, UnrefusedHaveNoLoop, WalksStandStill, WalksUnfold};
 ghost use Rattle.fws_ipt.specs.Soundness.{FilterOnlyRules, SpelledFits};
 
 /// Every configuration that a text spells is fitting: a law, with nothing to do.
@@ -11,4 +12,54 @@ pub fn spelled_fits()
 /// goes on at the next: a law, with nothing to do.
 pub fn filter_only_rules()
     ensures { FilterOnlyRules }
+{}
+
+/// A chain that reaches itself over jumps and gotos is found, although no more steps are tried than
+/// there are chains: a law, with nothing to do.
+pub fn loops_are_found()
+    ensures { LoopsAreFound }
+{}
+
+/// A chain that is found to reach itself does: a law, with nothing to do.
+pub fn loops_are_real()
+    ensures { LoopsAreReal }
+{}
+
+/// What is refused for a loop at a chain has that loop: a law, with nothing to do.
+pub fn refused_loops_are_real()
+    ensures { RefusedLoopsAreReal }
+{}
+
+/// What isn't refused has no loop: a law, with nothing to do.
+pub fn unrefused_have_no_loop()
+    ensures { UnrefusedHaveNoLoop }
+{}
+
+/// In a fitting configuration rules name its own chains: a law, with nothing to do.
+pub fn fitting_names_chains()
+    ensures { FittingNamesChains }
+{}
+
+/// Without loops no size changes where more chains may be entered than there are: a law, with nothing
+/// to do.
+pub fn sizes_stand_still()
+    ensures { SizesStandStill }
+{}
+
+/// Without loops a chain's size is its width and the sizes of the chains that it names: a law, with
+/// nothing to do.
+pub fn sizes_unfold()
+    ensures { SizesUnfold }
+{}
+
+/// Without loops no walk changes where more chains may be entered than there are: a law, with nothing
+/// to do.
+pub fn walks_stand_still()
+    ensures { WalksStandStill }
+{}
+
+/// Without loops the walk through a chain is the walk of its rules, where each chain that they name is
+/// entered likewise: a law, with nothing to do.
+pub fn walks_unfold()
+    ensures { WalksUnfold }
 {}

@@ -9,14 +9,16 @@ pub mod model;
 mod passage;
 mod plainness;
 mod refusal;
-#[cfg(test)]
-mod tests;
 mod words;
 
 pub use config::{IptChain, IptConfig, IptGo, IptRule, IptTable};
 pub use draft::{Expects, IptDraft, OtherChain, RuleDraft, Section};
 pub use hook::Hook;
-pub use laws::{filter_only_rules, spelled_fits};
+pub use laws::{
+    filter_only_rules, fitting_names_chains, loops_are_found, loops_are_real,
+    refused_loops_are_real, sizes_stand_still, sizes_unfold, spelled_fits, unrefused_have_no_loop,
+    walks_stand_still, walks_unfold,
+};
 pub use passage::{ChainEnd, Passage};
 pub use plainness::filter_only;
 pub use refusal::UnfoldRefusal;

@@ -12,9 +12,7 @@ fn filters_only(chain: &IptChain) -> bool
     match (chain.table, chain.policy) {
         (_, None) => false,
         (IptTable::Filter, Some(_)) => true,
-        (IptTable::Nat | IptTable::Mangle, Some(accepts)) => {
-            accepts && chain.rules.as_slice().is_empty()
-        }
+        (IptTable::Nat | IptTable::Mangle, Some(accepts)) => { accepts && chain.rules.is_empty() }
     }
 }
 

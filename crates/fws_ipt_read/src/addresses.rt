@@ -6,15 +6,15 @@ ghost use Rattle.fws_net.specs.Ports.{address_range};
 ghost use Rattle.fws_ipt.specs.Values.{prefix_meaning, range_meaning, is_address_type, type_meaning};
 ghost use Rattle.fws_ipt_read.specs.Sets.{SetGiven};
 
-use crate::compared::is;
+use crate::compared::{is, is_one_of};
 use crate::literals::demand;
 use fws_iv::{Ivs, one};
-use fws_net::{Cause, LineFault, Site, local_set, prefix_set, read_address_range};
+use fws_net::{Cause, ReadFault, Site, local_set, prefix_set, read_address_range};
 use fws_num::{Text, pieces, read_prefix};
 use std::alloc::Global;
 
 /// The addresses of a prefix.
-pub(crate) fn read_prefix_set(alloc: Global, text: &[u8]) -> Result<Ivs, LineFault>
+pub(crate) fn read_prefix_set(alloc: Global, text: &[u8]) -> Result<Ivs, ReadFault>
     ensures { SetGiven result (λ test. prefix_meaning test text.now) }
 {
     let prefix = demand(read_prefix(text))?;
@@ -22,28 +22,35 @@ pub(crate) fn read_prefix_set(alloc: Global, text: &[u8]) -> Result<Ivs, LineFau
 }
 
 /// The addresses of a range with a dash.
-pub(crate) fn read_range_set(alloc: Global, text: &[u8]) -> Result<Ivs, LineFault>
+pub(crate) fn read_range_set(alloc: Global, text: &[u8]) -> Result<Ivs, ReadFault>
     ensures { SetGiven result (λ test. range_meaning test (address_range text.now)) }
 {
     let (lo, hi) = demand(read_address_range(text))?;
     Ok(one(alloc, lo, hi)?)
 }
 
+/// Types of addresses.
+const ADDRESS_TYPES: [&[u8]; 12] = [
+    b"UNSPEC",
+    b"UNICAST",
+    b"LOCAL",
+    b"BROADCAST",
+    b"ANYCAST",
+    b"MULTICAST",
+    b"BLACKHOLE",
+    b"UNREACHABLE",
+    b"PROHIBIT",
+    b"THROW",
+    b"NAT",
+    b"XRESOLVE",
+];
+
+/// Whether it is a type of addresses.
+#[tactic(auto, unfolding(fws_ipt::specs::Values::is_address_type))]
 fn is_address_type(text: &[u8]) -> bool
     ensures { result ≡ is_address_type text.now }
 {
-    is(text, b"UNSPEC")
-        || is(text, b"UNICAST")
-        || is(text, b"LOCAL")
-        || is(text, b"BROADCAST")
-        || is(text, b"ANYCAST")
-        || is(text, b"MULTICAST")
-        || is(text, b"BLACKHOLE")
-        || is(text, b"UNREACHABLE")
-        || is(text, b"PROHIBIT")
-        || is(text, b"THROW")
-        || is(text, b"NAT")
-        || is(text, b"XRESOLVE")
+    is_one_of(&ADDRESS_TYPES, text)
 }
 
 fn are_address_types(items: &[Text]) -> bool
@@ -53,7 +60,7 @@ fn are_address_types(items: &[Text]) -> bool
 }
 
 /// The addresses of the type LOCAL: those of the host. Other types, and several, are left out.
-pub(crate) fn read_type_set(alloc: Global, site: &Site, text: &[u8]) -> Result<Ivs, LineFault>
+pub(crate) fn read_type_set(alloc: Global, site: &Site, text: &[u8]) -> Result<Ivs, ReadFault>
     ensures { SetGiven result (λ test. type_meaning site.now test text.now) }
 {
     if is(text, b"LOCAL") {
@@ -61,8 +68,8 @@ pub(crate) fn read_type_set(alloc: Global, site: &Site, text: &[u8]) -> Result<I
     }
     let items = pieces(alloc, b',', text)?;
     if are_address_types(items.as_slice()) {
-        Err(LineFault::Bad(Cause::LeftOut))
+        Err(ReadFault::Bad(Cause::LeftOut))
     } else {
-        Err(LineFault::Bad(Cause::Syntax))
+        Err(ReadFault::Bad(Cause::Syntax))
     }
 }

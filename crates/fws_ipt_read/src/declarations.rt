@@ -4,36 +4,39 @@ ghost use Rattle.std.specs.Prelude.{◌≡◌, Option, Some, None, false, IfOk, 
 ghost use Rattle.fws_net.specs.Reading.{CauseGiven, StepGiven};
 ghost use Rattle.fws_ipt.specs.declared.draft.IptDraft.{IptDraft};
 ghost use Rattle.fws_ipt.specs.RuleText.{chain_from};
-ghost use Rattle.fws_ipt.specs.FileText.{alone, ends_declaration, with_builtin, policy_of, builtin_line, user_line, is_declared, builtin_declared, user_declared, declared_in, chain_line};
+ghost use Rattle.fws_ipt.specs.FileText.{alone, ends_declaration, with_builtin, policy_named, policy_of, builtin_line, user_line, is_declared, builtin_declared, user_declared, declared_in, chain_line};
 
-use crate::compared::is;
 use crate::counters::is_counters;
 use crate::hooks::{builtin_hook, may_drop};
+use crate::literals::demand;
 use crate::progress::Progress;
 use fws_ipt::{Hook, IptTable, Section};
-use fws_net::{Cause, LineFault};
-use fws_num::{Memory, Word};
+use fws_net::{Cause, ReadFault};
+use fws_num::{Memory, Word, value_named};
 use std::alloc::Global;
 
+/// Policies by their names: whether they accept.
+const POLICIES: [(&[u8], bool); 2] = [(b"ACCEPT", true), (b"DROP", false)];
+
 /// Judges that no word stands behind.
-pub(crate) fn alone(words: &[Word]) -> Result<(), LineFault>
+pub(crate) fn alone(words: &[Word]) -> Result<(), ReadFault>
     ensures { (d : IptDraft) → StepGiven result d (alone words.now d) }
 {
     match words {
         [] => Ok(()),
-        [_, ..] => Err(LineFault::Bad(Cause::Syntax)),
+        [_, ..] => Err(ReadFault::Bad(Cause::Syntax)),
     }
 }
 
 /// Judges what stands behind a policy: its counters, or nothing.
-fn ends_declaration(words: &[Word]) -> Result<(), LineFault>
+fn ends_declaration(words: &[Word]) -> Result<(), ReadFault>
     ensures { (d : IptDraft) → StepGiven result d (ends_declaration words.now d) }
 {
     let [word, rest @ ..] = words else {
         return Ok(());
     };
     if !word.is_sound() || !is_counters(word.text.as_slice()) {
-        return Err(LineFault::Bad(Cause::Syntax));
+        return Err(ReadFault::Bad(Cause::Syntax));
     }
     alone(rest)
 }
@@ -56,20 +59,23 @@ fn declare_builtin(
     }
 }
 
+/// Whether the policy of this name accepts.
+#[tactic(auto, unfolding(fws_ipt::specs::FileText::policy_named))]
+fn policy_named(text: &[u8]) -> Option<bool>
+    ensures { result ≡ policy_named text.now }
+{
+    value_named(&POLICIES, text)
+}
+
 /// The policy of a built-in chain: whether its end accepts.
-fn read_policy(section: Section, text: &[u8]) -> Result<bool, LineFault>
+fn read_policy(section: Section, text: &[u8]) -> Result<bool, ReadFault>
     ensures { CauseGiven result (policy_of section text.now) }
 {
-    if is(text, b"ACCEPT") {
-        Ok(true)
-    } else if is(text, b"DROP") {
-        if may_drop(section) {
-            Ok(false)
-        } else {
-            Err(LineFault::Bad(Cause::LeftOut))
-        }
+    let accepts = demand(policy_named(text))?;
+    if accepts || may_drop(section) {
+        Ok(accepts)
     } else {
-        Err(LineFault::Bad(Cause::Syntax))
+        Err(ReadFault::Bad(Cause::LeftOut))
     }
 }
 
@@ -81,15 +87,15 @@ fn builtin_line(
     hook: Hook,
     name: &[u8],
     words: &[Word],
-) -> Result<(), LineFault>
+) -> Result<(), ReadFault>
     requires { is_declared section hook name.now reader.old ≡ false }
     ensures { StepGiven result reader.new (builtin_line section hook name.now words.now reader.old) }
 {
     let [word, rest @ ..] = words else {
-        return Err(LineFault::Bad(Cause::Syntax));
+        return Err(ReadFault::Bad(Cause::Syntax));
     };
     if !word.is_sound() {
-        return Err(LineFault::Bad(Cause::Syntax));
+        return Err(ReadFault::Bad(Cause::Syntax));
     }
     let accepts = read_policy(section, word.text.as_slice())?;
     declare_builtin(alloc, reader, section, hook, name, accepts)?;
@@ -103,15 +109,15 @@ fn user_line(
     table: IptTable,
     name: &[u8],
     words: &[Word],
-) -> Result<(), LineFault>
+) -> Result<(), ReadFault>
     requires { chain_from 0 table name.now reader.old.chains ≡ None }
     ensures { StepGiven result reader.new (user_line table name.now words.now reader.old) }
 {
     let [word, rest @ ..] = words else {
-        return Err(LineFault::Bad(Cause::Syntax));
+        return Err(ReadFault::Bad(Cause::Syntax));
     };
     if !word.is_sound() || !word.is(b"-") {
-        return Err(LineFault::Bad(Cause::Syntax));
+        return Err(ReadFault::Bad(Cause::Syntax));
     }
     reader.declare(alloc, table, name, None)?;
     ends_declaration(rest)
@@ -141,11 +147,11 @@ fn builtin_declared(
     hook: Hook,
     name: &[u8],
     words: &[Word],
-) -> Result<(), LineFault>
+) -> Result<(), ReadFault>
     ensures { StepGiven result reader.new (builtin_declared section hook name.now words.now reader.old) }
 {
     if is_declared(alloc, reader, section, hook, name)? {
-        return Err(LineFault::Bad(Cause::Syntax));
+        return Err(ReadFault::Bad(Cause::Syntax));
     }
     builtin_line(alloc, reader, section, hook, name, words)
 }
@@ -158,17 +164,17 @@ fn user_declared(
     section: Section,
     name: &[u8],
     words: &[Word],
-) -> Result<(), LineFault>
+) -> Result<(), ReadFault>
     ensures { StepGiven result reader.new (user_declared section name.now words.now reader.old) }
 {
     if name.is_empty() {
-        return Err(LineFault::Bad(Cause::Syntax));
+        return Err(ReadFault::Bad(Cause::Syntax));
     }
     let Section::Met(table) = section else {
-        return Err(LineFault::Bad(Cause::LeftOut));
+        return Err(ReadFault::Bad(Cause::LeftOut));
     };
     if reader.find(alloc, table, name)?.is_some() {
-        return Err(LineFault::Bad(Cause::Syntax));
+        return Err(ReadFault::Bad(Cause::Syntax));
     }
     user_line(alloc, reader, table, name, words)
 }
@@ -180,7 +186,7 @@ fn declared_in(
     section: Section,
     name: &[u8],
     words: &[Word],
-) -> Result<(), LineFault>
+) -> Result<(), ReadFault>
     ensures { StepGiven result reader.new (declared_in section name.now words.now reader.old) }
 {
     match builtin_hook(section, name) {
@@ -195,11 +201,11 @@ pub(crate) fn chain_line(
     reader: &mut Progress,
     name: &[u8],
     words: &[Word],
-) -> Result<(), LineFault>
+) -> Result<(), ReadFault>
     ensures { StepGiven result reader.new (chain_line name.now words.now reader.old) }
 {
     match reader.within() {
         Some(section) => declared_in(alloc, reader, section, name, words),
-        None => Err(LineFault::Bad(Cause::Syntax)),
+        None => Err(ReadFault::Bad(Cause::Syntax)),
     }
 }

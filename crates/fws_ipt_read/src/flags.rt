@@ -1,12 +1,11 @@
 //! TCP flags as `--tcp-flags` has them.
 
 ghost use Rattle.std.specs.Prelude.{◌≡◌, IfOk};
-ghost use Rattle.fws_ipt.specs.Values.{flag_of, with_flags, flags_of, syn_literal};
+ghost use Rattle.fws_ipt.specs.Values.{flag_of, flag_set, with_flags, flags_of, syn_literal};
 
-use crate::compared::is;
 use crate::literals::positive;
 use fws_net::{Lit, Test};
-use fws_num::{Memory, Text, pieces};
+use fws_num::{Memory, Text, pieces, value_named};
 use std::alloc::Global;
 
 /// FIN, SYN, RST and ACK.
@@ -14,25 +13,33 @@ const OPENING: u8 = 23;
 
 const SYN: u8 = 2;
 
+/// TCP flags and their bits.
+const TCP_FLAGS: [(&[u8], u8); 6] = [
+    (b"FIN", 1),
+    (b"SYN", 2),
+    (b"RST", 4),
+    (b"PSH", 8),
+    (b"ACK", 16),
+    (b"URG", 32),
+];
+
+/// Words that stand alone for several flags.
+const FLAG_SETS: [(&[u8], u8); 2] = [(b"ALL", 63), (b"NONE", 0)];
+
 /// The bit of a flag.
+#[tactic(auto, unfolding(fws_ipt::specs::Values::flag_of))]
 fn flag_of(text: &[u8]) -> Option<u8>
     ensures { result ≡ flag_of text.now }
 {
-    if is(text, b"FIN") {
-        Some(1)
-    } else if is(text, b"SYN") {
-        Some(2)
-    } else if is(text, b"RST") {
-        Some(4)
-    } else if is(text, b"PSH") {
-        Some(8)
-    } else if is(text, b"ACK") {
-        Some(16)
-    } else if is(text, b"URG") {
-        Some(32)
-    } else {
-        None
-    }
+    value_named(&TCP_FLAGS, text)
+}
+
+/// The bits of a word that stands alone for several flags.
+#[tactic(auto, unfolding(fws_ipt::specs::Values::flag_set))]
+fn flag_set(text: &[u8]) -> Option<u8>
+    ensures { result ≡ flag_set text.now }
+{
+    value_named(&FLAG_SETS, text)
 }
 
 /// The bits of the flags, if each item is one.
@@ -50,14 +57,11 @@ fn flags_of_items(items: &[Text]) -> Option<u8>
 pub(crate) fn read_flags(alloc: Global, text: &[u8]) -> Result<Option<u8>, Memory>
     ensures { IfOk result (λ o. o ≡ flags_of text.now) }
 {
-    if is(text, b"ALL") {
-        Ok(Some(63))
-    } else if is(text, b"NONE") {
-        Ok(Some(0))
-    } else {
-        let items = pieces(alloc, b',', text)?;
-        Ok(flags_of_items(items.as_slice()))
+    if let Some(flags) = flag_set(text) {
+        return Ok(Some(flags));
     }
+    let items = pieces(alloc, b',', text)?;
+    Ok(flags_of_items(items.as_slice()))
 }
 
 /// The literal of `--syn`, which stands for `--tcp-flags FIN,SYN,RST,ACK SYN`.

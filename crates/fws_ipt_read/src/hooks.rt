@@ -6,26 +6,33 @@ ghost use Rattle.fws_ipt.specs.Hooks.{hook_named, has_hook, section_has};
 ghost use Rattle.fws_ipt.specs.FileText.{section_named, is_section, is_hook, may_drop, builtin_hook};
 ghost use Rattle.fws_ipt.specs.RuleText.{is_builtin_name};
 
-use crate::compared::is;
 use fws_ipt::{Hook, IptTable, Section};
+use fws_num::value_named;
+
+/// Hooks by the names of their chains.
+const HOOKS: [(&[u8], Hook); 5] = [
+    (b"PREROUTING", Hook::Prerouting),
+    (b"INPUT", Hook::Input),
+    (b"FORWARD", Hook::Forward),
+    (b"OUTPUT", Hook::Output),
+    (b"POSTROUTING", Hook::Postrouting),
+];
+
+/// The tables of a text by their names.
+const SECTIONS: [(&[u8], Section); 5] = [
+    (b"filter", Section::Met(IptTable::Filter)),
+    (b"nat", Section::Met(IptTable::Nat)),
+    (b"mangle", Section::Met(IptTable::Mangle)),
+    (b"raw", Section::Raw),
+    (b"security", Section::Security),
+];
 
 /// The hook of this name.
+#[tactic(auto, unfolding(fws_ipt::specs::Hooks::hook_named))]
 fn hook_named(name: &[u8]) -> Option<Hook>
     ensures { result ≡ hook_named name.now }
 {
-    if is(name, b"PREROUTING") {
-        Some(Hook::Prerouting)
-    } else if is(name, b"INPUT") {
-        Some(Hook::Input)
-    } else if is(name, b"FORWARD") {
-        Some(Hook::Forward)
-    } else if is(name, b"OUTPUT") {
-        Some(Hook::Output)
-    } else if is(name, b"POSTROUTING") {
-        Some(Hook::Postrouting)
-    } else {
-        None
-    }
+    value_named(&HOOKS, name)
 }
 
 /// Whether the table has a built-in chain at the hook.
@@ -98,22 +105,11 @@ pub(crate) fn is_section(a: Section, b: Section) -> bool
 }
 
 /// The table of this name.
+#[tactic(auto, unfolding(fws_ipt::specs::FileText::section_named))]
 pub(crate) fn section_named(name: &[u8]) -> Option<Section>
     ensures { result ≡ section_named name.now }
 {
-    if is(name, b"filter") {
-        Some(Section::Met(IptTable::Filter))
-    } else if is(name, b"nat") {
-        Some(Section::Met(IptTable::Nat))
-    } else if is(name, b"mangle") {
-        Some(Section::Met(IptTable::Mangle))
-    } else if is(name, b"raw") {
-        Some(Section::Raw)
-    } else if is(name, b"security") {
-        Some(Section::Security)
-    } else {
-        None
-    }
+    value_named(&SECTIONS, name)
 }
 
 /// Whether a built-in chain of the table may have the policy DROP.

@@ -7,7 +7,7 @@ ghost use Rattle.fws_ipt.specs.Values.{is_type_and_code, numbered_type, icmp_mea
 use crate::compared::is;
 use crate::literals::positive;
 use fws_iv::one;
-use fws_net::{Cause, LineFault, Lit, Test};
+use fws_net::{Cause, Lit, ReadFault, Test};
 use fws_num::{read_dec, split_once};
 use std::alloc::Global;
 
@@ -25,11 +25,11 @@ fn is_type_and_code(text: &[u8]) -> bool
 }
 
 /// The literal of a type.
-fn numbered_type(alloc: Global, n: u8) -> Result<Option<Lit>, LineFault>
+fn numbered_type(alloc: Global, n: u8) -> Result<Option<Lit>, ReadFault>
     ensures { CauseGiven result (numbered_type n) }
 {
     if n == EVERY_TYPE {
-        return Err(LineFault::Bad(Cause::LeftOut));
+        return Err(ReadFault::Bad(Cause::LeftOut));
     }
     let set = one(alloc, u32::from(n), u32::from(n))?;
     Ok(Some(positive(Test::Icmp(set))))
@@ -37,7 +37,7 @@ fn numbered_type(alloc: Global, n: u8) -> Result<Option<Lit>, LineFault>
 
 /// The literal of `--icmp-type`: a type 0 to 254; none for `any`, which holds of every packet. Type 255,
 /// and a type with a code, are left out.
-pub(crate) fn read_icmp_type(alloc: Global, text: &[u8]) -> Result<Option<Lit>, LineFault>
+pub(crate) fn read_icmp_type(alloc: Global, text: &[u8]) -> Result<Option<Lit>, ReadFault>
     ensures { CauseGiven result (icmp_meaning text.now) }
 {
     if is(text, b"any") {
@@ -47,9 +47,9 @@ pub(crate) fn read_icmp_type(alloc: Global, text: &[u8]) -> Result<Option<Lit>, 
         Some(n) => numbered_type(alloc, n as u8),
         None => {
             if is_type_and_code(text) {
-                Err(LineFault::Bad(Cause::LeftOut))
+                Err(ReadFault::Bad(Cause::LeftOut))
             } else {
-                Err(LineFault::Bad(Cause::Syntax))
+                Err(ReadFault::Bad(Cause::Syntax))
             }
         }
     }

@@ -6,7 +6,7 @@ ghost use Rattle.fws_net.specs.Routes.{IsSound};
 ghost use Rattle.fws_ipt.specs.Values.{before_plus, interface_named, interfaces_of};
 
 use fws_iv::{Ivs, one};
-use fws_net::{Cause, Lang, LineFault, Site, entries_beginning, entry_named};
+use fws_net::{Cause, Lang, ReadFault, Site, entries_beginning, entry_named};
 use std::alloc::Global;
 
 /// What stands ahead of a `+` at the end of a name.
@@ -18,19 +18,19 @@ fn before_plus(text: &[u8]) -> Option<&[u8]>
 }
 
 /// The entry number of the interface of this name.
-fn interface_named(alloc: Global, site: &Site, text: &[u8]) -> Result<Ivs, LineFault>
+fn interface_named(alloc: Global, site: &Site, text: &[u8]) -> Result<Ivs, ReadFault>
     requires { IsSound site.now }
     ensures { CauseGiven result (interface_named site.now text.now) }
 {
     match entry_named(site, Lang::Iptables, text) {
         Some(entry) => Ok(one(alloc, u32::from(entry), u32::from(entry))?),
-        None => Err(LineFault::Bad(Cause::NoInterface)),
+        None => Err(ReadFault::Bad(Cause::NoInterface)),
     }
 }
 
 /// The entry numbers of the interface of this name, or with a `+` at its end of every one whose name
 /// begins so.
-pub(crate) fn read_interfaces(alloc: Global, site: &Site, text: &[u8]) -> Result<Ivs, LineFault>
+pub(crate) fn read_interfaces(alloc: Global, site: &Site, text: &[u8]) -> Result<Ivs, ReadFault>
     requires { IsSound site.now }
     ensures { CauseGiven result (interfaces_of site.now text.now) }
 {

@@ -1,170 +1,141 @@
 //! The words of a rule: options, modules and targets of iptables(8) and iptables-extensions(8).
 
 ghost use Rattle.std.specs.Prelude.{◌≡◌};
-ghost use Rattle.fws_ipt.specs.Options.{plain_option, protocol_option, module_option, test_option, log_option, write_option, target_option, other_keyword, keyword_of, is_module, target_word, is_left_out_target, belongs, needs_option};
+ghost use Rattle.fws_ipt.specs.Options.{test_option, target_option, other_keyword, keyword_of, is_module, target_word, is_left_out_target, belongs, needs_option};
 
-use crate::compared::is;
+use crate::compared::is_one_of;
 use fws_ipt::{Keyword, TargetOption, TargetWord, TestOption};
+use fws_num::value_named;
 
-/// An option of packets' addresses, interfaces and protocols.
-fn plain_option(text: &[u8]) -> Option<TestOption>
-    ensures { result ≡ plain_option text.now }
-{
-    if is(text, b"-s") {
-        Some(TestOption::Source)
-    } else if is(text, b"-d") {
-        Some(TestOption::Destination)
-    } else if is(text, b"-i") {
-        Some(TestOption::InInterface)
-    } else if is(text, b"-o") {
-        Some(TestOption::OutInterface)
-    } else if is(text, b"-p") {
-        Some(TestOption::Protocol)
-    } else {
-        None
-    }
-}
+/// Options that test a packet.
+const TEST_OPTIONS: [(&[u8], TestOption); 19] = [
+    (b"-s", TestOption::Source),
+    (b"-d", TestOption::Destination),
+    (b"-i", TestOption::InInterface),
+    (b"-o", TestOption::OutInterface),
+    (b"-p", TestOption::Protocol),
+    (b"--sport", TestOption::SourcePort),
+    (b"--dport", TestOption::DestinationPort),
+    (b"--sports", TestOption::SourcePorts),
+    (b"--dports", TestOption::DestinationPorts),
+    (b"--tcp-flags", TestOption::TcpFlags),
+    (b"--syn", TestOption::Syn),
+    (b"--icmp-type", TestOption::IcmpType),
+    (b"--state", TestOption::State),
+    (b"--ctstate", TestOption::ConnectionState),
+    (b"--mark", TestOption::Mark),
+    (b"--src-range", TestOption::SourceRange),
+    (b"--dst-range", TestOption::DestinationRange),
+    (b"--src-type", TestOption::SourceType),
+    (b"--dst-type", TestOption::DestinationType),
+];
 
-/// An option of a protocol's module.
-fn protocol_option(text: &[u8]) -> Option<TestOption>
-    ensures { result ≡ protocol_option text.now }
-{
-    if is(text, b"--sport") {
-        Some(TestOption::SourcePort)
-    } else if is(text, b"--dport") {
-        Some(TestOption::DestinationPort)
-    } else if is(text, b"--sports") {
-        Some(TestOption::SourcePorts)
-    } else if is(text, b"--dports") {
-        Some(TestOption::DestinationPorts)
-    } else if is(text, b"--tcp-flags") {
-        Some(TestOption::TcpFlags)
-    } else if is(text, b"--syn") {
-        Some(TestOption::Syn)
-    } else if is(text, b"--icmp-type") {
-        Some(TestOption::IcmpType)
-    } else {
-        None
-    }
-}
+/// Options of targets.
+const TARGET_OPTIONS: [(&[u8], TargetOption); 14] = [
+    (b"--reject-with", TargetOption::RejectWith),
+    (b"--log-prefix", TargetOption::LogPrefix),
+    (b"--log-level", TargetOption::LogLevel),
+    (b"--log-tcp-sequence", TargetOption::LogTcpSequence),
+    (b"--log-tcp-options", TargetOption::LogTcpOptions),
+    (b"--log-ip-options", TargetOption::LogIpOptions),
+    (b"--log-uid", TargetOption::LogUid),
+    (b"--nflog-group", TargetOption::NflogGroup),
+    (b"--nflog-prefix", TargetOption::NflogPrefix),
+    (b"--set-xmark", TargetOption::SetXmark),
+    (b"--set-mark", TargetOption::SetMark),
+    (b"--to-source", TargetOption::ToSource),
+    (b"--to-destination", TargetOption::ToDestination),
+    (b"--to-ports", TargetOption::ToPorts),
+];
 
-/// An option of another module.
-fn module_option(text: &[u8]) -> Option<TestOption>
-    ensures { result ≡ module_option text.now }
-{
-    if is(text, b"--state") {
-        Some(TestOption::State)
-    } else if is(text, b"--ctstate") {
-        Some(TestOption::ConnectionState)
-    } else if is(text, b"--mark") {
-        Some(TestOption::Mark)
-    } else if is(text, b"--src-range") {
-        Some(TestOption::SourceRange)
-    } else if is(text, b"--dst-range") {
-        Some(TestOption::DestinationRange)
-    } else if is(text, b"--src-type") {
-        Some(TestOption::SourceType)
-    } else if is(text, b"--dst-type") {
-        Some(TestOption::DestinationType)
-    } else {
-        None
-    }
-}
+/// Keywords that are no options of tests or targets.
+const OTHER_KEYWORDS: [(&[u8], Keyword); 9] = [
+    (b"!", Keyword::Not),
+    (b"-m", Keyword::Match),
+    (b"-j", Keyword::Jump),
+    (b"-g", Keyword::Goto),
+    (b"--comment", Keyword::Comment),
+    (b"--limit", Keyword::Limit),
+    (b"--limit-burst", Keyword::Limit),
+    (b"-A", Keyword::Line),
+    (b"COMMIT", Keyword::Line),
+];
+
+/// Modules whose options are read.
+const MODULES: [&[u8]; 11] = [
+    b"tcp",
+    b"udp",
+    b"icmp",
+    b"multiport",
+    b"state",
+    b"conntrack",
+    b"mark",
+    b"iprange",
+    b"addrtype",
+    b"comment",
+    b"limit",
+];
+
+/// Targets that are read.
+const TARGET_WORDS: [(&[u8], TargetWord); 11] = [
+    (b"ACCEPT", TargetWord::Accept),
+    (b"DROP", TargetWord::Drop),
+    (b"RETURN", TargetWord::Return),
+    (b"REJECT", TargetWord::Reject),
+    (b"LOG", TargetWord::Log),
+    (b"NFLOG", TargetWord::Nflog),
+    (b"MARK", TargetWord::Mark),
+    (b"SNAT", TargetWord::Source),
+    (b"DNAT", TargetWord::Destination),
+    (b"MASQUERADE", TargetWord::Masquerade),
+    (b"REDIRECT", TargetWord::Redirect),
+];
+
+/// Targets that are left out.
+const LEFT_OUT_TARGETS: [&[u8]; 19] = [
+    b"CHECKSUM",
+    b"CLASSIFY",
+    b"CONNMARK",
+    b"CT",
+    b"DSCP",
+    b"HL",
+    b"NETMAP",
+    b"NFQUEUE",
+    b"NOTRACK",
+    b"QUEUE",
+    b"SECMARK",
+    b"SET",
+    b"TCPMSS",
+    b"TEE",
+    b"TOS",
+    b"TPROXY",
+    b"TRACE",
+    b"TTL",
+    b"ULOG",
+];
 
 /// The option that tests a packet.
+#[tactic(auto, unfolding(fws_ipt::specs::Options::test_option))]
 fn test_option(text: &[u8]) -> Option<TestOption>
     ensures { result ≡ test_option text.now }
 {
-    if let Some(option) = plain_option(text) {
-        return Some(option);
-    }
-    if let Some(option) = protocol_option(text) {
-        return Some(option);
-    }
-    module_option(text)
-}
-
-/// An option of LOG, NFLOG or REJECT.
-fn log_option(text: &[u8]) -> Option<TargetOption>
-    ensures { result ≡ log_option text.now }
-{
-    if is(text, b"--reject-with") {
-        Some(TargetOption::RejectWith)
-    } else if is(text, b"--log-prefix") {
-        Some(TargetOption::LogPrefix)
-    } else if is(text, b"--log-level") {
-        Some(TargetOption::LogLevel)
-    } else if is(text, b"--log-tcp-sequence") {
-        Some(TargetOption::LogTcpSequence)
-    } else if is(text, b"--log-tcp-options") {
-        Some(TargetOption::LogTcpOptions)
-    } else if is(text, b"--log-ip-options") {
-        Some(TargetOption::LogIpOptions)
-    } else if is(text, b"--log-uid") {
-        Some(TargetOption::LogUid)
-    } else if is(text, b"--nflog-group") {
-        Some(TargetOption::NflogGroup)
-    } else if is(text, b"--nflog-prefix") {
-        Some(TargetOption::NflogPrefix)
-    } else {
-        None
-    }
-}
-
-/// An option of a target that writes.
-fn write_option(text: &[u8]) -> Option<TargetOption>
-    ensures { result ≡ write_option text.now }
-{
-    if is(text, b"--set-xmark") {
-        Some(TargetOption::SetXmark)
-    } else if is(text, b"--set-mark") {
-        Some(TargetOption::SetMark)
-    } else if is(text, b"--to-source") {
-        Some(TargetOption::ToSource)
-    } else if is(text, b"--to-destination") {
-        Some(TargetOption::ToDestination)
-    } else if is(text, b"--to-ports") {
-        Some(TargetOption::ToPorts)
-    } else {
-        None
-    }
+    value_named(&TEST_OPTIONS, text)
 }
 
 /// The option of a target.
+#[tactic(auto, unfolding(fws_ipt::specs::Options::target_option))]
 fn target_option(text: &[u8]) -> Option<TargetOption>
     ensures { result ≡ target_option text.now }
 {
-    if let Some(option) = log_option(text) {
-        return Some(option);
-    }
-    write_option(text)
+    value_named(&TARGET_OPTIONS, text)
 }
 
 /// A keyword that is no option of a test or a target.
+#[tactic(auto, unfolding(fws_ipt::specs::Options::other_keyword))]
 fn other_keyword(text: &[u8]) -> Option<Keyword>
     ensures { result ≡ other_keyword text.now }
 {
-    if is(text, b"!") {
-        Some(Keyword::Not)
-    } else if is(text, b"-m") {
-        Some(Keyword::Match)
-    } else if is(text, b"-j") {
-        Some(Keyword::Jump)
-    } else if is(text, b"-g") {
-        Some(Keyword::Goto)
-    } else if is(text, b"--comment") {
-        Some(Keyword::Comment)
-    } else if is(text, b"--limit") {
-        Some(Keyword::Limit)
-    } else if is(text, b"--limit-burst") {
-        Some(Keyword::Limit)
-    } else if is(text, b"-A") {
-        Some(Keyword::Line)
-    } else if is(text, b"COMMIT") {
-        Some(Keyword::Line)
-    } else {
-        None
-    }
+    value_named(&OTHER_KEYWORDS, text)
 }
 
 /// The keyword that the word is, if it is one.
@@ -181,76 +152,27 @@ pub(crate) fn read_keyword(text: &[u8]) -> Option<Keyword>
 }
 
 /// Whether it is a module whose options are read.
+#[tactic(auto, unfolding(fws_ipt::specs::Options::is_module))]
 pub(crate) fn is_module(text: &[u8]) -> bool
     ensures { result ≡ is_module text.now }
 {
-    is(text, b"tcp")
-        || is(text, b"udp")
-        || is(text, b"icmp")
-        || is(text, b"multiport")
-        || is(text, b"state")
-        || is(text, b"conntrack")
-        || is(text, b"mark")
-        || is(text, b"iprange")
-        || is(text, b"addrtype")
-        || is(text, b"comment")
-        || is(text, b"limit")
+    is_one_of(&MODULES, text)
 }
 
 /// The target that the word is, if it is one that is read.
+#[tactic(auto, unfolding(fws_ipt::specs::Options::target_word))]
 pub(crate) fn read_target_word(text: &[u8]) -> Option<TargetWord>
     ensures { result ≡ target_word text.now }
 {
-    if is(text, b"ACCEPT") {
-        Some(TargetWord::Accept)
-    } else if is(text, b"DROP") {
-        Some(TargetWord::Drop)
-    } else if is(text, b"RETURN") {
-        Some(TargetWord::Return)
-    } else if is(text, b"REJECT") {
-        Some(TargetWord::Reject)
-    } else if is(text, b"LOG") {
-        Some(TargetWord::Log)
-    } else if is(text, b"NFLOG") {
-        Some(TargetWord::Nflog)
-    } else if is(text, b"MARK") {
-        Some(TargetWord::Mark)
-    } else if is(text, b"SNAT") {
-        Some(TargetWord::Source)
-    } else if is(text, b"DNAT") {
-        Some(TargetWord::Destination)
-    } else if is(text, b"MASQUERADE") {
-        Some(TargetWord::Masquerade)
-    } else if is(text, b"REDIRECT") {
-        Some(TargetWord::Redirect)
-    } else {
-        None
-    }
+    value_named(&TARGET_WORDS, text)
 }
 
 /// Whether it is a target that is left out.
+#[tactic(auto, unfolding(fws_ipt::specs::Options::is_left_out_target))]
 pub(crate) fn is_left_out_target(text: &[u8]) -> bool
     ensures { result ≡ is_left_out_target text.now }
 {
-    is(text, b"CHECKSUM")
-        || is(text, b"CLASSIFY")
-        || is(text, b"CONNMARK")
-        || is(text, b"CT")
-        || is(text, b"DSCP")
-        || is(text, b"HL")
-        || is(text, b"NETMAP")
-        || is(text, b"NFQUEUE")
-        || is(text, b"NOTRACK")
-        || is(text, b"QUEUE")
-        || is(text, b"SECMARK")
-        || is(text, b"SET")
-        || is(text, b"TCPMSS")
-        || is(text, b"TEE")
-        || is(text, b"TOS")
-        || is(text, b"TPROXY")
-        || is(text, b"TRACE")
-        || is(text, b"TTL")
-        || is(text, b"ULOG")
+    is_one_of(&LEFT_OUT_TARGETS, text)
 }
 
 /// Whether the option is one of the target's.

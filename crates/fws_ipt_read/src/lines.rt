@@ -13,37 +13,37 @@ use crate::keywords::read_keyword;
 use crate::progress::Progress;
 use crate::rule::read_rule;
 use fws_ipt::{IptTable, Section};
-use fws_net::{Cause, LineFault, Site};
+use fws_net::{Cause, ReadFault, Site};
 use fws_num::Word;
 use std::alloc::Global;
 
 /// Opens a table, which is done outside a table, and once.
-fn open_table(reader: &mut Progress, section: Section, words: &[Word]) -> Result<(), LineFault>
+fn open_table(reader: &mut Progress, section: Section, words: &[Word]) -> Result<(), ReadFault>
     ensures { StepGiven result reader.new (opens section words.now reader.old) }
 {
     if reader.within().is_some() || reader.has_opened(section) {
-        return Err(LineFault::Bad(Cause::Syntax));
+        return Err(ReadFault::Bad(Cause::Syntax));
     }
     reader.open(section)?;
     alone(words)
 }
 
 /// Takes `*T`, of which this is the name. An unknown table is left out.
-fn table_line(reader: &mut Progress, name: &[u8], words: &[Word]) -> Result<(), LineFault>
+fn table_line(reader: &mut Progress, name: &[u8], words: &[Word]) -> Result<(), ReadFault>
     ensures { StepGiven result reader.new (table_line name.now words.now reader.old) }
 {
     match section_named(name) {
         Some(section) => open_table(reader, section, words),
-        None => Err(LineFault::Bad(Cause::LeftOut)),
+        None => Err(ReadFault::Bad(Cause::LeftOut)),
     }
 }
 
 /// Takes `COMMIT`, which closes the table.
-fn commit_line(reader: &mut Progress, words: &[Word]) -> Result<(), LineFault>
+fn commit_line(reader: &mut Progress, words: &[Word]) -> Result<(), ReadFault>
     ensures { StepGiven result reader.new (commit_line words.now reader.old) }
 {
     if reader.within().is_none() {
-        return Err(LineFault::Bad(Cause::Syntax));
+        return Err(ReadFault::Bad(Cause::Syntax));
     }
     reader.close();
     alone(words)
@@ -57,7 +57,7 @@ fn rule_line(
     table: IptTable,
     number: u32,
     words: &[Word],
-) -> Result<(), LineFault>
+) -> Result<(), ReadFault>
     requires { IsSound site.now }
     ensures { StepGiven result reader.new (rule_line site.now table number words.now reader.old) }
 {
@@ -72,12 +72,12 @@ fn chain_of_rule(
     reader: &Progress,
     table: IptTable,
     name: &[u8],
-) -> Result<u32, LineFault>
+) -> Result<u32, ReadFault>
     ensures { CauseGiven result (chain_of_rule table name.now reader.now) }
 {
     match reader.find(alloc, table, name)? {
         Some(number) => Ok(number),
-        None => Err(LineFault::Bad(Cause::NoName)),
+        None => Err(ReadFault::Bad(Cause::NoName)),
     }
 }
 
@@ -88,15 +88,15 @@ fn appended_in(
     reader: &mut Progress,
     table: IptTable,
     words: &[Word],
-) -> Result<(), LineFault>
+) -> Result<(), ReadFault>
     requires { IsSound site.now }
     ensures { StepGiven result reader.new (appended_in site.now table words.now reader.old) }
 {
     let [word, rest @ ..] = words else {
-        return Err(LineFault::Bad(Cause::Syntax));
+        return Err(ReadFault::Bad(Cause::Syntax));
     };
     if !word.is_sound() {
-        return Err(LineFault::Bad(Cause::Syntax));
+        return Err(ReadFault::Bad(Cause::Syntax));
     }
     let number = chain_of_rule(alloc, reader, table, word.text.as_slice())?;
     rule_line(alloc, site, reader, table, number, rest)
@@ -109,13 +109,13 @@ fn appended_to(
     reader: &mut Progress,
     section: Section,
     words: &[Word],
-) -> Result<(), LineFault>
+) -> Result<(), ReadFault>
     requires { IsSound site.now }
     ensures { StepGiven result reader.new (appended_to site.now section words.now reader.old) }
 {
     match section {
         Section::Met(table) => appended_in(alloc, site, reader, table, words),
-        Section::Raw | Section::Security => Err(LineFault::Bad(Cause::LeftOut)),
+        Section::Raw | Section::Security => Err(ReadFault::Bad(Cause::LeftOut)),
     }
 }
 
@@ -125,13 +125,13 @@ fn append_line(
     site: &Site,
     reader: &mut Progress,
     words: &[Word],
-) -> Result<(), LineFault>
+) -> Result<(), ReadFault>
     requires { IsSound site.now }
     ensures { StepGiven result reader.new (append_line site.now words.now reader.old) }
 {
     match reader.within() {
         Some(section) => appended_to(alloc, site, reader, section, words),
-        None => Err(LineFault::Bad(Cause::Syntax)),
+        None => Err(ReadFault::Bad(Cause::Syntax)),
     }
 }
 
@@ -152,18 +152,18 @@ fn counted_line(
     site: &Site,
     reader: &mut Progress,
     words: &[Word],
-) -> Result<(), LineFault>
+) -> Result<(), ReadFault>
     requires { IsSound site.now }
     ensures { StepGiven result reader.new (counted_line site.now words.now reader.old) }
 {
     let [word, rest @ ..] = words else {
-        return Err(LineFault::Bad(Cause::Syntax));
+        return Err(ReadFault::Bad(Cause::Syntax));
     };
     if !word.is_sound() {
-        return Err(LineFault::Bad(Cause::Syntax));
+        return Err(ReadFault::Bad(Cause::Syntax));
     }
     if !word.is(b"-A") {
-        return Err(LineFault::Bad(out_of_place(word.text.as_slice())));
+        return Err(ReadFault::Bad(out_of_place(word.text.as_slice())));
     }
     append_line(alloc, site, reader, rest)
 }
@@ -175,12 +175,12 @@ fn counters_line(
     reader: &mut Progress,
     text: &[u8],
     words: &[Word],
-) -> Result<(), LineFault>
+) -> Result<(), ReadFault>
     requires { IsSound site.now }
     ensures { StepGiven result reader.new (counters_line site.now text.now words.now reader.old) }
 {
     if reader.within().is_none() || !is_counters(text) {
-        return Err(LineFault::Bad(Cause::Syntax));
+        return Err(ReadFault::Bad(Cause::Syntax));
     }
     counted_line(alloc, site, reader, words)
 }
@@ -192,7 +192,7 @@ fn word_line(
     reader: &mut Progress,
     text: &[u8],
     words: &[Word],
-) -> Result<(), LineFault>
+) -> Result<(), ReadFault>
     requires { IsSound site.now }
     ensures { StepGiven result reader.new (word_line site.now text.now words.now reader.old) }
 {
@@ -203,7 +203,7 @@ fn word_line(
     } else if matches!(text, [b'[', ..]) {
         counters_line(alloc, site, reader, text, words)
     } else {
-        Err(LineFault::Bad(out_of_place(text)))
+        Err(ReadFault::Bad(out_of_place(text)))
     }
 }
 
@@ -214,7 +214,7 @@ fn first_step(
     reader: &mut Progress,
     text: &[u8],
     words: &[Word],
-) -> Result<(), LineFault>
+) -> Result<(), ReadFault>
     requires { IsSound site.now }
     ensures { StepGiven result reader.new (first_step site.now text.now words.now reader.old) }
 {
@@ -231,7 +231,7 @@ pub(crate) fn words_step(
     site: &Site,
     reader: &mut Progress,
     words: &[Word],
-) -> Result<(), LineFault>
+) -> Result<(), ReadFault>
     requires { IsSound site.now }
     ensures { StepGiven result reader.new (words_step site.now words.now reader.old) }
 {
@@ -239,7 +239,7 @@ pub(crate) fn words_step(
         return Ok(());
     };
     if !word.is_sound() {
-        return Err(LineFault::Bad(Cause::Syntax));
+        return Err(ReadFault::Bad(Cause::Syntax));
     }
     first_step(alloc, site, reader, word.text.as_slice(), rest)
 }

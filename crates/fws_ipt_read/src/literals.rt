@@ -5,7 +5,7 @@ ghost use Rattle.std.specs.Option.{ok_or};
 ghost use Rattle.fws_net.specs.Reading.{CauseGiven};
 ghost use Rattle.fws_ipt.specs.Values.{positive, literals};
 
-use fws_net::{Cause, Cond, LineFault, Lit, Test};
+use fws_net::{Cause, Cond, Lit, ReadFault, Test};
 use fws_num::Memory;
 
 /// The test as a literal.
@@ -16,12 +16,12 @@ pub(crate) fn positive(test: Test) -> Lit
 }
 
 /// What was spelled, which has to be there.
-pub(crate) fn demand<T: Drop>(spelled: Option<T>) -> Result<T, LineFault>
+pub(crate) fn demand<T: Drop>(spelled: Option<T>) -> Result<T, ReadFault>
     ensures { CauseGiven result (ok_or spelled Cause.Syntax) }
 {
     match spelled {
         Some(value) => Ok(value),
-        None => Err(LineFault::Bad(Cause::Syntax)),
+        None => Err(ReadFault::Bad(Cause::Syntax)),
     }
 }
 

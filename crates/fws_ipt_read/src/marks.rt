@@ -6,7 +6,7 @@ ghost use Rattle.fws_net.specs.Reading.{CauseGiven};
 ghost use Rattle.fws_ipt.specs.Values.{hex_digit, hex_after, hex_of, number_of, masked_of, is_full_mask, tested_mark, mark_value, set_whole, xmark_value, set_plain, set_mark_value};
 
 use crate::literals::demand;
-use fws_net::{Cause, LineFault};
+use fws_net::{Cause, ReadFault};
 use fws_num::{read_dec, split_once};
 
 /// The value of a hexadecimal digit.
@@ -75,17 +75,17 @@ fn read_masked(text: &[u8]) -> Option<(u32, Option<u32>)>
 }
 
 /// The mark that is tested whole: without a mask, or with the full one.
-fn tested_mark(value: (u32, Option<u32>)) -> Result<u32, LineFault>
+fn tested_mark(value: (u32, Option<u32>)) -> Result<u32, ReadFault>
     ensures { CauseGiven result (tested_mark value) }
 {
     match value.1 {
         None | Some(u32::MAX) => Ok(value.0),
-        Some(_) => Err(LineFault::Bad(Cause::LeftOut)),
+        Some(_) => Err(ReadFault::Bad(Cause::LeftOut)),
     }
 }
 
 /// The value of `--mark`.
-pub(crate) fn read_mark(text: &[u8]) -> Result<u32, LineFault>
+pub(crate) fn read_mark(text: &[u8]) -> Result<u32, ReadFault>
     ensures { CauseGiven result (mark_value text.now) }
 {
     let value = demand(read_masked(text))?;
@@ -93,18 +93,18 @@ pub(crate) fn read_mark(text: &[u8]) -> Result<u32, LineFault>
 }
 
 /// The mark that is set whole: with the full mask.
-fn set_whole(value: (u32, Option<u32>)) -> Result<u32, LineFault>
+fn set_whole(value: (u32, Option<u32>)) -> Result<u32, ReadFault>
     ensures { CauseGiven result (set_whole value) }
 {
     match value.1 {
-        None => Err(LineFault::Bad(Cause::Syntax)),
+        None => Err(ReadFault::Bad(Cause::Syntax)),
         Some(u32::MAX) => Ok(value.0),
-        Some(_) => Err(LineFault::Bad(Cause::LeftOut)),
+        Some(_) => Err(ReadFault::Bad(Cause::LeftOut)),
     }
 }
 
 /// The value of `--set-xmark`: a number with the full mask behind a slash. Another mask is left out.
-pub(crate) fn read_xmark(text: &[u8]) -> Result<u32, LineFault>
+pub(crate) fn read_xmark(text: &[u8]) -> Result<u32, ReadFault>
     ensures { CauseGiven result (xmark_value text.now) }
 {
     let value = demand(read_masked(text))?;
@@ -112,17 +112,17 @@ pub(crate) fn read_xmark(text: &[u8]) -> Result<u32, LineFault>
 }
 
 /// The mark that is set without a mask.
-fn set_plain(value: (u32, Option<u32>)) -> Result<u32, LineFault>
+fn set_plain(value: (u32, Option<u32>)) -> Result<u32, ReadFault>
     ensures { CauseGiven result (set_plain value) }
 {
     match value.1 {
         None => Ok(value.0),
-        Some(_) => Err(LineFault::Bad(Cause::LeftOut)),
+        Some(_) => Err(ReadFault::Bad(Cause::LeftOut)),
     }
 }
 
 /// The value of `--set-mark`: a number. One with a mask is left out.
-pub(crate) fn read_set_mark(text: &[u8]) -> Result<u32, LineFault>
+pub(crate) fn read_set_mark(text: &[u8]) -> Result<u32, ReadFault>
     ensures { CauseGiven result (set_mark_value text.now) }
 {
     let value = demand(read_masked(text))?;

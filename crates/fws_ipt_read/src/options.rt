@@ -11,10 +11,10 @@ ghost use Rattle.fws_ipt.specs.RuleText.{closed, once, asks_port, asks_flags, as
 use crate::compared::is;
 use crate::flags::{read_flags, syn_literal};
 use crate::literals::{demand, positive, put_literals};
-use crate::protocols::read_protocol_value;
+use crate::protocols::{protocol_literal, read_protocol_value};
 use crate::values::read_meaning;
 use fws_ipt::{Expects, RuleDraft, TestOption};
-use fws_net::{Cause, LineFault, Lit, Site, Test};
+use fws_net::{Cause, Lit, ReadFault, Site, Test};
 use fws_num::{Memory, Text};
 use std::alloc::Global;
 
@@ -26,11 +26,11 @@ fn is_given(given: &[Text], text: &[u8]) -> bool
 }
 
 /// Notes an option that may come once.
-pub(crate) fn once(alloc: Global, d: &mut RuleDraft, text: &[u8]) -> Result<(), LineFault>
+pub(crate) fn once(alloc: Global, d: &mut RuleDraft, text: &[u8]) -> Result<(), ReadFault>
     ensures { StepGiven result d.new (once text.now d.old) }
 {
     if is_given(d.given.as_slice(), text) {
-        return Err(LineFault::Bad(Cause::Syntax));
+        return Err(ReadFault::Bad(Cause::Syntax));
     }
     d.given.put(Text::of(alloc, text)?)?;
     Ok(())
@@ -87,7 +87,7 @@ pub(crate) fn test_step(
     negated: bool,
     text: &[u8],
     option: TestOption,
-) -> Result<(), LineFault>
+) -> Result<(), ReadFault>
     ensures { StepGiven result d.new (test_step negated text.now option d.old) }
 {
     once(alloc, d, text)?;
@@ -100,16 +100,14 @@ pub(crate) fn test_step(
 /// Takes the value of `-p`.
 fn protocol_step(
     alloc: Global,
-    site: &Site,
     d: &mut RuleDraft,
     negated: bool,
     text: &[u8],
-) -> Result<(), LineFault>
-    requires { IsSound site.now }
-    ensures { StepGiven result d.new (protocol_step site.now negated text.now d.old) }
+) -> Result<(), ReadFault>
+    ensures { StepGiven result d.new (protocol_step negated text.now d.old) }
 {
     let protocol = read_protocol_value(text)?;
-    let lit = read_meaning(alloc, site, TestOption::Protocol, text)?;
+    let lit = protocol_literal(alloc, protocol)?;
     if !negated {
         d.protocol = protocol;
     }
@@ -118,7 +116,7 @@ fn protocol_step(
 }
 
 /// Takes the mask of `--tcp-flags`.
-fn mask_step(alloc: Global, d: &mut RuleDraft, negated: bool, text: &[u8]) -> Result<(), LineFault>
+fn mask_step(alloc: Global, d: &mut RuleDraft, negated: bool, text: &[u8]) -> Result<(), ReadFault>
     ensures { StepGiven result d.new (mask_step negated text.now d.old) }
 {
     let mask = demand(read_flags(alloc, text)?)?;
@@ -133,7 +131,7 @@ pub(crate) fn compared_step(
     mask: u8,
     negated: bool,
     text: &[u8],
-) -> Result<(), LineFault>
+) -> Result<(), ReadFault>
     ensures { StepGiven result d.new (compared_step mask negated text.now d.old) }
 {
     let want = demand(read_flags(alloc, text)?)?;
@@ -149,7 +147,7 @@ fn plain_step(
     negated: bool,
     option: TestOption,
     text: &[u8],
-) -> Result<(), LineFault>
+) -> Result<(), ReadFault>
     requires { IsSound site.now }
     ensures { StepGiven result d.new (plain_step site.now negated option text.now d.old) }
 {
@@ -166,12 +164,12 @@ pub(crate) fn value_step(
     option: TestOption,
     negated: bool,
     text: &[u8],
-) -> Result<(), LineFault>
+) -> Result<(), ReadFault>
     requires { IsSound site.now }
     ensures { StepGiven result d.new (value_step site.now option negated text.now d.old) }
 {
     match option {
-        TestOption::Protocol => protocol_step(alloc, site, d, negated, text),
+        TestOption::Protocol => protocol_step(alloc, d, negated, text),
         TestOption::TcpFlags => mask_step(alloc, d, negated, text),
         _ => plain_step(alloc, site, d, negated, option, text),
     }

@@ -4,7 +4,7 @@ ghost use Rattle.std.specs.Prelude.{◌≡◌};
 ghost use Rattle.fws_net.specs.Reading.{CauseGiven};
 ghost use Rattle.fws_ipt.specs.Values.{is_ports, is_place, address_and_port, placed_ports, placed_alone, place_of, to_port};
 
-use fws_net::{Cause, LineFault, read_addresses_between};
+use fws_net::{Cause, ReadFault, read_addresses_between};
 use fws_num::{read_port, read_ports_between, read_quad, split_once};
 
 /// Whether it is a port or a range of ports.
@@ -31,32 +31,32 @@ fn address_and_port(front: &[u8], back: &[u8]) -> Option<(u32, Option<u16>)>
 }
 
 /// An address with something behind a colon. Ranges, and a port alone, are left out.
-fn placed_ports(front: &[u8], back: &[u8]) -> Result<(u32, Option<u16>), LineFault>
+fn placed_ports(front: &[u8], back: &[u8]) -> Result<(u32, Option<u16>), ReadFault>
     ensures { CauseGiven result (placed_ports front.now back.now) }
 {
     match address_and_port(front, back) {
         Some(place) => Ok(place),
         None => {
             if is_place(front) && is_ports(back) {
-                Err(LineFault::Bad(Cause::LeftOut))
+                Err(ReadFault::Bad(Cause::LeftOut))
             } else {
-                Err(LineFault::Bad(Cause::Syntax))
+                Err(ReadFault::Bad(Cause::Syntax))
             }
         }
     }
 }
 
 /// An address alone. A range is left out.
-fn placed_alone(text: &[u8]) -> Result<(u32, Option<u16>), LineFault>
+fn placed_alone(text: &[u8]) -> Result<(u32, Option<u16>), ReadFault>
     ensures { CauseGiven result (placed_alone text.now) }
 {
     match read_quad(text) {
         Some(address) => Ok((address, None)),
         None => {
             if read_addresses_between(text).is_some() {
-                Err(LineFault::Bad(Cause::LeftOut))
+                Err(ReadFault::Bad(Cause::LeftOut))
             } else {
-                Err(LineFault::Bad(Cause::Syntax))
+                Err(ReadFault::Bad(Cause::Syntax))
             }
         }
     }
@@ -64,7 +64,7 @@ fn placed_alone(text: &[u8]) -> Result<(u32, Option<u16>), LineFault>
 
 /// The value of `--to-source` and `--to-destination`: an address, and maybe a port behind a colon. A
 /// range of either, and a port alone, are left out.
-pub(crate) fn read_place(text: &[u8]) -> Result<(u32, Option<u16>), LineFault>
+pub(crate) fn read_place(text: &[u8]) -> Result<(u32, Option<u16>), ReadFault>
     ensures { CauseGiven result (place_of text.now) }
 {
     match split_once(text, b':') {
@@ -74,16 +74,16 @@ pub(crate) fn read_place(text: &[u8]) -> Result<(u32, Option<u16>), LineFault>
 }
 
 /// The value of `--to-ports`: a port. A range is left out.
-pub(crate) fn read_to_port(text: &[u8]) -> Result<u16, LineFault>
+pub(crate) fn read_to_port(text: &[u8]) -> Result<u16, ReadFault>
     ensures { CauseGiven result (to_port text.now) }
 {
     match read_port(text) {
         Some(port) => Ok(port),
         None => {
             if read_ports_between(b'-', text).is_some() {
-                Err(LineFault::Bad(Cause::LeftOut))
+                Err(ReadFault::Bad(Cause::LeftOut))
             } else {
-                Err(LineFault::Bad(Cause::Syntax))
+                Err(ReadFault::Bad(Cause::Syntax))
             }
         }
     }

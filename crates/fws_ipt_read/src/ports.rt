@@ -7,7 +7,7 @@ ghost use Rattle.fws_ipt_read.specs.Sets.{SetGiven};
 
 use crate::literals::demand;
 use fws_iv::{Ivs, one};
-use fws_net::{LineFault, read_ports};
+use fws_net::{ReadFault, read_ports};
 use fws_num::{read_port, split_once};
 use std::alloc::Global;
 
@@ -49,7 +49,7 @@ fn read_open_range(text: &[u8]) -> Option<(u16, u16)>
 }
 
 /// The ports of a port, or of a range with a colon whose ends may be left empty.
-pub(crate) fn read_port_set(alloc: Global, text: &[u8]) -> Result<Ivs, LineFault>
+pub(crate) fn read_port_set(alloc: Global, text: &[u8]) -> Result<Ivs, ReadFault>
     ensures { SetGiven result (λ test. range_meaning test (open_range text.now)) }
 {
     let (lo, hi) = demand(read_open_range(text))?;
@@ -57,7 +57,7 @@ pub(crate) fn read_port_set(alloc: Global, text: &[u8]) -> Result<Ivs, LineFault
 }
 
 /// The ports of a list: ports and ranges with a colon, joined by commas.
-pub(crate) fn read_port_list(alloc: Global, text: &[u8]) -> Result<Ivs, LineFault>
+pub(crate) fn read_port_list(alloc: Global, text: &[u8]) -> Result<Ivs, ReadFault>
     ensures { SetGiven result (λ test. set_meaning test (ports_of 58 text.now)) }
 {
     demand(read_ports(alloc, b':', text)?)

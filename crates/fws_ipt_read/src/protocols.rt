@@ -2,17 +2,17 @@
 
 ghost use Rattle.std.specs.Prelude.{◌≡◌, IfOk};
 ghost use Rattle.fws_net.specs.Reading.{CauseGiven};
-ghost use Rattle.fws_ipt.specs.Values.{protocol_value, protocol_literal, protocol_meaning};
+ghost use Rattle.fws_ipt.specs.Values.{protocol_value, protocol_literal};
 
 use crate::compared::is;
 use crate::literals::positive;
 use fws_iv::one;
-use fws_net::{Cause, LineFault, Lit, Test};
+use fws_net::{Cause, Lit, ReadFault, Test};
 use fws_num::{Memory, read_protocol};
 use std::alloc::Global;
 
 /// The protocol; none for every one, which is spelled `all` or 0.
-pub(crate) fn read_protocol_value(text: &[u8]) -> Result<Option<u8>, LineFault>
+pub(crate) fn read_protocol_value(text: &[u8]) -> Result<Option<u8>, ReadFault>
     ensures { CauseGiven result (protocol_value text.now) }
 {
     if is(text, b"all") {
@@ -21,12 +21,12 @@ pub(crate) fn read_protocol_value(text: &[u8]) -> Result<Option<u8>, LineFault>
     match read_protocol(text) {
         Some(0) => Ok(None),
         Some(protocol) => Ok(Some(protocol)),
-        None => Err(LineFault::Bad(Cause::Syntax)),
+        None => Err(ReadFault::Bad(Cause::Syntax)),
     }
 }
 
 /// The literal of the protocol; none for every one. An error is want of memory.
-fn protocol_literal(alloc: Global, protocol: Option<u8>) -> Result<Option<Lit>, Memory>
+pub(crate) fn protocol_literal(alloc: Global, protocol: Option<u8>) -> Result<Option<Lit>, Memory>
     ensures { IfOk result (λ lit. lit ≡ protocol_literal protocol) }
 {
     match protocol {
@@ -36,12 +36,4 @@ fn protocol_literal(alloc: Global, protocol: Option<u8>) -> Result<Option<Lit>, 
         }
         None => Ok(None),
     }
-}
-
-/// The literal of `-p`; none where it holds of every packet.
-pub(crate) fn read_protocol_literal(alloc: Global, text: &[u8]) -> Result<Option<Lit>, LineFault>
-    ensures { CauseGiven result (protocol_meaning text.now) }
-{
-    let protocol = read_protocol_value(text)?;
-    Ok(protocol_literal(alloc, protocol)?)
 }

@@ -3,14 +3,14 @@
 ghost use Rattle.std.specs.Prelude.{◌≡◌, true, IfOk};
 ghost use Rattle.fws_net.specs.Reading.{ReadGiven};
 ghost use Rattle.fws_net.specs.Routes.{IsSound};
-ghost use Rattle.fws_ipt.specs.FileText.{ended, spelled_lines, spelled};
+ghost use Rattle.fws_ipt.specs.FileText.{spelled};
 ghost use Rattle.fws_ipt.specs.Soundness.{is_fitting};
 
 use crate::lines::words_step;
 use crate::progress::Progress;
-use fws_ipt::{IptConfig, IptDraft};
-use fws_net::{Cause, LineFault, LineReader, ReadAnswer, Site, take_lines};
-use fws_num::{Comments, Line, Lines, read_lines};
+use fws_ipt::{IptConfig, IptDraft, spelled_fits};
+use fws_net::{Cause, LineReader, ReadAnswer, ReadFault, Site, read_text};
+use fws_num::{Comments, Line};
 use std::alloc::Global;
 
 impl LineReader for Progress {
@@ -18,8 +18,12 @@ impl LineReader for Progress {
 
     type State = IptDraft;
 
+    type Cause = Cause;
+
+    type Output = IptConfig;
+
     ghost use Rattle.fws_net.specs.Routes.{IsSound};
-    ghost use Rattle.fws_ipt.specs.FileText.{line_step};
+    ghost use Rattle.fws_ipt.specs.FileText.{line_step, ended};
 
     ghost state = { λ p. p };
 
@@ -27,32 +31,19 @@ impl LineReader for Progress {
 
     ghost step = { λ site d line. line_step site d line };
 
-    fn take(&mut self, alloc: Global, site: &Site, line: &Line) -> Result<(), LineFault> {
+    ghost finished = { λ site d. ended d };
+
+    fn take(&mut self, alloc: Global, site: &Site, line: &Line) -> Result<(), ReadFault> {
         words_step(alloc, site, self, line.words.as_slice())
     }
-}
 
-/// The configuration of what was read, unless the text ends within a table.
-fn ended(past: u32, reader: Progress) -> Result<IptConfig, ReadAnswer>
-    ensures { ReadGiven result (ended past reader) }
-{
-    if reader.within().is_some() {
-        return Err(ReadAnswer::Refused {
-            line: past,
-            cause: Cause::Syntax,
-        });
+    /// The configuration of what was read, unless the text ends within a table.
+    fn finish(self, _site: &Site) -> Result<IptConfig, ReadFault> {
+        if self.within().is_some() {
+            return Err(ReadFault::Bad(Cause::Syntax));
+        }
+        Ok(self.into_config())
     }
-    Ok(reader.into_config())
-}
-
-/// The configuration that the lines spell.
-fn read_config(alloc: Global, lines: &Lines, site: &Site) -> Result<IptConfig, ReadAnswer>
-    requires { IsSound site.now }
-    ensures { ReadGiven result (spelled_lines site.now lines.now) }
-{
-    let mut reader = Progress::new(alloc);
-    take_lines(alloc, &mut reader, site, lines.lines.as_slice())?;
-    ended(lines.past, reader)
 }
 
 /// The configuration that a text spells.
@@ -60,8 +51,7 @@ fn read_spelled(alloc: Global, text: &[u8], site: &Site) -> Result<IptConfig, Re
     requires { IsSound site.now }
     ensures { ReadGiven result (spelled site.now text.now) }
 {
-    let lines = read_lines(alloc, Comments::HashLine, text)?;
-    read_config(alloc, &lines, site)
+    read_text(alloc, Comments::HashLine, Progress::new(alloc), site, text)
 }
 
 /// The configuration that a text of iptables-save(8) spells on a site: the tables `filter`, `nat` and
@@ -84,12 +74,12 @@ fn read_spelled(alloc: Global, text: &[u8], site: &Site) -> Result<IptConfig, Re
 ///
 /// `Backward` and `Expand` don't come. `Memory` comes only where memory is wanting, or where the text
 /// has more than 2^32 - 2 lines or 2^32 chains.
-#[tactic(auto, using(fws_ipt::proofs::Texts::spelled_is_fitting))]
 pub fn read(alloc: Global, text: &[u8], site: &Site) -> Result<IptConfig, ReadAnswer>
     requires { IsSound site.now }
     ensures given { ReadGiven result (spelled site.now text.now) }
     ensures fits { IfOk result (λ config. is_fitting config ≡ true) }
 {
+    spelled_fits();
     let config = read_spelled(alloc, text, site)?;
     Ok(config)
 }

@@ -2,7 +2,8 @@
 
 ghost use Rattle.std.specs.Prelude.{◌≡◌, false};
 ghost use Rattle.std.specs.Option.{option_map_or};
-ghost use Rattle.fws_net.specs.Reading.{CauseGiven, StepGiven, judged, words_read};
+ghost use Rattle.fws_net.specs.Causes.{judged, words_read};
+ghost use Rattle.fws_net.specs.Reading.{CauseGiven, StepGiven};
 ghost use Rattle.fws_net.specs.Routes.{IsSound};
 ghost use Rattle.fws_ipt.specs.RuleText.{fresh_rule, target_begun, keyword_step, is_target_option, known_step, any_step, negated_keyword, negated_step, module_step, expected_step, rule_step, is_keyword_next, is_complete, is_misplaced, logs, is_protocol, lacks_protocol, is_rule_left_out, rule_checks, rule_made, rule_of};
 
@@ -12,7 +13,7 @@ use crate::options::{compared_step, once, test_step, value_step};
 use crate::progress::Progress;
 use crate::targets::{goto_step, option_step, target_step, target_value_step};
 use fws_ipt::{Expects, IptGo, IptRule, IptTable, Keyword, RuleDraft, TargetWord};
-use fws_net::{Cause, Checks, Cond, LineFault, Site};
+use fws_net::{Cause, Checks, Cond, ReadFault, Site};
 use fws_num::{Items, Word};
 use std::alloc::Global;
 
@@ -37,11 +38,11 @@ fn fresh_rule(alloc: Global) -> RuleDraft
 }
 
 /// Takes `-j` or `-g`, which are one option.
-fn begin_target(d: &mut RuleDraft, next: Expects) -> Result<(), LineFault>
+fn begin_target(d: &mut RuleDraft, next: Expects) -> Result<(), ReadFault>
     ensures { StepGiven result d.new (target_begun next d.old) }
 {
     if d.target.is_some() {
-        return Err(LineFault::Bad(Cause::Syntax));
+        return Err(ReadFault::Bad(Cause::Syntax));
     }
     d.expects = next;
     Ok(())
@@ -53,7 +54,7 @@ fn keyword_step(
     d: &mut RuleDraft,
     text: &[u8],
     keyword: Keyword,
-) -> Result<(), LineFault>
+) -> Result<(), ReadFault>
     ensures { StepGiven result d.new (keyword_step text.now keyword d.old) }
 {
     match keyword {
@@ -78,7 +79,7 @@ fn keyword_step(
             d.is_open = false;
             d.expects = Expects::Unused;
         }
-        Keyword::Line => return Err(LineFault::Bad(Cause::Syntax)),
+        Keyword::Line => return Err(ReadFault::Bad(Cause::Syntax)),
         Keyword::Test(option) => test_step(alloc, d, false, text, option)?,
         Keyword::Target(option) => option_step(alloc, d, text, option)?,
     }
@@ -91,42 +92,42 @@ fn known_step(
     d: &mut RuleDraft,
     text: &[u8],
     keyword: Keyword,
-) -> Result<(), LineFault>
+) -> Result<(), ReadFault>
     ensures { StepGiven result d.new (known_step text.now keyword d.old) }
 {
     if d.owes && !matches!(keyword, Keyword::Target(_)) {
-        return Err(LineFault::Bad(Cause::Syntax));
+        return Err(ReadFault::Bad(Cause::Syntax));
     }
     keyword_step(alloc, d, text, keyword)
 }
 
 /// Takes a word where a keyword may stand. An unknown word is left out.
-fn any_step(alloc: Global, d: &mut RuleDraft, text: &[u8]) -> Result<(), LineFault>
+fn any_step(alloc: Global, d: &mut RuleDraft, text: &[u8]) -> Result<(), ReadFault>
     ensures { StepGiven result d.new (any_step text.now d.old) }
 {
     match read_keyword(text) {
         Some(keyword) => known_step(alloc, d, text, keyword),
-        None => Err(LineFault::Bad(Cause::LeftOut)),
+        None => Err(ReadFault::Bad(Cause::LeftOut)),
     }
 }
 
 /// Takes a word behind `!`, which is an option that tests.
-fn negated_step(alloc: Global, d: &mut RuleDraft, text: &[u8]) -> Result<(), LineFault>
+fn negated_step(alloc: Global, d: &mut RuleDraft, text: &[u8]) -> Result<(), ReadFault>
     ensures { StepGiven result d.new (negated_step text.now d.old) }
 {
     match read_keyword(text) {
         Some(Keyword::Test(option)) => test_step(alloc, d, true, text, option),
-        Some(_) => Err(LineFault::Bad(Cause::Syntax)),
-        None => Err(LineFault::Bad(Cause::LeftOut)),
+        Some(_) => Err(ReadFault::Bad(Cause::Syntax)),
+        None => Err(ReadFault::Bad(Cause::LeftOut)),
     }
 }
 
 /// Takes the name of a module. The module `limit` counts as a limit.
-fn module_step(d: &mut RuleDraft, text: &[u8]) -> Result<(), LineFault>
+fn module_step(d: &mut RuleDraft, text: &[u8]) -> Result<(), ReadFault>
     ensures { StepGiven result d.new (module_step text.now d.old) }
 {
     if !is_module(text) {
-        return Err(LineFault::Bad(Cause::LeftOut));
+        return Err(ReadFault::Bad(Cause::LeftOut));
     }
     if is(text, b"limit") {
         d.is_limited = true;
@@ -143,7 +144,7 @@ fn expected_step(
     table: IptTable,
     d: &mut RuleDraft,
     text: &[u8],
-) -> Result<(), LineFault>
+) -> Result<(), ReadFault>
     requires { IsSound site.now }
     ensures { StepGiven result d.new (expected_step site.now table reader.now.chains d.old.expects text.now d.old) }
 {
@@ -171,12 +172,12 @@ fn take_word(
     table: IptTable,
     d: &mut RuleDraft,
     word: &Word,
-) -> Result<(), LineFault>
+) -> Result<(), ReadFault>
     requires { IsSound site.now }
     ensures { StepGiven result d.new (judged word.now (rule_step site.now table reader.now.chains d.old word.now)) }
 {
     if !word.is_sound() {
-        return Err(LineFault::Bad(Cause::Syntax));
+        return Err(ReadFault::Bad(Cause::Syntax));
     }
     expected_step(alloc, site, reader, table, d, word.text.as_slice())
 }
@@ -189,7 +190,7 @@ fn take_words(
     table: IptTable,
     d: &mut RuleDraft,
     words: &[Word],
-) -> Result<(), LineFault>
+) -> Result<(), ReadFault>
     requires { IsSound site.now }
     ensures { StepGiven result d.new (words_read (rule_step site.now table reader.now.chains) d.old words.now) }
 {
@@ -261,11 +262,11 @@ fn lacks_protocol(d: &RuleDraft) -> bool
 }
 
 /// The rule of what was read of it.
-fn make_rule(table: IptTable, d: RuleDraft) -> Result<IptRule, LineFault>
+fn make_rule(table: IptTable, d: RuleDraft) -> Result<IptRule, ReadFault>
     ensures { CauseGiven result (rule_made table d) }
 {
     if !is_complete(&d) {
-        return Err(LineFault::Bad(Cause::Syntax));
+        return Err(ReadFault::Bad(Cause::Syntax));
     }
     let checks = Checks {
         left_out: is_rule_left_out(table, &d),
@@ -274,7 +275,7 @@ fn make_rule(table: IptTable, d: RuleDraft) -> Result<IptRule, LineFault>
         expand: false,
     };
     match checks.first() {
-        Some(cause) => Err(LineFault::Bad(cause)),
+        Some(cause) => Err(ReadFault::Bad(cause)),
         None => Ok(IptRule {
             cond: d.cond,
             go: d.go,
@@ -289,7 +290,7 @@ pub(crate) fn read_rule(
     reader: &Progress,
     table: IptTable,
     words: &[Word],
-) -> Result<IptRule, LineFault>
+) -> Result<IptRule, ReadFault>
     requires { IsSound site.now }
     ensures { CauseGiven result (rule_of site.now table reader.now.chains words.now) }
 {

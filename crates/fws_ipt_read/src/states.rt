@@ -6,29 +6,40 @@ ghost use Rattle.std.specs.Str.{bytes_eq};
 ghost use Rattle.fws_net.specs.Reading.{CauseGiven};
 ghost use Rattle.fws_ipt.specs.Values.{is_state, is_translation_state, state_literal, states_meaning, state_meaning};
 
-use crate::compared::is;
+use crate::compared::{is, is_one_of};
 use crate::literals::positive;
-use fws_net::{Cause, LineFault, Lit, Test};
+use fws_net::{Cause, Lit, ReadFault, Test};
 use fws_num::{Text, pieces};
 use std::alloc::Global;
 
+/// States of connections.
+const STATES: [&[u8]; 7] = [
+    b"NEW",
+    b"ESTABLISHED",
+    b"RELATED",
+    b"INVALID",
+    b"UNTRACKED",
+    b"SNAT",
+    b"DNAT",
+];
+
+/// States of translated connections, which are left out.
+const TRANSLATION_STATES: [&[u8]; 2] = [b"SNAT", b"DNAT"];
+
+/// Whether it is a state of connections.
+#[tactic(auto, unfolding(fws_ipt::specs::Values::is_state))]
 fn is_state(text: &[u8]) -> bool
     ensures { result ≡ is_state text.now }
 {
-    is(text, b"NEW")
-        || is(text, b"ESTABLISHED")
-        || is(text, b"RELATED")
-        || is(text, b"INVALID")
-        || is(text, b"UNTRACKED")
-        || is(text, b"SNAT")
-        || is(text, b"DNAT")
+    is_one_of(&STATES, text)
 }
 
 /// Whether it is a state of translated connections, which is left out.
+#[tactic(auto, unfolding(fws_ipt::specs::Values::is_translation_state))]
 fn is_translation_state(text: &[u8]) -> bool
     ensures { result ≡ is_translation_state text.now }
 {
-    is(text, b"SNAT") || is(text, b"DNAT")
+    is_one_of(&TRANSLATION_STATES, text)
 }
 
 fn are_states(items: &[Text]) -> bool
@@ -69,13 +80,13 @@ fn state_literal(new: bool, established: bool) -> Option<Lit>
 }
 
 /// The literal of the states.
-fn states_meaning(items: &[Text]) -> Result<Option<Lit>, LineFault>
+fn states_meaning(items: &[Text]) -> Result<Option<Lit>, ReadFault>
     ensures { CauseGiven result (states_meaning items.now) }
 {
     if !are_states(items) {
-        Err(LineFault::Bad(Cause::Syntax))
+        Err(ReadFault::Bad(Cause::Syntax))
     } else if has_translation_state(items) {
-        Err(LineFault::Bad(Cause::LeftOut))
+        Err(ReadFault::Bad(Cause::LeftOut))
     } else {
         Ok(state_literal(has_state(b"NEW", items), has_state(b"ESTABLISHED", items)))
     }
@@ -83,7 +94,7 @@ fn states_meaning(items: &[Text]) -> Result<Option<Lit>, LineFault>
 
 /// The literal of states that commas join; none where it holds of every packet. SNAT and DNAT are left
 /// out.
-pub(crate) fn read_states(alloc: Global, text: &[u8]) -> Result<Option<Lit>, LineFault>
+pub(crate) fn read_states(alloc: Global, text: &[u8]) -> Result<Option<Lit>, ReadFault>
     ensures { CauseGiven result (state_meaning text.now) }
 {
     let items = pieces(alloc, b',', text)?;

@@ -11,7 +11,7 @@ use crate::options::once;
 use crate::places::{read_place, read_to_port};
 use crate::progress::Progress;
 use fws_ipt::{Expects, IptGo, IptTable, RuleDraft, TargetOption, TargetWord};
-use fws_net::{Cause, End, LineFault};
+use fws_net::{Cause, End, ReadFault};
 use std::alloc::Global;
 
 /// What a target does, before its options.
@@ -45,15 +45,15 @@ fn user_chain(
     reader: &Progress,
     table: IptTable,
     name: &[u8],
-) -> Result<u32, LineFault>
+) -> Result<u32, ReadFault>
     ensures { CauseGiven result (user_chain table reader.now.chains name.now) }
 {
     if is_builtin_name(table, name) {
-        return Err(LineFault::Bad(Cause::NoName));
+        return Err(ReadFault::Bad(Cause::NoName));
     }
     match reader.find(alloc, table, name)? {
         Some(number) => Ok(number),
-        None => Err(LineFault::Bad(Cause::NoName)),
+        None => Err(ReadFault::Bad(Cause::NoName)),
     }
 }
 
@@ -64,11 +64,11 @@ fn other_target(
     table: IptTable,
     d: &mut RuleDraft,
     text: &[u8],
-) -> Result<(), LineFault>
+) -> Result<(), ReadFault>
     ensures { StepGiven result d.new (other_target table reader.now.chains text.now d.old) }
 {
     if is_left_out_target(text) {
-        return Err(LineFault::Bad(Cause::LeftOut));
+        return Err(ReadFault::Bad(Cause::LeftOut));
     }
     let number = user_chain(alloc, reader, table, text)?;
     with_target(d, TargetWord::Chain, IptGo::Jump(number));
@@ -82,7 +82,7 @@ pub(crate) fn target_step(
     table: IptTable,
     d: &mut RuleDraft,
     text: &[u8],
-) -> Result<(), LineFault>
+) -> Result<(), ReadFault>
     ensures { StepGiven result d.new (target_step table reader.now.chains text.now d.old) }
 {
     match read_target_word(text) {
@@ -101,7 +101,7 @@ pub(crate) fn goto_step(
     table: IptTable,
     d: &mut RuleDraft,
     text: &[u8],
-) -> Result<(), LineFault>
+) -> Result<(), ReadFault>
     ensures { StepGiven result d.new (goto_step table reader.now.chains text.now d.old) }
 {
     let number = user_chain(alloc, reader, table, text)?;
@@ -167,11 +167,11 @@ pub(crate) fn option_step(
     d: &mut RuleDraft,
     text: &[u8],
     option: TargetOption,
-) -> Result<(), LineFault>
+) -> Result<(), ReadFault>
     ensures { StepGiven result d.new (option_step text.now option d.old) }
 {
     if !fits_target(option, d) {
-        return Err(LineFault::Bad(Cause::Syntax));
+        return Err(ReadFault::Bad(Cause::Syntax));
     }
     once(alloc, d, text)?;
     d.expects = behind_option(option);
@@ -196,7 +196,7 @@ fn with_end(d: &mut RuleDraft, go: IptGo, has_port: bool)
 }
 
 /// Takes the value of `--to-source`.
-fn source_step(d: &mut RuleDraft, text: &[u8]) -> Result<(), LineFault>
+fn source_step(d: &mut RuleDraft, text: &[u8]) -> Result<(), ReadFault>
     ensures { StepGiven result d.new (source_step text.now d.old) }
 {
     let (addr, port) = read_place(text)?;
@@ -205,7 +205,7 @@ fn source_step(d: &mut RuleDraft, text: &[u8]) -> Result<(), LineFault>
 }
 
 /// Takes the value of `--to-destination`.
-fn destination_step(d: &mut RuleDraft, text: &[u8]) -> Result<(), LineFault>
+fn destination_step(d: &mut RuleDraft, text: &[u8]) -> Result<(), ReadFault>
     ensures { StepGiven result d.new (destination_step text.now d.old) }
 {
     let (addr, port) = read_place(text)?;
@@ -214,7 +214,7 @@ fn destination_step(d: &mut RuleDraft, text: &[u8]) -> Result<(), LineFault>
 }
 
 /// Takes the value of `--to-ports`.
-fn redirect_step(d: &mut RuleDraft, text: &[u8]) -> Result<(), LineFault>
+fn redirect_step(d: &mut RuleDraft, text: &[u8]) -> Result<(), ReadFault>
     ensures { StepGiven result d.new (redirect_step text.now d.old) }
 {
     let port = read_to_port(text)?;
@@ -223,7 +223,7 @@ fn redirect_step(d: &mut RuleDraft, text: &[u8]) -> Result<(), LineFault>
 }
 
 /// Takes the value of `--set-xmark`.
-fn xmark_step(d: &mut RuleDraft, text: &[u8]) -> Result<(), LineFault>
+fn xmark_step(d: &mut RuleDraft, text: &[u8]) -> Result<(), ReadFault>
     ensures { StepGiven result d.new (xmark_step text.now d.old) }
 {
     let mark = read_xmark(text)?;
@@ -232,7 +232,7 @@ fn xmark_step(d: &mut RuleDraft, text: &[u8]) -> Result<(), LineFault>
 }
 
 /// Takes the value of `--set-mark`.
-fn set_mark_step(d: &mut RuleDraft, text: &[u8]) -> Result<(), LineFault>
+fn set_mark_step(d: &mut RuleDraft, text: &[u8]) -> Result<(), ReadFault>
     ensures { StepGiven result d.new (set_mark_step text.now d.old) }
 {
     let mark = read_set_mark(text)?;
@@ -245,7 +245,7 @@ pub(crate) fn target_value_step(
     d: &mut RuleDraft,
     option: TargetOption,
     text: &[u8],
-) -> Result<(), LineFault>
+) -> Result<(), ReadFault>
     ensures { StepGiven result d.new (target_value_step option text.now d.old) }
 {
     match option {

@@ -10,20 +10,19 @@ use crate::interfaces::read_interfaces;
 use crate::literals::positive;
 use crate::marks::read_mark;
 use crate::ports::{read_port_list, read_port_set};
-use crate::protocols::read_protocol_literal;
 use crate::states::read_states;
 use fws_ipt::TestOption;
-use fws_net::{Cause, LineFault, Lit, Site, Test};
+use fws_net::{Cause, Lit, ReadFault, Site, Test};
 use std::alloc::Global;
 
-/// The literal of an option with one value; none where it holds of every packet. `--tcp-flags` has two
-/// values, and `--syn` has none.
+/// The literal of an option with one value; none where it holds of every packet. `-p`, `--tcp-flags` and
+/// `--syn` have steps of their own.
 pub(crate) fn read_meaning(
     alloc: Global,
     site: &Site,
     option: TestOption,
     text: &[u8],
-) -> Result<Option<Lit>, LineFault>
+) -> Result<Option<Lit>, ReadFault>
     requires { IsSound site.now }
     ensures { CauseGiven result (meaning_of site.now option text.now) }
 {
@@ -36,14 +35,15 @@ pub(crate) fn read_meaning(
         TestOption::OutInterface => {
             Ok(Some(positive(Test::Xmit(read_interfaces(alloc, site, text)?))))
         }
-        TestOption::Protocol => read_protocol_literal(alloc, text),
         TestOption::SourcePort => Ok(Some(positive(Test::Sport(read_port_set(alloc, text)?)))),
         TestOption::DestinationPort => Ok(Some(positive(Test::Dport(read_port_set(alloc, text)?)))),
         TestOption::SourcePorts => Ok(Some(positive(Test::Sport(read_port_list(alloc, text)?)))),
         TestOption::DestinationPorts => Ok(Some(positive(Test::Dport(read_port_list(
             alloc, text,
         )?)))),
-        TestOption::TcpFlags | TestOption::Syn => Err(LineFault::Bad(Cause::Syntax)),
+        TestOption::Protocol | TestOption::TcpFlags | TestOption::Syn => {
+            Err(ReadFault::Bad(Cause::Syntax))
+        }
         TestOption::IcmpType => read_icmp_type(alloc, text),
         TestOption::State | TestOption::ConnectionState => read_states(alloc, text),
         TestOption::Mark => Ok(Some(positive(Test::Tag(read_mark(text)?)))),

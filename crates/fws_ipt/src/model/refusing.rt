@@ -115,7 +115,7 @@ pub fn refusal(alloc: Global, site: &Site, c: &IptConfig) -> Result<Option<Unfol
     if let Some(n) = deep_of(alloc, chains)? {
         return Ok(Some(UnfoldRefusal::Deep(number(n)?)));
     }
-    let faces = site.faces.as_slice().len() as u64;
+    let faces = site.faces.len() as u64;
     match long_of(alloc, faces, chains)? {
         Some(n) => Ok(Some(UnfoldRefusal::Long(number(n)?))),
         None => Ok(None),

@@ -1,5 +1,5 @@
 use Rattle.std.proofs.Common.{◌≡◌, drop}
-use Rattle.fws_net.specs.Reading.{words_read}
+use Rattle.fws_net.specs.Causes.{words_read}
 use Rattle.fws_ipt.specs.RuleText.{rule_step}
 use Rattle.fws_ipt_read.proofs.rule.take_words.Given as goal
 
