@@ -1,12 +1,35 @@
 -- Addresses block by block.
 use Rattle.std.proofs.Common.{◌≡◌, ℕ, zero, suc, ◌+◌, ◌-◌, ◌*◌, ◌/◌, ◌%◌, ◌^◌, ◌<◌, ◌≤◌, Bool, true, false, ◌&&◌, ◌||◌, nat_le, nat_lt, List, [], ◌∷◌, length, take, get_or, inl, inr, refl, sym, ap, subst, ◌∙◌, arith}
-use Rattle.std.proofs.lemmas.Bool.{cases_Bool, cases_lt, or_cases, and_parts, and_left, le-leb, lt-leb, lt-ltb, le-ltb, leb-true, ltb-true}
-use Rattle.std.proofs.lemmas.Nat.{div-add-mod', mod-mul-add, pow_pos}
+use Rattle.std.proofs.lemmas.Bool.{cases_Bool, cases_lt, or_cases, and_parts, and_from, and_left, le-leb, lt-leb, lt-ltb, le-ltb, leb-true, ltb-true}
+use Rattle.std.proofs.lemmas.Nat.{div-add-mod', mod-mul-add, pow-add, pow_pos}
 use Rattle.std.proofs.lemmas.List.Folds.{list_any_more}
 use Rattle.fws_iv.specs.declared.iv.Iv.{Iv}
 use Rattle.fws_iv.specs.Ivs.{has, in_part, IsRegular, IsRegularFrom}
-use Rattle.fws_iv.proofs.Parts.{in_part-true, in_part-from}
-use Rattle.fws_net.proofs.Ends.{end_fits}
+use Rattle.std.proofs.Math.Nat.{mul-le-mul_left, lt_of_mul-lt-mul_left, mod-lt}
+
+in_part-from : (x : Iv) (v : ℕ) → x.lo ≤ v → v ≤ x.hi → in_part x v ≡ true
+in_part-from x v a b = and_from (nat_le x.lo v) (nat_le v x.hi) (le-leb x.lo v a) (le-leb v x.hi b)
+
+in_part-true : (x : Iv) (v : ℕ) → in_part x v ≡ true → (x.lo ≤ v) × (v ≤ x.hi)
+in_part-true x v h = let p = and_parts (nat_le x.lo v) (nat_le v x.hi) h in (leb-true x.lo v p.0, leb-true v x.hi p.1)
+
+-- a multiple of p below q * p and something below p stay below q * p
+multiple_fits : (q p a x : ℕ) → a < q * p → a % p ≡ 0 → x < p → a + x < q * p
+multiple_fits q p a x h m lt =
+    let k = a / p in
+    let whole : p * k + a % p ≡ a = omega arith in
+    let below : k < q = lt_of_mul-lt-mul_left p (omega arith) in
+    let next : p * (k + 1) ≤ p * q = mul-le-mul_left p (omega arith) in
+    omega arith
+
+-- a sum of bits ahead and bits behind has 32 bits
+end_fits : (a n x : ℕ) → n ≤ 32 → a < 2 ^ 32 → a % 2 ^ (32 - n) ≡ 0 → a + x % 2 ^ (32 - n) < 2 ^ 32
+end_fits a n x h lt m =
+    let both : n + (32 - n) ≡ 32 = omega arith in
+    let whole : 2 ^ n * 2 ^ (32 - n) ≡ 2 ^ 32 = sym (pow-add 2 n (32 - n)) ∙ ap (λ k. 2 ^ k) both in
+    let P : ℕ → Type 0 = λ t. a + x % 2 ^ (32 - n) < t in
+    let Q : ℕ → Type 0 = λ t. a < t in
+    subst P whole (multiple_fits (2 ^ n) (2 ^ (32 - n)) a (x % 2 ^ (32 - n)) (subst Q (sym whole) lt) m (mod-lt x (pow_pos (32 - n))))
 
 -- what stands for an address has 32 bits
 pub end_low : (addr len a : ℕ) → len ≤ 32 → addr < 2 ^ 32 → addr % 2 ^ (32 - len) ≡ 0 → addr + a % 2 ^ (32 - len) < 2 ^ 32

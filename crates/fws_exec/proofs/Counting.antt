@@ -7,7 +7,7 @@ use Rattle.fws_iv.specs.Ivs.{has}
 use Rattle.fws_box.specs.declared.pbox.PBox.{PBox}
 use Rattle.fws_box.specs.Boxes.{box_hits}
 use Rattle.fws_box.specs.Sides.{sides_have}
-use Rattle.fws_box.proofs.SideBySide.{one, others, at_side, set_side, box_hits-push}
+use Rattle.fws_exec.proofs.SideBySide.{one, others, at_side, set_side, box_hits-push}
 use Rattle.fws_exec.specs.Kept.{Adds, AddsThose, AreThose}
 use Rattle.fws_exec.specs.Splits.{AreWhere}
 

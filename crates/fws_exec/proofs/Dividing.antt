@@ -7,7 +7,7 @@ use Rattle.fws_iv.specs.declared.iv.Iv.{Iv}
 use Rattle.fws_box.specs.declared.pbox.PBox.{PBox}
 use Rattle.fws_box.specs.Boxes.{box_hits}
 use Rattle.fws_box.specs.Sides.{sides_have}
-use Rattle.fws_box.proofs.SideBySide.{one}
+use Rattle.fws_exec.proofs.SideBySide.{one}
 use Rattle.fws_net.specs.declared.site.Site.{Site}
 use Rattle.fws_exec.specs.Kept.{AddsThose, AreThose}
 use Rattle.fws_exec.specs.Splits.{AreWhere, IsOfSite, Splits}

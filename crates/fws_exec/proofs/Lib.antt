@@ -4,4 +4,5 @@ pub mod Counting
 pub mod Dividing
 pub mod Routing
 pub mod Showing
+pub mod SideBySide
 pub mod Values

@@ -1,28 +1,14 @@
 -- Routes and addresses of a site.
 use Rattle.std.proofs.Common.{◌≡◌, ℕ, suc, ◌+◌, ◌-◌, ◌^◌, ◌<◌, ◌≤◌, Bool, true, false, ◌&&◌, ◌||◌, not, nat_lt, List, [], ◌∷◌, length, get_or, refl, sym, ap, ◌∙◌, arith}
-use Rattle.std.proofs.lemmas.Bool.{cond_both, lt-ltb}
+use Rattle.std.proofs.lemmas.Bool.{lt-ltb}
 use Rattle.fws_tree.specs.Plain.{IsWithin}
-use Rattle.fws_net.specs.declared.site.Iface.{Iface}
 use Rattle.fws_net.specs.declared.site.Site.{Site}
 use Rattle.fws_net.specs.Points.{tops_of}
-use Rattle.fws_net.specs.Routes.{IsSound, net_has, route_from, route_of}
 use Rattle.fws_exec.proofs.Showing.{within_top}
 
-route_from_low : (n : ℕ) (faces : List Iface) (fallback a : ℕ) → n + length faces ≤ 16 → fallback < 16 → route_from n faces fallback a < 16
-route_from_low n [] fallback a le lt = lt
-route_from_low n (face ∷ faces) fallback a le lt =
-    cond_both (net_has face a) n (route_from (suc n) faces fallback a) (λ x. x < 16) (λ e. omega arith) (λ e. route_from_low (suc n) faces fallback a (omega arith) lt)
-
--- entry numbers end below 16
-pub route_low : (site : Site) (a : ℕ) → IsSound site → route_of site a < 16
-route_low site a s =
-    let few = s.few_faces in
-    let high = s.fallback_high in
-    route_from_low 2 site.faces site.fallback a (omega arith) (omega arith)
-
 -- all entries were tried
-pub all_tried : (r entry : ℕ) (b : Bool) → r < 16 → 16 ≤ entry → (nat_lt r entry && b) ≡ b
-all_tried r entry b lt le = ap (λ t. t && b) (lt-ltb r entry (omega arith))
+pub all_tried : (r past entry : ℕ) (b : Bool) → r < past → past ≤ entry → (nat_lt r entry && b) ≡ b
+all_tried r past entry b lt le = ap (λ t. t && b) (lt-ltb r entry (omega arith))
 
 -- the addresses of a point have 32 bits
 pub dst_low : (site : Site) (p : List ℕ) → IsWithin (tops_of site) p → get_or p 2 0 < 2 ^ 32

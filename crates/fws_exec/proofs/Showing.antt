@@ -6,7 +6,7 @@ use Rattle.fws_iv.specs.Ivs.{has}
 use Rattle.fws_box.specs.declared.pbox.PBox.{PBox}
 use Rattle.fws_box.specs.Boxes.{box_hits}
 use Rattle.fws_box.specs.Sides.{sides_have}
-use Rattle.fws_box.proofs.SideBySide.{one, others, at_side}
+use Rattle.fws_exec.proofs.SideBySide.{one, others, at_side}
 use Rattle.fws_tree.specs.Plain.{IsWithin}
 use Rattle.fws_net.specs.declared.exit.Exit.TheVariants.{Deliver, Out, Lost}
 use Rattle.fws_net.specs.Conditions.{is_shown}

@@ -42,9 +42,6 @@ pub(crate) const HOST: u32 = 0;
 /// The entry number of loopback.
 pub(crate) const LOOPBACK: u32 = 1;
 
-/// The entry numbers end before this one: 14 interfaces at most follow the host and loopback.
-pub(crate) const PAST_ENTRIES: u8 = 16;
-
 pub(crate) const ICMP: u32 = 1;
 
 pub(crate) const TCP: u32 = 6;

@@ -5,9 +5,9 @@ ghost use Rattle.fws_iv.specs.Ivs.{has};
 ghost use Rattle.fws_net.specs.Fates.{has_ports};
 ghost use Rattle.fws_net.specs.Routes.{route_of, IsSound};
 
-use crate::fields::{PAST_ENTRIES, TCP, UDP};
+use crate::fields::{TCP, UDP};
 use fws_iv::{Ivs, one};
-use fws_net::{Site, route_set};
+use fws_net::{Site, route_set, routes_are_entries};
 use fws_num::Memory;
 use std::alloc::Global;
 
@@ -83,8 +83,11 @@ pub(crate) fn routed_set(alloc: Global, site: &Site, set: &Ivs) -> Result<Ivs, M
     requires { IsSound site.now }
     ensures { IfOk result (λ s. (a : ℕ) → has s a ≡ (has set.now (route_of site.now a) && nat_lt a (2 ^ 32))) }
 {
+    // each address is sent by an interface of the site
+    routes_are_entries();
+    let past = site.faces.as_slice().len() as u8 + 2;
     let mut routed = Ivs::none(alloc);
-    for entry in 0..PAST_ENTRIES {
+    for entry in 0..past {
         routed = with_routes(alloc, site, routed, entry, set.has(u32::from(entry)))?;
     }
     Ok(routed)

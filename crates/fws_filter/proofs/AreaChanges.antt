@@ -9,7 +9,7 @@ use Rattle.fws_ipt.specs.declared.config.IptChain.{IptChain}
 use Rattle.fws_ipt.specs.declared.config.IptConfig.{IptConfig}
 use Rattle.fws_ipt.specs.declared.hook.Hook.TheVariants.{Input, Forward, Output}
 use Rattle.fws_ipt.specs.FilterOnly.{is_filter_only}
-use Rattle.fws_ipt.specs.Soundness.{is_fitting}
+use Rattle.fws_ipt.specs.Soundness.{is_fitting, FilterOnlyRules}
 use Rattle.fws_ipt.specs.Walk.{walk}
 use Rattle.fws_net.specs.declared.connection.Kind.TheVariants.{New}
 use Rattle.fws_net.specs.declared.outcome.Outcome.{Outcome}
@@ -107,18 +107,18 @@ abbrev pub SentFrom : Site → List IptChain → List (Row Outcome) → List (Ro
 SentFrom site chains new old = Changes site old new (λ rest p. cond (nat_eq (get_or p 0 0) 0) (verdict (accepts_at chains site Output (packet_of p))) rest)
 
 -- the rows of the three chains give each packet what the walk gives it
-pub rows_walk : (site : Site) (c : IptConfig) (chains : List IptChain) (first second third : List (Row Outcome))
+pub rows_walk : FilterOnlyRules → (site : Site) (c : IptConfig) (chains : List IptChain) (first second third : List (Row Outcome))
     → chains ≡ c.chains → is_fitting c ≡ true → is_filter_only c ≡ true
     → SentFrom site chains first []
     → Changes site first second (λ rest p. cond (not (nat_eq (get_or p 0 0) 0) && is_local site (get_or p 2 0)) (verdict (accepts_at chains site Input (packet_of p))) rest)
     → Changes site second third (λ rest p. cond (site.forwarding && (not (nat_eq (get_or p 0 0) 0) && not (is_local site (get_or p 2 0))))
     (verdict (accepts_at chains site Forward (packet_of p))) rest)
     → (p : List ℕ) → IsWithin (tops_of site) p → first_leaf third Drop p ≡ walk c site (packet_of p) New
-rows_walk site c chains first second third e fits filters sent delivered forwarded p w =
+rows_walk law site c chains first second third e fits filters sent delivered forwarded p w =
     let packet = packet_of p in
     let own = nat_eq (get_or p 0 0) 0 in
     let local = is_local site (get_or p 2 0) in
     forwarded Drop p w ∙ delivered _ p w ∙ sent _ p w
     ∙ areas_decided own local site.forwarding (accepts_at chains site Output packet) (accepts_at chains site Input packet) (accepts_at chains site Forward packet)
     ∙ ap (λ cs. verdict (decided own local site.forwarding (accepts_at cs site Output packet) (accepts_at cs site Input packet) (accepts_at cs site Forward packet))) e
-    ∙ sym (walk_decided c site packet fits filters)
+    ∙ sym (walk_decided law c site packet fits filters)

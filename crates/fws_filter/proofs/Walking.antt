@@ -23,9 +23,8 @@ use Rattle.fws_ipt.specs.declared.hook.Hook.TheVariants.{Prerouting, Input, Forw
 use Rattle.fws_ipt.specs.declared.passage.Passage.{Passage}
 use Rattle.fws_ipt.specs.declared.passage.ChainEnd.{ChainEnd}
 use Rattle.fws_ipt.specs.FilterOnly.{fits_table, filters_only, is_filter_only}
-use Rattle.fws_ipt.specs.Soundness.{decides_only, is_fitting}
+use Rattle.fws_ipt.specs.Soundness.{decides_only, is_fitting, FilterOnlyRules}
 use Rattle.fws_ipt.specs.Walk.{act, rules_walk, chain_walk, by_policy, builtin_walk, builtin_from, is_table, stands_at, hook_name, rules_at, policy_at, view_at, visits, go_to, routed, way_of, outcome_of, entering, walk, arriving, delivered, forwarded, sent_out}
-use Rattle.fws_ipt.proofs.Filtering.{only_filters}
 use Rattle.fws_filter.specs.Verdicts.{verdict, chain_at, decision, rules_accept, chain_accepts, accepts_at}
 
 -- a packet that a chain lets pass
@@ -208,10 +207,10 @@ outcome_decided : (p : Packet) (accepts : Bool) → outcome_of New (passed accep
 outcome_decided p true = refl
 outcome_decided p false = refl
 
-pub walk_decided : (c : IptConfig) (site : Site) (p : Packet) → is_fitting c ≡ true → is_filter_only c ≡ true
+pub walk_decided : FilterOnlyRules → (c : IptConfig) (site : Site) (p : Packet) → is_fitting c ≡ true → is_filter_only c ≡ true
     → walk c site p New ≡ verdict (decided (nat_eq p.entry 0) (is_local site p.dst) site.forwarding
     (accepts_at c.chains site Output p) (accepts_at c.chains site Input p) (accepts_at c.chains site Forward p))
-walk_decided c site p fits filters =
-    ap (outcome_of New) (way_decided c site p (only_filters c fits filters) filters)
+walk_decided law c site p fits filters =
+    ap (outcome_of New) (way_decided c site p (law c fits filters) filters)
     ∙ outcome_decided p (decided (nat_eq p.entry 0) (is_local site p.dst) site.forwarding
     (accepts_at c.chains site Output p) (accepts_at c.chains site Input p) (accepts_at c.chains site Forward p))

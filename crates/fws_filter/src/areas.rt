@@ -21,7 +21,7 @@ use crate::rows::put_rules;
 use crate::scenery::scene_at;
 use fws_box::PBox;
 use fws_exec::{narrow, whole_site};
-use fws_ipt::{Hook, IptChain, IptConfig};
+use fws_ipt::{Hook, IptChain, IptConfig, filter_only_rules};
 use fws_iv::{Ivs, one};
 use fws_net::{Outcome, Site, local_set};
 use fws_num::Memory;
@@ -148,6 +148,7 @@ pub(crate) fn filter_rows(
     requires filters { is_filter_only c.now ≡ true }
     ensures { IfOk result (λ rows. (p : List ℕ) → IsWithin (tops_of site.now) p → first_leaf rows.items Outcome.Drop p ≡ walk c.now site.now (packet_of p) New) }
 {
+    filter_only_rules();
     let chains = c.chains.as_slice();
     let mut rows = Vec::new(alloc);
     put_sent(alloc, &mut rows, site, chains)?;

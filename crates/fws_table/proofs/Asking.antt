@@ -1,5 +1,5 @@
 -- Rows within the asked sides that have what is asked for, and the tree that is built from them.
-use Rattle.std.proofs.Common.{◌≡◌, ℕ, suc, Bool, true, ◌&&◌, cond, Option, Some, None, List, [], ◌∷◌, ◌++◌, map, inl, inr, sym, subst, ◌∙◌, ap, arith}
+use Rattle.std.proofs.Common.{◌≡◌, ℕ, suc, Bool, true, false, refl, ◌&&◌, cond, Option, Some, None, List, [], ◌∷◌, ◌++◌, map, inl, inr, sym, subst, ◌∙◌, ap, arith}
 use Rattle.std.proofs.lemmas.Bool.{cases_Bool, cond-true, cond-false}
 use Rattle.std.proofs.lemmas.List.{map-append}
 use Rattle.std.specs.Prelude.{All, codes, option_and_then}
@@ -10,10 +10,35 @@ use Rattle.fws_net.specs.Points.{tops_of}
 use Rattle.fws_tree.specs.declared.row.Row.{Row}
 use Rattle.fws_tree.specs.Plain.{Plain, value, IsWithin, IsReduced}
 use Rattle.fws_tree.specs.Rows.{sides_have, first_leaf, row_hits, paths_of}
-use Rattle.fws_tree.proofs.Changing.{AreWithin, within-push}
+use Rattle.fws_iv.specs.declared.iv.Iv.{Iv}
 use Rattle.fws_table.specs.declared.ask.Ask.{Ask}
 use Rattle.fws_table.specs.QueryText.{asked_leaf, asked_row, asked_value, held_rows, IsQuery}
 use Rattle.fws_table.specs.TableText.{rows_text}
+
+-- rows with one more at the end
+first_leaf-push : {L : Type 0} (rows : List (Row L)) (row : Row L) (rest : L) (p : List ℕ) → first_leaf (rows ++ row ∷ []) rest p ≡ first_leaf rows (cond (sides_have row.sides p) row.leaf rest) p
+first_leaf-push [] row rest p = refl
+first_leaf-push (r ∷ rows) row rest p = ap (λ l. cond (sides_have r.sides p) r.leaf l) (first_leaf-push rows row rest p)
+
+-- rows met with sides: those of the points within the sides, and the rest elsewhere
+abbrev pub AreWithin : {L : Type 0} → List (List Iv) → List (Row L) → List (Row L) → Type 0
+AreWithin {L} asked rows met = (rest : L) (p : List ℕ) → first_leaf met rest p ≡ cond (sides_have asked p) (first_leaf rows rest p) rest
+
+within-push : {L : Type 0} (asked : List (List Iv)) (rows met : List (Row L)) (row new : Row L) → AreWithin asked rows met → new.leaf ≡ row.leaf
+    → ((p : List ℕ) → sides_have new.sides p ≡ (sides_have row.sides p && sides_have asked p)) → AreWithin asked (rows ++ row ∷ []) (met ++ new ∷ [])
+within-push asked rows met row new before leaf sides rest p =
+    first_leaf-push met new rest p
+    ∙ before (cond (sides_have new.sides p) new.leaf rest) p
+    ∙ ap (λ l. cond (sides_have asked p) (first_leaf rows (cond (sides_have new.sides p) l rest) p) (cond (sides_have new.sides p) l rest)) leaf
+    ∙ ap (λ b. cond (sides_have asked p) (first_leaf rows (cond b row.leaf rest) p) (cond b row.leaf rest)) (sides p)
+    ∙ either (λ l. first_leaf rows l p) (sides_have row.sides p) (sides_have asked p) row.leaf rest
+    ∙ ap (λ l. cond (sides_have asked p) l rest) (sym (first_leaf-push rows row rest p))
+  where
+    either : {L : Type 0} (f : L → L) (h a : Bool) (x rest : L) → cond a (f (cond (h && a) x rest)) (cond (h && a) x rest) ≡ cond a (f (cond h x rest)) rest
+    either f true true x rest = refl
+    either f true false x rest = refl
+    either f false true x rest = refl
+    either f false false x rest = refl
 
 -- the new rows have what is asked for of these rows, and the rest off the asked sides
 abbrev pub AreAsked : Ask → List (Row Outcome) → List (Row (Option Outcome)) → Type 0

@@ -1,7 +1,7 @@
 -- The text of a table: a line that counts its rows, then a line for each path of the tree.
-use Rattle.std.specs.Prelude.{ℕ, ◌+◌, ◌-◌, Bool, false, ◌&&◌, nat_eq, nat_lt, Option, Some, None, slice_get, List, [], ◌∷◌, ◌++◌, length, drop, take, map, codes, if◌then◌else◌}
+use Rattle.std.specs.Prelude.{ℕ, ◌+◌, ◌-◌, Bool, false, ◌&&◌, nat_eq, nat_lt, Option, Some, None, slice_get, List, [], ◌∷◌, ◌++◌, length, take, map, codes, if◌then◌else◌}
 use Rattle.std.specs.Fmt.{decimal}
-use Rattle.std.specs.List.{flat_map, range_with_len}
+use Rattle.std.specs.List.{flat_map, join_with_byte, range_with_len}
 use Rattle.std.specs.Option.{option_map_or}
 use Rattle.fws_num.specs.Numbers.{dotted}
 use Rattle.fws_iv.specs.declared.iv.Iv.{Iv}
@@ -22,10 +22,6 @@ use Rattle.fws_table.specs.declared.field.Kind.TheVariants.{Entry, Number, Addre
 abbrev pub field_kinds : List Kind
 field_kinds = Entry ∷ Number ∷ Address ∷ Number ∷ Address ∷ Number ∷ Number ∷ Number ∷ Address ∷ Number ∷ Address ∷ Number ∷ []
 
--- the texts with the byte between each two
-abbrev pub joined_by : ℕ → List (List ℕ) → List ℕ
-joined_by byte texts = drop 1 (flat_map (λ t. byte ∷ t) texts)
-
 -- an entry by its name in the site
 abbrev pub entry_name : Site → ℕ → List ℕ
 entry_name site entry =
@@ -37,11 +33,11 @@ entry_name site entry =
 abbrev pub range_text : (ℕ → List ℕ) → Iv → List ℕ
 range_text spell i = if nat_eq i.lo i.hi then spell i.lo else spell i.lo ++ 45 ∷ spell i.hi
 
--- what an interval is listed as: entries one by one, other values as a range
-abbrev pub items_of : Site → Kind → Iv → List (List ℕ)
-items_of site Entry i = map (entry_name site) (range_with_len i.lo (i.hi - i.lo + 1))
-items_of site Number i = range_text decimal i ∷ []
-items_of site Address i = range_text dotted i ∷ []
+-- what an interval is written as: entries one by one with commas between, other values as a range
+abbrev pub part_text : Site → Kind → Iv → List ℕ
+part_text site Entry i = join_with_byte 44 (map (entry_name site) (range_with_len i.lo (i.hi - i.lo + 1)))
+part_text site Number i = range_text decimal i
+part_text site Address i = range_text dotted i
 
 -- the one interval of the whole range
 abbrev pub is_whole : ℕ → List Iv → Bool
@@ -49,9 +45,9 @@ is_whole top [] = false
 is_whole top (i ∷ []) = nat_eq i.lo 0 && nat_eq i.hi top
 is_whole top (i ∷ j ∷ is) = false
 
--- the word of a field: `*` for the whole range, else its values with commas between
+-- the word of a field: `*` for the whole range, else its intervals with commas between
 abbrev pub side_text : Site → Kind → ℕ → List Iv → List ℕ
-side_text site kind top is = if is_whole top is then codes "*" else joined_by 44 (flat_map (items_of site kind) is)
+side_text site kind top is = if is_whole top is then codes "*" else join_with_byte 44 (map (part_text site kind) is)
 
 -- the words of the fields, in their order
 abbrev pub side_texts : Site → List Kind → List ℕ → List (List Iv) → List (List ℕ)
@@ -88,7 +84,7 @@ state_text Est = codes "est"
 -- a line of the table
 abbrev pub row_text : Site → State → Row Outcome → List ℕ
 row_text site state row =
-    joined_by 32 (take (shown_fields state) (side_texts site field_kinds (tops_of site) row.sides))
+    join_with_byte 32 (take (shown_fields state) (side_texts site field_kinds (tops_of site) row.sides))
     ++ codes " : " ++ outcome_text row.leaf ++ 10 ∷ []
 
 -- the rows, behind a line that begins with the title and counts them

@@ -1,14 +1,14 @@
 //! The lines of a table.
 
 ghost use Rattle.std.specs.Prelude.{◌≡◌, ◌≤◌, [], ◌∷◌, ◌++◌, OnOk, IfOk, take, length};
-ghost use Rattle.std.specs.List.{flat_map};
+ghost use Rattle.std.specs.List.{flat_map, join_with_byte};
 ghost use Rattle.fws_net.specs.Points.{tops_of};
 ghost use Rattle.fws_net.specs.Routes.{IsSound};
 ghost use Rattle.fws_table.specs.TableText.{field_kinds, side_texts, shown_fields, state_text, row_text, rows_text};
 
 use crate::field::kind_of;
 use crate::outcome_text::put_outcome;
-use crate::side_text::{put_side, without_first};
+use crate::side_text::put_side;
 use fws_iv::Ivs;
 use fws_net::{Outcome, Site, State};
 use fws_num::{Memory, Text, put_dec};
@@ -34,9 +34,8 @@ fn put_state(out: &mut Text, state: State) -> Result<(), Memory>
     }
 }
 
-/// Appends the words of the first fields, each behind a blank.
+/// Appends the words of the first fields with blanks between.
 fn put_sides(
-    alloc: Global,
     out: &mut Text,
     site: &Site,
     shown: usize,
@@ -44,18 +43,19 @@ fn put_sides(
     sides: &[Ivs; 12],
 ) -> Result<(), Memory>
     requires { shown ≤ 12 }
-    ensures { OnOk result (out.new ≡ out.old ++ flat_map (λ t. 32 ∷ t) (take shown (side_texts site.now field_kinds tops.now sides.now))) }
+    ensures { OnOk result (out.new ≡ out.old ++ join_with_byte 32 (take shown (side_texts site.now field_kinds tops.now sides.now))) }
 {
     for field in 0..shown {
-        out.put(b" ")?;
-        put_side(alloc, out, site, kind_of(field), tops[field], &sides[field])?;
+        if field > 0 {
+            out.put(b" ")?;
+        }
+        put_side(out, site, kind_of(field), tops[field], &sides[field])?;
     }
     Ok(())
 }
 
 /// Appends the line of a row.
 fn put_row(
-    alloc: Global,
     out: &mut Text,
     site: &Site,
     state: State,
@@ -65,16 +65,7 @@ fn put_row(
     requires { tops.now ≡ tops_of site.now }
     ensures { OnOk result (out.new ≡ out.old ++ row_text site.now state row.now) }
 {
-    let mut words = Text::new(alloc);
-    put_sides(
-        alloc,
-        &mut words,
-        site,
-        shown_fields(state),
-        tops,
-        &row.sides,
-    )?;
-    out.put(without_first(words.as_slice()))?;
+    put_sides(out, site, shown_fields(state), tops, &row.sides)?;
     out.put(b" : ")?;
     put_outcome(out, &row.leaf)?;
     out.put(b"\n")
@@ -100,7 +91,7 @@ pub(crate) fn rows_text(
     put_dec(&mut out, rows.len() as u64)?;
     out.put(b"\n")?;
     for row in rows {
-        put_row(alloc, &mut out, site, state, tops, row)?;
+        put_row(&mut out, site, state, tops, row)?;
     }
     Ok(out)
 }

@@ -1,8 +1,8 @@
 //! The words of the fields of a row.
 
-ghost use Rattle.std.specs.Prelude.{◌≡◌, ◌≤◌, ◌+◌, ◌-◌, ◌<◌, [], ◌∷◌, ◌++◌, OnOk, All, drop};
-ghost use Rattle.std.specs.List.{flat_map};
-ghost use Rattle.fws_table.specs.TableText.{entry_name, range_text, items_of, is_whole, side_text, joined_by};
+ghost use Rattle.std.specs.Prelude.{◌≡◌, ◌≤◌, ◌+◌, ◌-◌, ◌<◌, [], ◌∷◌, ◌++◌, OnOk, All, map};
+ghost use Rattle.std.specs.List.{join_with_byte};
+ghost use Rattle.fws_table.specs.TableText.{entry_name, range_text, part_text, is_whole, side_text};
 ghost use Rattle.std.specs.Fmt.{decimal};
 ghost use Rattle.fws_num.specs.Numbers.{dotted};
 
@@ -10,17 +10,6 @@ use crate::field::Kind;
 use fws_iv::{Iv, Ivs};
 use fws_net::Site;
 use fws_num::{Memory, Text, put_dec, put_quad};
-use std::alloc::Global;
-
-/// The text without its first byte.
-pub(crate) fn without_first(text: &[u8]) -> &[u8]
-    ensures { result.now ≡ drop 1 text.now }
-{
-    match text {
-        [] => text,
-        [_, rest @ ..] => rest,
-    }
-}
 
 fn is_whole(top: u32, parts: &[Iv]) -> bool
     ensures { result ≡ is_whole top parts.now }
@@ -47,13 +36,16 @@ fn put_entry(out: &mut Text, site: &Site, entry: u64) -> Result<(), Memory>
     }
 }
 
-/// Appends the names of the entries of an interval, each behind a comma.
+/// Appends the names of the entries of an interval with commas between.
 fn put_entries(out: &mut Text, site: &Site, part: &Iv) -> Result<(), Memory>
     requires { part.now.lo ≤ part.now.hi }
-    ensures { OnOk result (out.new ≡ out.old ++ flat_map (λ t. 44 ∷ t) (items_of site.now Kind.Entry part.now)) }
+    ensures { OnOk result (out.new ≡ out.old ++ part_text site.now Kind.Entry part.now) }
 {
-    for entry in u64::from(part.lo)..u64::from(part.hi) + 1 {
-        out.put(b",")?;
+    let least = u64::from(part.lo);
+    for entry in least..u64::from(part.hi) + 1 {
+        if entry > least {
+            out.put(b",")?;
+        }
         put_entry(out, site, entry)?;
     }
     Ok(())
@@ -81,38 +73,34 @@ fn put_addresses(out: &mut Text, part: &Iv) -> Result<(), Memory>
     Ok(())
 }
 
-/// Appends what an interval is listed as, each item behind a comma.
-fn put_items(out: &mut Text, site: &Site, kind: Kind, part: &Iv) -> Result<(), Memory>
+/// Appends what an interval is written as.
+fn put_part(out: &mut Text, site: &Site, kind: Kind, part: &Iv) -> Result<(), Memory>
     requires { part.now.lo ≤ part.now.hi }
-    ensures { OnOk result (out.new ≡ out.old ++ flat_map (λ t. 44 ∷ t) (items_of site.now kind part.now)) }
+    ensures { OnOk result (out.new ≡ out.old ++ part_text site.now kind part.now) }
 {
     match kind {
         Kind::Entry => put_entries(out, site, part),
-        Kind::Number => {
-            out.put(b",")?;
-            put_numbers(out, part)
-        }
-        Kind::Address => {
-            out.put(b",")?;
-            put_addresses(out, part)
-        }
+        Kind::Number => put_numbers(out, part),
+        Kind::Address => put_addresses(out, part),
     }
 }
 
-/// Appends what the intervals are listed as, each item behind a comma.
-fn put_all_items(out: &mut Text, site: &Site, kind: Kind, parts: &[Iv]) -> Result<(), Memory>
+/// Appends what the intervals are written as with commas between.
+fn put_parts(out: &mut Text, site: &Site, kind: Kind, parts: &[Iv]) -> Result<(), Memory>
     requires { All (λ part. part.lo ≤ part.hi) parts.now }
-    ensures { OnOk result (out.new ≡ out.old ++ flat_map (λ t. 44 ∷ t) (flat_map (items_of site.now kind) parts.now)) }
+    ensures { OnOk result (out.new ≡ out.old ++ join_with_byte 44 (map (part_text site.now kind) parts.now)) }
 {
-    for part in parts {
-        put_items(out, site, kind, part)?;
+    for (place, part) in parts.iter().enumerate() {
+        if place > 0 {
+            out.put(b",")?;
+        }
+        put_part(out, site, kind, part)?;
     }
     Ok(())
 }
 
 /// Appends the word of a field.
 pub(crate) fn put_side(
-    alloc: Global,
     out: &mut Text,
     site: &Site,
     kind: Kind,
@@ -125,7 +113,5 @@ pub(crate) fn put_side(
     if is_whole(top, parts) {
         return out.put(b"*");
     }
-    let mut items = Text::new(alloc);
-    put_all_items(&mut items, site, kind, parts)?;
-    out.put(without_first(items.as_slice()))
+    put_parts(out, site, kind, parts)
 }

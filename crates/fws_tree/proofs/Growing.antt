@@ -1,5 +1,6 @@
 -- A tree that grows field by field.
-use Rattle.std.proofs.Common.{◌≡◌, ℕ, suc, ◌+◌, ◌<◌, ◌≤◌, Bool, true, false, ◌&&◌, cond, Some, List, [], ◌∷◌, ◌++◌, length, get_or, add-one, drop, take, All, refl, sym, ◌∙◌, ap, subst, arith}
+use Rattle.std.proofs.Common.{◌≡◌, ℕ, suc, ◌+◌, ◌<◌, ◌≤◌, Bool, true, false, ◌&&◌, cond, Some, List, [], ◌∷◌, ◌++◌, inl, inr, nat_lt, length, get_or, add-one, drop, take, All, refl, sym, ◌∙◌, ap, subst, arith}
+use Rattle.std.proofs.lemmas.Bool.{cases_Bool, and_from, ltb-true, ltb-false}
 use Rattle.std.proofs.lemmas.List.{append_assoc, append-nil, drop_all, drop_more, take_all, take_more, length-append}
 use Rattle.std.proofs.lemmas.List.Elements.{All-push, All-filter}
 use Rattle.fws_iv.specs.Ivs.{has}
@@ -112,30 +113,41 @@ pub parts_of : {L : Type 0} (rows : List (Row L)) (f top : ℕ) (live : List ℕ
     → ((x : ℕ) → 0 ≤ x → x ≤ top → held_at out x ≡ Some (live_at rows f live x)) → AreParts rows f live parts
 parts_of rows f top live parts out e row end here = subst (λ ps. AreParts rows f live ps) (sym e) (record { row = row; holds = λ x lt. here x (omega arith) (omega arith) })
 
--- The end of the fields, or of the rows.
+-- A leaf.
 
 pub leaf_value : (f a : ℕ) (p : List ℕ) → value_from f (leaf a) p ≡ Some a
 leaf_value f a [] = refl
 leaf_value f a (x ∷ p) = leaf_value (suc f) a p
 
-pub no_rows : {L : Type 0} (rows : List (Row L)) (numbers : List ℕ) (rest f : ℕ) (live p : List ℕ) → live ≡ [] → first_number rows numbers rest f live [] ≡ first_number rows numbers rest f live p
-no_rows rows numbers rest f live p e = ap (λ l. first_number rows numbers rest f l []) e ∙ sym (ap (λ l. first_number rows numbers rest f l p) e)
-
-within-nil : (p : List ℕ) → IsWithin [] p → p ≡ []
-within-nil [] w = refl
-within-nil (x ∷ p) w = absurd w
-
-pub no_fields : {L : Type 0} (rows : List (Row L)) (numbers : List ℕ) (rest f : ℕ) (tops live p : List ℕ) → length tops ≡ 12 → f ≡ 12 → IsWithin (drop f tops) p
-    → first_number rows numbers rest f live [] ≡ first_number rows numbers rest f live p
-no_fields rows numbers rest f tops live p l e w =
-    let none : drop f tops ≡ [] = drop_all f tops (omega arith) in
-    let is : p ≡ [] = within-nil p (subst (λ ts. IsWithin ts p) none w) in
-    ap (λ q. first_number rows numbers rest f live q) (sym is)
-
--- The cut.
+-- The fields that are left.
 
 pub tops_at : (tops : List ℕ) (f : ℕ) → f < length tops → drop f tops ≡ get_or tops f 0 ∷ drop (suc f) tops
 tops_at tops f lt = drop_more tops f 0 lt ∙ ap (λ n. get_or tops f 0 ∷ drop n tops) (add-one f)
+
+-- A first row that has all values that are left.
+
+pub whole_row : {L : Type 0} (rows : List (Row L)) (n f : ℕ) (tops p : List ℕ) → length tops ≡ 12
+    → ((g : ℕ) → f ≤ g → g < 12 → (x : ℕ) → x ≤ get_or tops g 0 → has (side_of rows g n) x ≡ true) → IsWithin (drop f tops) p → row_has rows f n p ≡ true
+whole_row rows n f tops [] l h w = refl
+whole_row rows n f tops (x ∷ p) l h w = elim (cases_Bool (nat_lt f (length tops))) [
+  | inl t ↦
+      let lt : f < length tops = ltb-true f (length tops) t in
+      let v : IsWithin (get_or tops f 0 ∷ drop (suc f) tops) (x ∷ p) = subst (λ ts. IsWithin ts (x ∷ p)) (tops_at tops f lt) w in
+      and_from (has (side_of rows f n) x) (row_has rows (suc f) n p) (h f (omega arith) (omega arith) x v.0)
+      (whole_row rows n (suc f) tops p l (λ g le lt. h g (omega arith) lt) v.1)
+  | inr e ↦
+      let ge : length tops ≤ f = ltb-false f (length tops) e in
+      absurd (subst (λ ts. IsWithin ts (x ∷ p)) (drop_all f tops ge) w)
+]
+
+pub first_whole : {L : Type 0} (rows : List (Row L)) (numbers : List ℕ) (rest f : ℕ) (tops live p : List ℕ) → length tops ≡ 12 → 1 ≤ length live
+    → ((g : ℕ) → f ≤ g → g < 12 → (x : ℕ) → x ≤ get_or tops g 0 → has (side_of rows g (get_or live 0 0)) x ≡ true) → IsWithin (drop f tops) p
+    → first_number rows numbers rest f live [] ≡ first_number rows numbers rest f live p
+first_whole rows numbers rest f tops [] p l some h w = absurd (omega arith)
+first_whole rows numbers rest f tops (n ∷ live) p l some h w =
+    sym (ap (λ b. cond b (get_or numbers n 0) (first_number rows numbers rest f live p)) (whole_row rows n f tops p l h w))
+
+-- The cut.
 
 cut_value : {L : Type 0} (rows : List (Row L)) (numbers : List ℕ) (rest f top : ℕ) (tops live : List ℕ) (ns : List Node) (ps : List (Piece ℕ)) (t : Plain ℕ) → AreInRow 0 ps → end_of 0 ps ≡ suc top
     → All (Leads rows numbers rest f tops live ns) ps → All (λ p. (x : ℕ) → p.lo ≤ x → x ≤ p.hi → branch f t x ≡ tree_of ns p.held) ps

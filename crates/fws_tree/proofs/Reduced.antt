@@ -3,9 +3,8 @@ use Rattle.std.proofs.Common.{◌≡◌, ◌≢◌, ℕ, suc, ◌≤◌, Bool, t
 use Rattle.std.proofs.lemmas.Bool.{le-leb, leb-true, eqb-true, and_parts, cases_Bool, both_ways, MatchBool-at_true, MatchBool-at_false, cond_both, cond-true, not-true}
 use Rattle.std.specs.Prelude.{nat_le, nat_eq}
 use Rattle.fws_iv.specs.declared.iv.Iv.{Iv}
-use Rattle.fws_iv.specs.Ivs.{has}
+use Rattle.fws_iv.specs.Ivs.{has, SameMembersSameList}
 use Rattle.fws_tree.specs.Plain.{Plain, leaf, cut, Kids, none, kid, kid_at, branch, value_from, IsWithin, EachKid, Parts, AreMany, IsReducedFrom, OneReducedTree, HasValues}
-use Rattle.fws_iv.proofs.SameMembers.{ivs_same}
 
 pub cond_false : {A : Type 0} (b : Bool) (x y : A) → b ≡ false → cond b x y ≡ y
 cond_false b x y e = rw e refl
@@ -40,11 +39,11 @@ covers domain s r t u ks ls a b e same x h = elim (cases_Bool (has r x)) [
       absurd (differs (sym e ∙ sym left ∙ same x d ∙ right))
 ]
 
-kids_same : {L : Type 0} (domain : ℕ → Bool) (ks ls : Kids L) → Parts domain ks → Parts domain ls → ((x : ℕ) → domain x ≡ true → kid_at ks x ≡ kid_at ls x) → ks ≡ ls
-kids_same domain none none a b same = refl
-kids_same domain none (kid r u ls) a b same = absurd (both_ways (domain b.2.0) (a b.2.0) (b.1 b.2.0 b.2.1))
-kids_same domain (kid s t ks) none a b same = absurd (both_ways (domain a.2.0) (b a.2.0) (a.1 a.2.0 a.2.1))
-kids_same domain (kid s t ks) (kid r u ls) a b same =
+kids_same : SameMembersSameList → {L : Type 0} (domain : ℕ → Bool) (ks ls : Kids L) → Parts domain ks → Parts domain ls → ((x : ℕ) → domain x ≡ true → kid_at ks x ≡ kid_at ls x) → ks ≡ ls
+kids_same one domain none none a b same = refl
+kids_same one domain none (kid r u ls) a b same = absurd (both_ways (domain b.2.0) (a b.2.0) (b.1 b.2.0 b.2.1))
+kids_same one domain (kid s t ks) none a b same = absurd (both_ways (domain a.2.0) (b a.2.0) (a.1 a.2.0 a.2.1))
+kids_same one domain (kid s t ks) (kid r u ls) a b same =
     let x : ℕ = a.2.0 in
     let y : ℕ = b.2.0 in
     let dx : domain x ≡ true = a.1 x a.2.1 in
@@ -54,11 +53,11 @@ kids_same domain (kid s t ks) (kid r u ls) a b same =
     let xy : y ≡ x = omega arith in
     let hx : has r x ≡ true = ap (λ k. has r k) (sym xy) ∙ b.2.1 in
     let tu : t ≡ u = sym (cond-true (has s x) t (kid_at ks x) a.2.1) ∙ same x dx ∙ cond-true (has r x) u (kid_at ls x) hx in
-    let sets : s ≡ r = ivs_same 0 0 s r a.0 b.0 (λ k. both_same (has s k) (has r k)
+    let sets : s ≡ r = one s r a.0 b.0 (λ k. both_same (has s k) (has r k)
     (covers domain s r t u ks ls a b tu same k)
     (covers domain r s u t ls ks b a (sym tu) (λ z d. sym (same z d)) k)) in
     let rest : Parts (λ k. domain k && not (has s k)) ls = subst (λ ms. Parts (λ k. domain k && not (has ms k)) ls) (sym sets) b.4 in
-    let tails : ks ≡ ls = kids_same (λ k. domain k && not (has s k)) ks ls a.4 rest (λ k d.
+    let tails : ks ≡ ls = kids_same one (λ k. domain k && not (has s k)) ks ls a.4 rest (λ k d.
     let p = off_parts (domain k) (has s k) d in
     let n : has r k ≡ false = ap (λ ms. has ms k) (sym sets) ∙ p.1 in
     sym (cond_false (has s k) t (kid_at ks k) p.1) ∙ same k p.0 ∙ cond_false (has r k) u (kid_at ls k) n) in
@@ -99,28 +98,28 @@ branch_reduced f top tops (cut g ks) h x le = cond_both (nat_eq g f) (kid_at ks 
     (λ y. let r = MatchBool-at_true _ _ y h in kid_in (IsReducedFrom (suc f) tops) (λ k. nat_le k top) ks r.1 r.2 x (le-leb x top le))
     (λ n. MatchBool-at_false _ _ n h)
 
-node_same : {L : Type 0} (f top : ℕ) (t u : Plain L) → Cuts L f top t ⊎ ((x : ℕ) → branch f t x ≡ t) → Cuts L f top u ⊎ ((x : ℕ) → branch f u x ≡ u)
+node_same : SameMembersSameList → {L : Type 0} (f top : ℕ) (t u : Plain L) → Cuts L f top t ⊎ ((x : ℕ) → branch f t x ≡ t) → Cuts L f top u ⊎ ((x : ℕ) → branch f u x ≡ u)
     → ((x : ℕ) → x ≤ top → branch f t x ≡ branch f u x) → t ≡ u
-node_same f top t u (inl a) (inl b) same = a.is ∙ ap (λ ks. cut f ks)
-    (kids_same (λ x. nat_le x top) a.kids b.kids a.parts b.parts (λ x d. sym (a.at x) ∙ same x (leb-true x top d) ∙ b.at x)) ∙ sym b.is
-node_same f top t u (inl a) (inr b) same = absurd (many_differ (λ x. nat_le x top) a.kids a.parts a.many u
+node_same one f top t u (inl a) (inl b) same = a.is ∙ ap (λ ks. cut f ks)
+    (kids_same one (λ x. nat_le x top) a.kids b.kids a.parts b.parts (λ x d. sym (a.at x) ∙ same x (leb-true x top d) ∙ b.at x)) ∙ sym b.is
+node_same one f top t u (inl a) (inr b) same = absurd (many_differ (λ x. nat_le x top) a.kids a.parts a.many u
     (λ x d. sym (a.at x) ∙ same x (leb-true x top d) ∙ b x))
-node_same f top t u (inr a) (inl b) same = absurd (many_differ (λ x. nat_le x top) b.kids b.parts b.many t
+node_same one f top t u (inr a) (inl b) same = absurd (many_differ (λ x. nat_le x top) b.kids b.parts b.many t
     (λ x d. sym (b.at x) ∙ sym (same x (leb-true x top d)) ∙ a x))
-node_same f top t u (inr a) (inr b) same = sym (a 0) ∙ same 0 (omega arith) ∙ b 0
+node_same one f top t u (inr a) (inr b) same = sym (a 0) ∙ same 0 (omega arith) ∙ b 0
 
-one_from : {L : Type 0} (tops : List ℕ) (f : ℕ) (t u : Plain L) → IsReducedFrom f tops t → IsReducedFrom f tops u
+one_from : SameMembersSameList → {L : Type 0} (tops : List ℕ) (f : ℕ) (t u : Plain L) → IsReducedFrom f tops t → IsReducedFrom f tops u
     → ((p : List ℕ) → IsWithin tops p → value_from f t p ≡ value_from f u p) → t ≡ u
-one_from [] f (leaf a) (leaf b) h k same = let e : Some a ≡ Some b = same [] tt in ap leaf (cc)
-one_from [] f (leaf a) (cut g ls) h k same = absurd k
-one_from [] f (cut g ks) u h k same = absurd h
-one_from (top ∷ tops) f t u h k same = node_same f top t u (cuts_or_not f top tops t h) (cuts_or_not f top tops u k)
-    (λ x le. one_from tops (suc f) (branch f t x) (branch f u x) (branch_reduced f top tops t h x le) (branch_reduced f top tops u k x le)
+one_from one [] f (leaf a) (leaf b) h k same = let e : Some a ≡ Some b = same [] tt in ap leaf (cc)
+one_from one [] f (leaf a) (cut g ls) h k same = absurd k
+one_from one [] f (cut g ks) u h k same = absurd h
+one_from one (top ∷ tops) f t u h k same = node_same one f top t u (cuts_or_not f top tops t h) (cuts_or_not f top tops u k)
+    (λ x le. one_from one tops (suc f) (branch f t x) (branch f u x) (branch_reduced f top tops t h x le) (branch_reduced f top tops u k x le)
     (λ p w. same (x ∷ p) (le, w)))
 
 -- two reduced trees over the same tops with the same value at each point are equal
-pub one_reduced : (L : Type 0) → OneReducedTree L
-one_reduced L tops t u h k same = one_from tops 0 t u h k same
+pub one_reduced : SameMembersSameList → (L : Type 0) → OneReducedTree L
+one_reduced one L tops t u h k same = one_from one tops 0 t u h k same
 
 pub has_value_from : {L : Type 0} (tops : List ℕ) (f : ℕ) (t : Plain L) → IsReducedFrom f tops t → (p : List ℕ) → IsWithin tops p
     → (a : L) × (value_from f t p ≡ Some a)

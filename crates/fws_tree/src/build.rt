@@ -1,8 +1,9 @@
 //! A reduced tree out of rows.
 
-ghost use Rattle.std.specs.Prelude.{◌≡◌, ◌<◌, ◌≤◌, ℕ, List, [], Some, option_and_then, length, slice_get, drop, IfOk, All};
+ghost use Rattle.std.specs.Prelude.{◌≡◌, ◌<◌, ◌≤◌, ◌↔◌, ℕ, true, false, IsTrue, List, [], Some, option_and_then, length, slice_get, slice_index, drop, IfOk, All};
 ghost use Rattle.std.specs.List.{range_with_len};
-ghost use Rattle.fws_tree.specs.Building.{AreDifferent, IsArena, Extends, first_number};
+ghost use Rattle.fws_iv.specs.Ivs.{has};
+ghost use Rattle.fws_tree.specs.Building.{AreDifferent, IsArena, Extends, side_of, first_number};
 ghost use Rattle.fws_tree.specs.Nodes.{tree_of};
 ghost use Rattle.fws_tree.specs.Plain.{IsReduced, IsReducedFrom, IsWithin, value, value_from};
 ghost use Rattle.fws_tree.specs.Rows.{first_leaf};
@@ -14,8 +15,9 @@ use crate::leaf::Leaf;
 use crate::node::Node;
 use crate::numbers::number_leaves;
 use crate::row::Row;
-use crate::split::split;
+use crate::split::{overlap_of, split};
 use crate::tree::{Tree, from_nodes};
+use fws_iv::Overlap;
 use fws_num::{Items, Memory};
 use std::alloc::Global;
 
@@ -44,8 +46,38 @@ fn number_of<L>(source: &Source<'_, L>, live: &[u32]) -> u32
     }
 }
 
+// Whether the row's side has every value up to the top, in each field from `field` on.
+fn is_whole_from<L>(source: &Source<'_, L>, field: usize, row: u32) -> bool
+    requires tops { length source.now.tops.now ≡ 12 }
+    requires row { row < length source.now.rows.now }
+    ensures { IsTrue result ↔ ((f : ℕ) → field ≤ f → f < 12 → (x : ℕ) → x ≤ slice_index source.now.tops.now f → has (side_of source.now.rows.now f row) x ≡ true) }
+{
+    for f in field..12 {
+        match overlap_of(source.rows, f, row, 0, source.tops[f]) {
+            Overlap::Whole => {}
+            Overlap::Apart | Overlap::Part => return false,
+        }
+    }
+    true
+}
+
+// Whether one leaf stands for all points: no row is left, or the first has all values that are left.
+fn is_decided<L>(source: &Source<'_, L>, field: usize, live: &[u32]) -> bool
+    requires tops { length source.now.tops.now ≡ 12 }
+    requires live { All (λ n. n < length source.now.rows.now) live.now }
+    ensures fields { result ≡ false → field < 12 }
+    ensures leaf { result ≡ true → (p : List ℕ) → IsWithin (drop field source.now.tops.now) p
+        → first_number source.now.rows.now source.now.numbers.now source.now.rest field live.now [] ≡ first_number source.now.rows.now source.now.numbers.now source.now.rest field live.now p }
+{
+    match live {
+        [] => true,
+        [row, ..] => is_whole_from(source, field, *row),
+    }
+}
+
 /// The number of the reduced tree over the fields from `field` on that gives, at each point within
 /// their tops, the number of the leaf of the first row among `live` that has it, else the rest's.
+/// Where the first row has all values of these fields, that is its leaf at once.
 ///
 /// The work grows with the rows times the pieces in which they are alive, field by field.
 fn build<L>(
@@ -67,7 +99,7 @@ fn build<L>(
     ensures value { IfOk result (λ r. (p : List ℕ) → IsWithin (drop field source.now.tops.now) p
         → value_from field (tree_of arena.new r) p ≡ Some (first_number source.now.rows.now source.now.numbers.now source.now.rest field live.now p)) }
 {
-    if field == 12 || live.is_empty() {
+    if is_decided(source, field, live) {
         return arena.intern(Node::Leaf(number_of(source, live)));
     }
     let mut parts = Vec::new(alloc);

@@ -53,17 +53,6 @@ fn add(
     Ok(())
 }
 
-// The same list.
-fn into_items<T: Drop>(alloc: Global, list: Vec<T>) -> Result<Items<T>, Memory>
-    ensures { IfOk result (λ xs. xs ≡ list.items) }
-{
-    let mut items = Items::new(alloc);
-    for item in list {
-        items.put(item)?;
-    }
-    Ok(items)
-}
-
 /// The kids of the pieces: one for each node, ordered by their least values.
 fn kids_of(alloc: Global, pieces: &[Piece<u32>]) -> Result<Items<Kid>, Memory>
     requires { AreInRow 0 pieces.now }
@@ -77,7 +66,7 @@ fn kids_of(alloc: Global, pieces: &[Piece<u32>]) -> Result<Items<Kid>, Memory>
     for piece in pieces {
         add(alloc, &mut kids, &mut order, piece)?;
     }
-    into_items(alloc, kids)
+    Ok(Items::from_vec(kids))
 }
 
 /// The number of the tree that cuts the field so that each piece leads to its node. Pieces of one

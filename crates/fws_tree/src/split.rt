@@ -10,8 +10,8 @@ use fws_iv::{Overlap, overlap};
 use fws_num::{Items, Memory};
 use std::alloc::Global;
 
-// How much of the values from `lo` to `hi` lies in the row's side.
-fn overlap_of<L>(rows: &[Row<L>], field: usize, row: u32, lo: u32, hi: u32) -> Overlap
+/// How much of the values from `lo` to `hi` lies in the row's side.
+pub(crate) fn overlap_of<L>(rows: &[Row<L>], field: usize, row: u32, lo: u32, hi: u32) -> Overlap
     requires row { row < length rows.now }
     requires field { field < 12 }
     requires order { lo ≤ hi }

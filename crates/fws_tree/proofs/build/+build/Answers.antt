@@ -1,24 +1,15 @@
 use Rattle.std.proofs.Common.{rules, arith, ◌+◌, ◌<◌, ℕ, suc, Some, length, get_or, drop, All, sym, ◌∙◌, ap, subst, add-one}
-use Rattle.std.proofs.lemmas.Bool.{eqb-true}
-use Rattle.std.proofs.lemmas.List.{nil_from_length}
 use Rattle.std.proofs.lemmas.Result.{IfOk-weaker}
 use Rattle.fws_tree.specs.Nodes.{tree_of}
 use Rattle.fws_tree.specs.Plain.{value_from, IsReducedFrom}
-use Rattle.fws_tree.proofs.Growing.{parts_of, read_below, built-next, built-all, IsBuilt, extends-trans, leaf_value, no_rows, no_fields, tops_at, field_value, each_reduced}
+use Rattle.fws_tree.proofs.Growing.{parts_of, read_below, built-next, built-all, IsBuilt, extends-trans, leaf_value, tops_at, field_value, each_reduced}
 use Rattle.fws_tree.proofs.build.+build.Given.{Over}
 use Rattle.fws_tree.proofs.build.+build.Goals as goal
-use Rattle.fws_tree.proofs.build.+build.Goals.{then-field-eq12-via-then-field-eq12, then-field-eq12-via-else-field-eq12+then-is_empty}
 
-pub returns-then-field-eq12-clause-value : goal.returns-then-field-eq12-clause-value
-returns-then-field-eq12-clause-value g t c = IfOk-weaker c.intern.result _ _ (λ r e p w.
-    ap (λ u. value_from c.args.field u p) e ∙ leaf_value c.args.field c.number_of.result p ∙ ap Some (c.number_of.ensures c.args.field ∙
-    elim c.then-field-eq12.branch [
-      | then-field-eq12-via-then-field-eq12 v ↦
-          no_fields c.args.source.now.rows.now c.args.source.now.numbers.now c.args.source.now.rest c.args.field c.args.source.now.tops.now c.args.live.now p c.requires.tops v.if-field-eq12.true w
-      | then-field-eq12-via-else-field-eq12+then-is_empty v ↦
-          no_rows c.args.source.now.rows.now c.args.source.now.numbers.now c.args.source.now.rest c.args.field c.args.live.now p
-          (nil_from_length c.args.live.now (eqb-true (length c.args.live.now) 0 (sym v.is_empty.ensures ∙ v.if-is_empty.true)))
-    ])) c.intern.ensures.tree
+pub returns-then-is_decided-clause-value : goal.returns-then-is_decided-clause-value
+returns-then-is_decided-clause-value g t c = IfOk-weaker c.intern.result _ _ (λ r e p w.
+    ap (λ u. value_from c.args.field u p) e ∙ leaf_value c.args.field c.number_of.result p
+    ∙ ap Some (c.number_of.ensures c.args.field ∙ c.is_decided.ensures.leaf c.if-is_decided.true p w)) c.intern.ensures.tree
 
 pub build-requires : goal.build-requires
 build-requires g t c κs within =

@@ -2,7 +2,6 @@ use Rattle.std.proofs.Common.{arith, length, ◌<◌, ◌≤◌, sym, subst}
 use Rattle.fws_tree.specs.Building.{AreKidsTo}
 use Rattle.fws_tree.proofs.Pieces.{row_at}
 use Rattle.fws_tree.proofs.Gathering.{gathered-next, gathered-all}
-use Rattle.std.proofs.lemmas.Result.{IfOk-weaker}
 use Rattle.fws_tree.proofs.join.kids_of.Goals as goal
 
 pub add-requires-clause-whole : goal.add-requires-clause-whole
@@ -26,16 +25,16 @@ loop-piece-preserved c = let lt : c.loop-piece.piece-index < length c.args.piece
 
 pub returns-clause-kids : goal.returns-clause-kids
 returns-clause-kids c = let end : length c.args.pieces.now ≤ c.loop-piece.piece-index = omega arith in
-    IfOk-weaker c.into_items.result _ _ (λ ks e. (gathered-all _ _ _ ks _ c.loop-piece.invariant end e).kids) c.into_items.ensures
+    (gathered-all _ _ _ _ _ c.loop-piece.invariant end c.from_vec.ensures).kids
 
 pub returns-clause-different : goal.returns-clause-different
 returns-clause-different c = let end : length c.args.pieces.now ≤ c.loop-piece.piece-index = omega arith in
-    IfOk-weaker c.into_items.result _ _ (λ ks e. (gathered-all _ _ _ ks _ c.loop-piece.invariant end e).different) c.into_items.ensures
+    (gathered-all _ _ _ _ _ c.loop-piece.invariant end c.from_vec.ensures).different
 
 pub returns-clause-goes : goal.returns-clause-goes
 returns-clause-goes c = let end : length c.args.pieces.now ≤ c.loop-piece.piece-index = omega arith in
-    IfOk-weaker c.into_items.result _ _ (λ ks e. (gathered-all _ _ _ ks _ c.loop-piece.invariant end e).goes) c.into_items.ensures
+    (gathered-all _ _ _ _ _ c.loop-piece.invariant end c.from_vec.ensures).goes
 
 pub returns-clause-named : goal.returns-clause-named
 returns-clause-named c = let end : length c.args.pieces.now ≤ c.loop-piece.piece-index = omega arith in
-    IfOk-weaker c.into_items.result _ _ (λ ks e. (gathered-all _ _ _ ks _ c.loop-piece.invariant end e).named) c.into_items.ensures
+    (gathered-all _ _ _ _ _ c.loop-piece.invariant end c.from_vec.ensures).named
