@@ -3,6 +3,7 @@ use Rattle.std.specs.Prelude.{◌≡◌, ◌≤◌, ℕ, ◌+◌, Bool, true, fa
 use Rattle.std.specs.Option.{option_map_or, option_map}
 use Rattle.std.specs.Str.{bytes_eq}
 use Rattle.std.specs.List.{list_any, list_all, range_with_len}
+use Rattle.fws_num.specs.Named.{named_in}
 use Rattle.fws_num.specs.Numbers.{dec_of, quad_of, split_once}
 use Rattle.fws_num.specs.Pieces.{pieces_of}
 use Rattle.fws_iv.specs.declared.iv.Iv.{Iv}
@@ -17,18 +18,15 @@ use Rattle.fws_top.specs.declared.ask.Subject.TheVariants.{Entry, Proto, Dst, Dp
 
 -- Words
 
+-- words before the `=` and what they ask about
+abbrev pub subject_names : List (List ℕ × Subject)
+subject_names =
+    (codes "entry", Entry) ∷ (codes "proto", Proto) ∷ (codes "dst", Dst) ∷ (codes "dport", Dport) ∷ (codes "src", Src) ∷
+    (codes "sport", Sport) ∷ (codes "flags", Flags) ∷ (codes "icmp", Icmp) ∷ (codes "verdict", Verdict) ∷ []
+
 -- what a word before the `=` asks about
 unfoldable pub subject_of : List ℕ → Option Subject
-subject_of text =
-    if bytes_eq text (codes "entry") then Some Entry
-    else if bytes_eq text (codes "proto") then Some Proto
-    else if bytes_eq text (codes "dst") then Some Dst
-    else if bytes_eq text (codes "dport") then Some Dport
-    else if bytes_eq text (codes "src") then Some Src
-    else if bytes_eq text (codes "sport") then Some Sport
-    else if bytes_eq text (codes "flags") then Some Flags
-    else if bytes_eq text (codes "icmp") then Some Icmp
-    else if bytes_eq text (codes "verdict") then Some Verdict else None
+subject_of text = named_in subject_names text
 
 -- the number of the field; a verdict is none of the fields
 abbrev pub number_of : Subject → ℕ

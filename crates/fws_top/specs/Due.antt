@@ -9,6 +9,7 @@ use Rattle.fws_net.specs.declared.outcome.Outcome.{Outcome}
 use Rattle.fws_net.specs.declared.packet.State.TheVariants.{Fresh}
 use Rattle.fws_net.specs.declared.site.Site.{Site}
 use Rattle.fws_net.specs.Points.{tops_of, packet_of}
+use Rattle.fws_net.specs.SiteSpelling.{site2_text}
 use Rattle.fws_net.specs.SiteText.{site_of}
 use Rattle.fws_tree.specs.Plain.{Plain, value, IsWithin, IsReduced}
 use Rattle.fws_table.specs.TableText.{table_text}
@@ -17,7 +18,7 @@ use Rattle.fws_top.specs.Asks.{asks_have, asked_verdict, are_known}
 use Rattle.fws_top.specs.declared.status.Status.{Status}
 use Rattle.fws_top.specs.declared.status.Status.TheVariants as status
 use Rattle.fws_top.specs.declared.texts.TheConstants.{FILE_LIMIT, HELP, USAGE, VERSION}
-use Rattle.fws_top.specs.Forms.{Command, unknown, help, version, synth, query, command_of}
+use Rattle.fws_top.specs.Forms.{Command, unknown, help, version, synth, query, site2, command_of}
 use Rattle.fws_io.specs.Outside.{Rose, with_more}
 use Rattle.fws_top.specs.Lines.{cannot_read_line, too_long_line, not_built_line, site_refused_line, config_refused_line}
 
@@ -81,6 +82,10 @@ abbrev pub DueSynth : List ℕ → List ℕ → (List ℕ → List ℕ) → Stat
 DueSynth site file held s t = DueFile site (held site) (DueSite site (held site)
     (λ value s t. DueFile file (held file) (DueTable file (held file) value) s t)) s t
 
+-- the site is written in its second form
+abbrev pub DueSecondForm : List ℕ → (List ℕ → List ℕ) → Status → List ℕ → Type 0
+DueSecondForm site held s t = DueFile site (held site) (DueSite site (held site) (λ value s t. Says status.Ok (site2_text value) s t)) s t
+
 -- what is due for a command, given what each name holds
 abbrev pub DueCommand : Command → (List ℕ → List ℕ) → Status → List ℕ → Type 0
 DueCommand unknown held s t = Says status.Usage USAGE.now s t
@@ -88,6 +93,7 @@ DueCommand help held s t = Says status.Ok HELP.now s t
 DueCommand version held s t = Says status.Ok VERSION.now s t
 DueCommand (synth site file) held s t = DueSynth site file held s t
 DueCommand (query site file asks) held s t = DueSiteQuery site file asks held s t
+DueCommand (site2 site) held s t = DueSecondForm site held s t
 
 -- what is due for the words
 abbrev pub Due : List (List ℕ) → (List ℕ → List ℕ) → Status → List ℕ → Type 0
@@ -97,6 +103,7 @@ Due words held s t = DueCommand (command_of words) held s t
 abbrev pub IsRead : Command → List ℕ → Type 0
 IsRead (synth site file) name = (name ≡ site) ⊎ (name ≡ file)
 IsRead (query site file asks) name = (name ≡ site) ⊎ (name ≡ file)
+IsRead (site2 site) name = name ≡ site
 IsRead _ name = ⊥
 
 -- the site's bytes were accepted, so that the configuration is read next
@@ -111,6 +118,7 @@ AsksAreGood bytes asks = SiteIsGood bytes × MatchResult (site_of bytes) (λ sit
 abbrev pub IsReadInTurn : Command → (List ℕ → List ℕ) → List ℕ → Type 0
 IsReadInTurn (synth site file) held name = (name ≡ site) ⊎ ((name ≡ file) × SiteIsGood (held site))
 IsReadInTurn (query site file asks) held name = (name ≡ site) ⊎ ((name ≡ file) × AsksAreGood (held site) asks)
+IsReadInTurn (site2 site) held name = name ≡ site
 IsReadInTurn _ held name = ⊥
 
 -- a name that the command reads had a fault in this call when its turn came, and the text says so
@@ -125,6 +133,7 @@ pub record IsReadFault (command : Command) (told : Option (List ℕ → List ℕ
 abbrev pub IsTold : Command → Option (List ℕ → List ℕ) → (List ℕ → List ℕ) → Type 0
 IsTold (synth site file) told held = told ≡ Some held
 IsTold (query site file asks) told held = told ≡ Some held
+IsTold (site2 site) told held = told ≡ Some held
 IsTold _ told held = Unit {0}
 
 -- the statuses with which a command can end where no fault came
@@ -134,6 +143,7 @@ CanEnd help s = s ≡ status.Ok
 CanEnd version s = s ≡ status.Ok
 CanEnd (synth site file) s = (s ≡ status.Ok) ⊎ (s ≡ status.Refused)
 CanEnd (query site file asks) s = (s ≡ status.Ok) ⊎ (s ≡ status.Usage) ⊎ (s ≡ status.Refused)
+CanEnd (site2 site) s = (s ≡ status.Ok) ⊎ (s ≡ status.Refused)
 
 -- no fault was counted, and status and text are due for what the names hold
 pub record IsDue (command : Command) (told : Option (List ℕ → List ℕ)) (old new : List ℕ → ℕ) (s : Status) (t : List ℕ) : Type 0 where

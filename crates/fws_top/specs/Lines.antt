@@ -1,10 +1,10 @@
 -- The lines that a command answers with where it has no table.
 use Rattle.std.specs.Prelude.{ℕ, List, [], ◌∷◌, ◌++◌, codes}
 use Rattle.std.specs.Fmt.{decimal}
-use Rattle.fws_net.specs.declared.read_answer.Cause.{Cause}
-use Rattle.fws_net.specs.declared.read_answer.Cause.TheVariants as causes
-use Rattle.fws_net.specs.declared.site_answer.SiteCause.{SiteCause}
-use Rattle.fws_net.specs.declared.site_answer.SiteCause.TheVariants.{Syntax, Overlap, Names, Count}
+use Rattle.fws_net.specs.declared.cause.Cause.{Cause}
+use Rattle.fws_net.specs.declared.cause.Cause.TheVariants as causes
+use Rattle.fws_net.specs.declared.cause.SiteCause.{SiteCause}
+use Rattle.fws_net.specs.declared.cause.SiteCause.TheVariants.{Syntax, Overlap, Names, Count}
 
 abbrev pub site_cause_text : SiteCause → List ℕ
 site_cause_text Syntax = codes "syntax"

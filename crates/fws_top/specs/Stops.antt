@@ -4,8 +4,10 @@ use Rattle.fws_io.specs.Outside.{Rose}
 use Rattle.fws_ipt.specs.declared.config.IptConfig.{IptConfig}
 use Rattle.fws_ipt.specs.FileText.{spelled as config_of}
 use Rattle.fws_ipt.specs.FilterOnly.{is_filter_only}
-use Rattle.fws_net.specs.Reading.{Refusal as ConfigRefusal}
-use Rattle.fws_net.specs.SiteText.{Refusal, site_of}
+use Rattle.fws_net.specs.declared.cause.Cause.{Cause}
+use Rattle.fws_net.specs.declared.cause.SiteCause.{SiteCause}
+use Rattle.fws_net.specs.Reading.{Refusal}
+use Rattle.fws_net.specs.SiteText.{site_of}
 use Rattle.fws_net.specs.declared.site.Site.{Site}
 use Rattle.fws_top.specs.Asks.{are_known}
 use Rattle.fws_top.specs.declared.answer.Answer.{Answer}
@@ -37,7 +39,7 @@ TakeStopped name told old new Memory = Unit {0}
 
 -- the bytes of a site are refused
 pub record SiteRefused (name bytes : List ℕ) (a : Answer) : Type 0 where
-  pub refusal : Refusal
+  pub refusal : Refusal SiteCause
   pub read : site_of bytes ≡ Err refusal
   pub says : Refuses (site_refused_line name refusal.line refusal.cause) a
 
@@ -47,7 +49,7 @@ SiteStopped name bytes Memory = Unit {0}
 
 -- the bytes of a configuration are refused
 pub record ConfigRefused (site : Site) (name bytes : List ℕ) (a : Answer) : Type 0 where
-  pub refusal : ConfigRefusal
+  pub refusal : Refusal Cause
   pub read : config_of site bytes ≡ Err refusal
   pub says : Refuses (config_refused_line name refusal.line refusal.cause) a
 

@@ -6,7 +6,7 @@ ghost use Rattle.fws_net.specs.SiteText.{site_of};
 ghost use Rattle.fws_net.specs.Routes.{IsSound};
 ghost use Rattle.fws_top.specs.Due.{IsDue, IsAnswered};
 ghost use Rattle.fws_top.specs.Asks.{are_asks, are_known};
-ghost use Rattle.fws_top.specs.Forms.{Command, command_of, query, synth};
+ghost use Rattle.fws_top.specs.Forms.{Command, command_of, query, site2, synth};
 ghost use Rattle.fws_ipt.specs.FileText.{spelled};
 ghost use Rattle.fws_ipt.specs.FilterOnly.{is_filter_only};
 ghost use Rattle.fws_ipt.specs.Soundness.{is_fitting};
@@ -22,7 +22,7 @@ use crate::texts::{FILE_LIMIT, HELP, USAGE, VERSION};
 use fws_io::{Shelf, ShelfAnswer};
 use fws_ipt::{IptConfig, filter_only};
 use fws_ipt_read::read;
-use fws_net::{ReadAnswer, Site, SiteAnswer, read_site};
+use fws_net::{ReadAnswer, Site, SiteAnswer, put_site, read_site};
 use fws_num::{Memory, Text};
 use std::alloc::Global;
 
@@ -176,6 +176,17 @@ fn query<S: Shelf>(
     Ok(asked_table(alloc, &site, &config, asks)?)
 }
 
+/// The site in its second form.
+fn second_form<S: Shelf>(alloc: Global, shelf: &mut S, site_name: &[u8]) -> Result<Text, Stop>
+    ensures same { S.told shelf.new ≡ S.told shelf.old }
+    ensures due { IfOk result (IsDue (site2 site_name.now) (S.told shelf.old) (S.faults shelf.old) (S.faults shelf.new) Status.Ok) }
+    ensures stopped { IfErr result (CommandStopped (site2 site_name.now) (S.told shelf.old) (S.faults shelf.old) (S.faults shelf.new)) }
+{
+    let site_bytes = take(alloc, shelf, site_name)?;
+    let site = take_site(alloc, site_name, site_bytes.as_slice())?;
+    Ok(put_site(alloc, &site)?)
+}
+
 /// The text of a status that needs no file.
 fn said(alloc: Global, status: Status, text: &[u8]) -> Result<Answer, Memory>
     ensures { IfOk result (λ answer. (answer.status ≡ status) × (answer.text ≡ text.now)) }
@@ -216,5 +227,6 @@ pub(crate) fn answer_to<S: Shelf>(
         Form::Version => said(alloc, Status::Ok, VERSION),
         Form::Synth(site, file) => ended(synth(alloc, shelf, site, file)),
         Form::Query(site, file, asks) => ended(query(alloc, shelf, site, file, asks)),
+        Form::SecondForm(site) => ended(second_form(alloc, shelf, site)),
     }
 }

@@ -8,7 +8,7 @@ ghost use Rattle.fws_table.specs.TableText.{entry_name};
 ghost use Rattle.fws_top.specs.Asks.{is_entry, set_is_known, word_is_known, are_known, subject_of, number_of, field_value, items_of, ordered, range_of, is_item, is_set, verdict_asked, is_asked, ask_of, asks_about, asks_last, are_asks};
 
 use fws_net::Site;
-use fws_num::{Text, read_dec, read_quad, split_once};
+use fws_num::{Text, behind_is_shorter, read_dec, read_quad, split_once, value_named};
 
 /// What a word of a query asks about.
 #[derive(Clone, Copy, Debug, PartialEq, Eq)]
@@ -33,6 +33,19 @@ pub(crate) enum Subject {
     Verdict,
 }
 
+/// The words before the `=` and what they ask about.
+const SUBJECTS: [(&[u8], Subject); 9] = [
+    (b"entry", Subject::Entry),
+    (b"proto", Subject::Proto),
+    (b"dst", Subject::Dst),
+    (b"dport", Subject::Dport),
+    (b"src", Subject::Src),
+    (b"sport", Subject::Sport),
+    (b"flags", Subject::Flags),
+    (b"icmp", Subject::Icmp),
+    (b"verdict", Subject::Verdict),
+];
+
 pub(crate) fn is(text: &[u8], other: &[u8]) -> bool
     ensures { result ≡ bytes_eq text.now other.now }
 {
@@ -43,27 +56,7 @@ pub(crate) fn is(text: &[u8], other: &[u8]) -> bool
 fn read_subject(text: &[u8]) -> Option<Subject>
     ensures { result ≡ subject_of text.now }
 {
-    if is(text, b"entry") {
-        Some(Subject::Entry)
-    } else if is(text, b"proto") {
-        Some(Subject::Proto)
-    } else if is(text, b"dst") {
-        Some(Subject::Dst)
-    } else if is(text, b"dport") {
-        Some(Subject::Dport)
-    } else if is(text, b"src") {
-        Some(Subject::Src)
-    } else if is(text, b"sport") {
-        Some(Subject::Sport)
-    } else if is(text, b"flags") {
-        Some(Subject::Flags)
-    } else if is(text, b"icmp") {
-        Some(Subject::Icmp)
-    } else if is(text, b"verdict") {
-        Some(Subject::Verdict)
-    } else {
-        None
-    }
+    value_named(&SUBJECTS, text)
 }
 
 /// The number of the field; a verdict is none of the fields.
@@ -141,6 +134,7 @@ fn is_item(subject: Subject, item: &[u8]) -> bool
 fn are_items(subject: Subject, set: &[u8]) -> bool
     ensures { result ≡ list_all (is_item subject) (items_of set.now) }
 {
+    behind_is_shorter();
     let mut rest = set;
     while let Some((item, behind)) = split_once(rest, b',') {
         if !is_item(subject, item) {
@@ -267,6 +261,7 @@ fn is_entry(site: &Site, name: &[u8]) -> bool
 fn are_entries(site: &Site, set: &[u8]) -> bool
     ensures { result ≡ list_all (is_entry site.now) (items_of set.now) }
 {
+    behind_is_shorter();
     let mut rest = set;
     while let Some((item, behind)) = split_once(rest, b',') {
         if !is_entry(site, item) {

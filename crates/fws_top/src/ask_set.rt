@@ -15,7 +15,7 @@ ghost use Rattle.fws_top.specs.Asks.{items_of, range_of, ask_of, are_asks, item_
 use crate::ask::{Subject, is, is_named, number_of, read_range, read_verdict, read_word};
 use fws_iv::{Ivs, one};
 use fws_net::{Site, tops};
-use fws_num::{Memory, Text, split_once};
+use fws_num::{Memory, Text, behind_is_shorter, split_once};
 use fws_table::Ask;
 use fws_tree::ranges;
 use std::alloc::Global;
@@ -60,6 +60,7 @@ fn items_set(alloc: Global, site: &Site, subject: Subject, set: &[u8]) -> Result
     requires { IsSound site.now }
     ensures { IfOk result (HasValues site.now subject (λ x. list_any (λ item. item_has site.now subject item x) (items_of set.now))) }
 {
+    behind_is_shorter();
     let mut values = Ivs::none(alloc);
     let mut rest = set;
     while let Some((item, behind)) = split_once(rest, b',') {

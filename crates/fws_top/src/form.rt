@@ -2,7 +2,7 @@
 
 ghost use Rattle.std.specs.Prelude.{◌≡◌};
 ghost use Rattle.std.specs.Str.{bytes_eq};
-ghost use Rattle.fws_top.specs.Forms.{command_of, single_command, state_command, asked, IsSpelled};
+ghost use Rattle.fws_top.specs.Forms.{command_of, single_command, site_command, state_command, asked, IsSpelled};
 
 use crate::ask::are_asks;
 use fws_num::Text;
@@ -20,6 +20,8 @@ pub(crate) enum Form<'a> {
     Synth(&'a [u8], &'a [u8]),
     /// The same table of the packets that further words ask for.
     Query(&'a [u8], &'a [u8], &'a [Text]),
+    /// The site of a site file in its second form, from the name of the file.
+    SecondForm(&'a [u8]),
 }
 
 fn is(word: &Text, text: &[u8]) -> bool
@@ -36,6 +38,18 @@ fn read_single(word: &Text) -> Form<'_>
         Form::Help
     } else if is(word, b"--version") {
         Form::Version
+    } else {
+        Form::Unknown
+    }
+}
+
+/// What a command asks of a site alone.
+fn read_site_command<'a>(command: &Text, site: &'a [u8]) -> Form<'a>
+    ensures asked { asked result ≡ site_command command.now site.now }
+    ensures spelled { IsSpelled result }
+{
+    if is(command, b"site2") {
+        Form::SecondForm(site)
     } else {
         Form::Unknown
     }
@@ -66,6 +80,7 @@ pub(crate) fn read_form(words: &[Text]) -> Form<'_>
 {
     match words {
         [word] => read_single(word),
+        [command, site] => read_site_command(command, site.as_slice()),
         [command, lang, site, file, state, asks @ ..] => {
             if is(lang, b"iptables") && is(state, b"new") {
                 read_state(command, site.as_slice(), file.as_slice(), asks)

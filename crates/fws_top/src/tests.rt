@@ -7,6 +7,14 @@ use std::test::Fail;
 const SITE: &[u8] =
     b"site 1\ninterface lan 10.0.0.1/24 ipt=eth0 ipfw=em0 pf=em0 ios=GigabitEthernet0/0 nat=inside\ninterface wan 203.0.113.2/30 ipt=eth1 ipfw=em1 pf=em1 ios=GigabitEthernet0/1 nat=outside\nloopback ipt=lo ipfw=lo0 pf=lo0 ios=Loopback0\ndefault wan\nforwarding yes\none_pass 1\n";
 
+/// The same site in its second form.
+const SITE2: &[u8] =
+    b"site 2\ninterface lan ipt=eth0 ipfw=em0 pf=em0 ios=GigabitEthernet0/0 nat=inside\ninterface wan ipt=eth1 ipfw=em1 pf=em1 ios=GigabitEthernet0/1 nat=outside\naddress lan 10.0.0.1/24\naddress wan 203.0.113.2/30\nloopback ipt=lo ipfw=lo0 pf=lo0 ios=Loopback0\ndefault wan\nforwarding yes\none_pass 1\n";
+
+/// A site with two networks behind an interface, and routes.
+const ROUTED: &[u8] =
+    b"site 2\ninterface lan ipt=eth0 ipfw=em0 pf=em0 ios=GigabitEthernet0/0 nat=inside\ninterface wan ipt=eth1 ipfw=em1 pf=em1 ios=GigabitEthernet0/1 nat=outside\naddress lan 10.0.0.1/24\naddress lan 10.0.8.1/24\naddress wan 203.0.113.2/30\nroute 10.0.0.0/8 lan\nroute 10.0.9.0/24 wan\nloopback ipt=lo ipfw=lo0 pf=lo0 ios=Loopback0\ndefault wan\nforwarding yes\none_pass 1\n";
+
 const NO_FORWARDING: &[u8] =
     b"site 1\ninterface lan 10.0.0.1/24 ipt=eth0 ipfw=em0 pf=em0 ios=GigabitEthernet0/0 nat=inside\nloopback ipt=lo ipfw=lo0 pf=lo0 ios=Loopback0\ndefault lan\nforwarding no\none_pass 1\n";
 
@@ -53,8 +61,13 @@ fn told(alloc: Global, words: &[&str], site: &[u8], file: &[u8]) -> Result<(Stat
 
 #[test]
 fn tables(rt: HostRuntime) -> Result<(), Fail> {
-    let table: [(&[u8], &[u8], &[u8]); 9] = [
+    let table: [(&[u8], &[u8], &[u8]); 10] = [
         (SITE, OPEN, OPEN_TABLE),
+        (
+            ROUTED,
+            b"*filter\n:INPUT ACCEPT [0:0]\n:FORWARD ACCEPT [0:0]\n:OUTPUT ACCEPT [0:0]\n-A OUTPUT -o eth1 -j DROP\nCOMMIT\n",
+            b"table new 3\nhost * 0.0.0.0-9.255.255.255,10.0.9.0-10.0.9.255,11.0.0.0-126.255.255.255,128.0.0.0-203.0.113.1,203.0.113.3-255.255.255.255 * * * * * : drop\nhost * 10.0.0.0-10.0.8.255,10.0.10.0-10.255.255.255,127.0.0.0-127.255.255.255,203.0.113.2 * * * * * : accept\nlo,lan,wan * * * * * * * : accept\n",
+        ),
         (SITE, b"", OPEN_TABLE),
         (
             SITE,
@@ -100,6 +113,23 @@ fn tables(rt: HostRuntime) -> Result<(), Fail> {
             file,
         )?;
         assert_eq!(rt; status, Status::Ok);
+        assert_eq!(rt; written.as_slice(), wanted);
+    }
+    Ok(())
+}
+
+#[test]
+fn second_forms(rt: HostRuntime) -> Result<(), Fail> {
+    let table: [(&[u8], Status, &[u8]); 5] = [
+        (SITE, Status::Ok, SITE2),
+        (SITE2, Status::Ok, SITE2),
+        (ROUTED, Status::Ok, ROUTED),
+        (b"site 3\n", Status::Refused, b"refused S line 1 syntax\n"),
+        (b"site 2\n", Status::Refused, b"refused S line 2 syntax\n"),
+    ];
+    for (site, wanted_status, wanted) in table {
+        let (status, written) = told(rt.alloc(), &["site2", "S"], site, b"")?;
+        assert_eq!(rt; status, wanted_status);
         assert_eq!(rt; written.as_slice(), wanted);
     }
     Ok(())
@@ -261,7 +291,10 @@ fn bad_queries(rt: HostRuntime) -> Result<(), Fail> {
     for asks in table {
         let (status, written) = asked(rt.alloc(), asks)?;
         assert_eq!(rt; status, Status::Usage);
-        assert_eq!(rt; written.as_slice(), b"usage: fws synth|query\n".as_slice());
+        assert_eq!(rt;
+            written.as_slice(),
+            b"usage: fws synth|query|site2\n".as_slice()
+        );
     }
     Ok(())
 }
@@ -274,7 +307,7 @@ fn order_of_faults(rt: HostRuntime) -> Result<(), Fail> {
             &["query", "iptables", "T", "G", "new", "dst=x"],
             SITE,
             Status::Usage,
-            b"usage: fws synth|query\n",
+            b"usage: fws synth|query|site2\n",
         ),
         // the site before its entries, and these before the configuration
         (
@@ -285,7 +318,7 @@ fn order_of_faults(rt: HostRuntime) -> Result<(), Fail> {
         ),
         (
             &["query", "iptables", "S", "G", "new", "entry=dmz"],
-            b"site 2\n",
+            b"site 3\n",
             Status::Refused,
             b"refused S line 1 syntax\n",
         ),
@@ -293,7 +326,7 @@ fn order_of_faults(rt: HostRuntime) -> Result<(), Fail> {
             &["query", "iptables", "S", "G", "new", "entry=dmz"],
             SITE,
             Status::Usage,
-            b"usage: fws synth|query\n",
+            b"usage: fws synth|query|site2\n",
         ),
         (
             &["query", "iptables", "S", "G", "new", "entry=lan"],
@@ -312,32 +345,38 @@ fn order_of_faults(rt: HostRuntime) -> Result<(), Fail> {
 
 #[test]
 fn command_lines(rt: HostRuntime) -> Result<(), Fail> {
-    let table: [(&[&str], Status, &[u8]); 9] = [
-        (&[], Status::Usage, b"usage: fws synth|query\n"),
+    let table: [(&[&str], Status, &[u8]); 11] = [
+        (&[], Status::Usage, b"usage: fws synth|query|site2\n"),
+        (&["site2"], Status::Usage, b"usage: fws synth|query|site2\n"),
+        (
+            &["site2", "S", "F"],
+            Status::Usage,
+            b"usage: fws synth|query|site2\n",
+        ),
         (
             &["synth", "iptables", "S", "F"],
             Status::Usage,
-            b"usage: fws synth|query\n",
+            b"usage: fws synth|query|site2\n",
         ),
         (
             &["synth", "iptables", "S", "F", "est"],
             Status::Usage,
-            b"usage: fws synth|query\n",
+            b"usage: fws synth|query|site2\n",
         ),
         (
             &["synth", "pf", "S", "F", "new"],
             Status::Usage,
-            b"usage: fws synth|query\n",
+            b"usage: fws synth|query|site2\n",
         ),
         (
             &["synth", "iptables", "S", "F", "new", "dst=1.2.3.4"],
             Status::Usage,
-            b"usage: fws synth|query\n",
+            b"usage: fws synth|query|site2\n",
         ),
         (
             &["--help", "--help"],
             Status::Usage,
-            b"usage: fws synth|query\n",
+            b"usage: fws synth|query|site2\n",
         ),
         (&["--version"], Status::Ok, b"fws 0.1.0\n"),
         (&["--help"], Status::Ok, HELP),

@@ -1,5 +1,4 @@
 use Rattle.std.proofs.Common.{sym, ◌∙◌}
-use Rattle.fws_num.proofs.Splitting.{split_once-shorter}
 use Rattle.fws_top.specs.Asks.{is_entry}
 use Rattle.fws_top.proofs.Asking.{item_passed, item_failed, item_last}
 use Rattle.fws_top.proofs.ask.are_entries.Goals as goal
@@ -9,7 +8,7 @@ returns-then-not-is_entry c =
     item_failed (is_entry c.args.site.now) c.loop-item.rest.now c.in-Some.item.now c.in-Some.behind.now _ c.in-Some.ensures (sym c.is_entry.ensures ∙ c.if-not-is_entry.true) c.loop-item.invariant
 
 pub loop-item-smaller : goal.loop-item-smaller
-loop-item-smaller c = split_once-shorter 44 c.loop-item.rest.now c.in-Some.item.now c.in-Some.behind.now c.in-Some.ensures
+loop-item-smaller c = (c.behind_is_shorter.ensures 44 c.loop-item.rest.now c.in-Some.item.now c.in-Some.behind.now c.in-Some.ensures).0
 
 pub loop-item-preserved : goal.loop-item-preserved
 loop-item-preserved c =

@@ -3,13 +3,12 @@ use Rattle.std.specs.List.{list_any}
 use Rattle.std.proofs.lemmas.Result.{IfOk-weaker}
 use Rattle.fws_iv.specs.declared.iv.Iv.{Iv}
 use Rattle.fws_iv.specs.Ivs.{has}
-use Rattle.fws_num.proofs.Splitting.{split_once-shorter}
 use Rattle.fws_top.specs.Asks.{item_has, items_of, HasValues}
 use Rattle.fws_top.proofs.AskSets.{item_joined, last_joined}
 use Rattle.fws_top.proofs.ask_set.items_set.Goals as goal
 
 pub loop-item-smaller : goal.loop-item-smaller
-loop-item-smaller c = split_once-shorter 44 c.loop-item.rest.now c.in-Some.item.now c.in-Some.behind.now c.in-Some.ensures
+loop-item-smaller c = (c.behind_is_shorter.ensures 44 c.loop-item.rest.now c.in-Some.item.now c.in-Some.behind.now c.in-Some.ensures).0
 
 pub loop-item-preserved : goal.loop-item-preserved
 loop-item-preserved c = λ x low.
