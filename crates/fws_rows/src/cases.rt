@@ -4,9 +4,10 @@ ghost use Rattle.fws_net.specs.Routes.{IsSound};
 
 use crate::numbers::decimal;
 use crate::stop::Stop;
+use crate::tally::Tally;
 use fws_ipt_read::read;
 use fws_net::{Cause, ReadAnswer, Site};
-use fws_num::{Memory, Text, put_dec, split_once};
+use fws_num::{Memory, Text, split_once};
 use std::alloc::Global;
 
 /// What stands behind each case of a table's lines.
@@ -26,7 +27,7 @@ fn read_cause(name: &[u8]) -> Result<Option<Cause>, Stop> {
 }
 
 /// Adds the bytes of a case, in which `\n`, `\r`, `\t` and `\0` stand for one byte each, and `\\` for a backslash.
-fn put_unescaped(text: &mut Text, escaped: &[u8]) -> Result<(), Memory> {
+pub(crate) fn put_unescaped(text: &mut Text, escaped: &[u8]) -> Result<(), Memory> {
     let mut behind_backslash = false;
     for c in escaped {
         let byte = match (behind_backslash, *c) {
@@ -98,27 +99,13 @@ fn judge(
 ) -> Result<Text, Stop>
     requires { IsSound site.now }
 {
-    let mut said = Text::new(alloc);
-    let mut all: u64 = 0;
-    let mut agreeing: u64 = 0;
+    let mut tally = Tally::new(alloc);
     for case in cases.split(|c: &u8| *c == b'\n') {
-        if case.is_empty() {
-            continue;
-        }
-        all = all.saturating_add(1);
-        if agrees(alloc, site, case, before, behind)? {
-            agreeing = agreeing.saturating_add(1);
-        } else {
-            said.put(b"differs ")?;
-            put_dec(&mut said, all)?;
-            said.put(b" ")?;
+        if !case.is_empty() {
+            tally.count(agrees(alloc, site, case, before, behind)?)?;
         }
     }
-    put_dec(&mut said, agreeing)?;
-    said.put(b" of ")?;
-    put_dec(&mut said, all)?;
-    said.put(b" agree")?;
-    Ok(said)
+    Ok(tally.into_text()?)
 }
 
 /// Reads each case as lines of a table that these bytes open.

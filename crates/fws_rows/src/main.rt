@@ -1,35 +1,39 @@
 //! Walks packets through worked configurations, and compares what becomes of them with the tables, traces and refusals
-//! that these configurations must have; and reads lines that must be accepted, or refused for a cause. What is expected
-//! comes from outside or was worked out by hand: none of it was made by this project.
+//! that these configurations must have; reads lines and sites that must be accepted, or refused for a cause; asks sites
+//! about addresses and names; and tries calls on numbers, words, lines, sets, boxes, packets and conditions. What is
+//! expected comes from outside or was worked out by hand: none of it was made by this project.
 #![tactic(auto)]
 
+mod boxes;
 mod cases;
+mod conditions;
+mod edits;
+mod found;
+mod jobs;
 mod judging;
+mod keeping;
 mod numbers;
+mod packets;
+mod ranges;
 mod sampling;
+mod saying;
+mod sets;
+mod sites;
+mod spellings;
 mod stop;
 mod table;
+mod tally;
 mod tracing;
 
-ghost use Rattle.std.specs.Prelude.{IfOk};
-ghost use Rattle.fws_net.specs.Routes.{IsSound};
-
-use crate::cases::{judge_lines, judge_texts};
-use crate::judging::{judge_refusal, judge_table};
+use crate::jobs::{LIMIT, do_job, job_length};
 use crate::stop::Stop;
-use crate::tracing::judge_trace;
 use fws_io::{Shelf, StdShelf, StdSink, write_all};
-use fws_ipt::IptConfig;
-use fws_ipt_read::read;
-use fws_net::{Site, read_site};
+use fws_net::read_site;
 use fws_num::{Items, Text};
 use std::alloc::Global;
 use std::env;
 use std::process::ExitCode;
 use std::rt::{Env, Files};
-
-/// The most bytes of a file.
-const LIMIT: usize = 4_194_304;
 
 /// The words behind the program's name.
 fn take_words<R: Env + AllocGlobal>(rt: &R) -> Result<Items<Text>, Stop> {
@@ -41,73 +45,6 @@ fn take_words<R: Env + AllocGlobal>(rt: &R) -> Result<Items<Text>, Stop> {
         words.put(Text::of(rt.alloc(), argument.as_bytes())?)?;
     }
     Ok(words)
-}
-
-/// The configuration of a file.
-fn read_file<S: Shelf>(
-    alloc: Global,
-    shelf: &mut S,
-    site: &Site,
-    name: &Text,
-) -> Result<IptConfig, Stop>
-    requires { IsSound site.now }
-{
-    let text = shelf.read(alloc, name.as_slice(), LIMIT)?;
-    match read(alloc, text.as_slice(), site) {
-        Ok(config) => Ok(config),
-        Err(_) => Err(Stop::Malformed),
-    }
-}
-
-/// Does one job, of which these are the words, and gives what it found.
-fn do_job<S: Shelf>(alloc: Global, shelf: &mut S, site: &Site, words: &[Text]) -> Result<Text, Stop>
-    requires { IsSound site.now }
-{
-    match words {
-        [kind, file, expected] if kind.as_slice() == b"table".as_slice() => {
-            let config = read_file(alloc, shelf, site, file)?;
-            let expected = shelf.read(alloc, expected.as_slice(), LIMIT)?;
-            judge_table(alloc, site, &config, expected.as_slice())
-        }
-        [kind, opening, cases] if kind.as_slice() == b"lines".as_slice() => {
-            let opening = shelf.read(alloc, opening.as_slice(), LIMIT)?;
-            let cases = shelf.read(alloc, cases.as_slice(), LIMIT)?;
-            judge_lines(alloc, site, opening.as_slice(), cases.as_slice())
-        }
-        [kind, cases] if kind.as_slice() == b"texts".as_slice() => {
-            let cases = shelf.read(alloc, cases.as_slice(), LIMIT)?;
-            judge_texts(alloc, site, cases.as_slice())
-        }
-        [kind, file, what, chain] if kind.as_slice() == b"refusal".as_slice() => {
-            let config = read_file(alloc, shelf, site, file)?;
-            judge_refusal(alloc, site, &config, what.as_slice(), chain.as_slice())
-        }
-        [kind, file, connections, packets, expected] if kind.as_slice() == b"trace".as_slice() => {
-            let config = read_file(alloc, shelf, site, file)?;
-            let connections = shelf.read(alloc, connections.as_slice(), LIMIT)?;
-            let packets = shelf.read(alloc, packets.as_slice(), LIMIT)?;
-            let expected = shelf.read(alloc, expected.as_slice(), LIMIT)?;
-            judge_trace(
-                alloc,
-                site,
-                &config,
-                connections.as_slice(),
-                packets.as_slice(),
-                expected.as_slice(),
-            )
-        }
-        _ => Err(Stop::Malformed),
-    }
-}
-
-/// How many words a job of this kind has.
-fn job_length(kind: &Text) -> usize {
-    match kind.as_slice() {
-        b"texts" => 2,
-        b"refusal" => 4,
-        b"trace" => 5,
-        _ => 3,
-    }
 }
 
 /// Adds the words of a job, with what it found behind them.

@@ -47,3 +47,11 @@ pub fn entry(site: &Site, name: &[u8]) -> Result<u32, Stop> {
     }
     Err(Stop::Malformed)
 }
+
+/// The byte of a text that has one.
+pub fn one_byte(text: &[u8]) -> Result<u8, Stop> {
+    match text {
+        [byte] => Ok(*byte),
+        _ => Err(Stop::Malformed),
+    }
+}

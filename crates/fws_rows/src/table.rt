@@ -3,7 +3,7 @@
 use crate::numbers::{address, decimal, entry, short};
 use crate::stop::Stop;
 use fws_net::{End, Outcome, Rewrite, Site};
-use fws_num::{Comments, Items, Line, Word, pieces, read_lines, split_once};
+use fws_num::{Comments, Items, Line, Word, pieces, read_lines, read_prefix, split_once};
 use std::alloc::Global;
 
 /// A row: for each field the ends of its intervals, and what becomes of the row's packets.
@@ -97,8 +97,22 @@ fn read_values(alloc: Global, site: &Site, place: usize, word: &Word) -> Result<
     Ok(values)
 }
 
-/// An end `A` or `A:port`.
+/// The end of a network `A/n`, of a length from 1.
+fn read_net_end(text: &[u8]) -> Result<End, Stop> {
+    let Some(net) = read_prefix(text) else {
+        return Err(Stop::Malformed);
+    };
+    if net.len == 0 {
+        return Err(Stop::Malformed);
+    }
+    Ok(End::net(net))
+}
+
+/// An end `A`, `A:port` or `A/n`.
 pub fn read_end(text: &[u8]) -> Result<End, Stop> {
+    if text.contains(&b'/') {
+        return read_net_end(text);
+    }
     match split_once(text, b':') {
         Some((a, port)) => Ok(End::host(address(a)?, Some(short(decimal(port)?)))),
         None => Ok(End::host(address(text)?, None)),
@@ -106,7 +120,7 @@ pub fn read_end(text: &[u8]) -> Result<End, Stop> {
 }
 
 /// The outcome that the words behind the colon spell.
-fn read_outcome(words: &[Word]) -> Result<Outcome, Stop> {
+pub fn read_outcome(words: &[Word]) -> Result<Outcome, Stop> {
     let Some((verdict, ends)) = words.split_first() else {
         return Err(Stop::Malformed);
     };

@@ -28,7 +28,7 @@ fn read_tuple(
 }
 
 /// The connections of a text.
-fn read_connections(alloc: Global, text: &[u8]) -> Result<Items<Conn>, Stop> {
+pub fn read_connections(alloc: Global, text: &[u8]) -> Result<Items<Conn>, Stop> {
     let mut connections = Items::new(alloc);
     for line in read_lines(alloc, Comments::HashLine, text)?
         .lines
@@ -46,7 +46,7 @@ fn read_connections(alloc: Global, text: &[u8]) -> Result<Items<Conn>, Stop> {
 }
 
 /// The packet of eight words.
-fn read_packet(site: &Site, words: &[Word]) -> Result<Packet, Stop> {
+pub fn read_packet(site: &Site, words: &[Word]) -> Result<Packet, Stop> {
     let [from, proto, dst, dport, src, sport, flags, icmp] = words else {
         return Err(Stop::Malformed);
     };

@@ -1,0 +1,166 @@
+//! What calls give, as texts that stand beside the values of a case.
+
+use crate::cases::put_unescaped;
+use crate::stop::Stop;
+use fws_iv::Iv;
+use fws_num::{
+    Comments, Items, Line, Memory, Text, Word, pieces, put_dec, put_quad, read_lines, words,
+};
+use std::alloc::Global;
+
+/// What a call gave, a text for each value.
+#[derive(Drop)]
+pub struct Found {
+    /// Where its texts lie.
+    pub alloc: Global,
+    /// The values.
+    pub values: Items<Text>,
+}
+
+impl Found {
+    /// No value yet.
+    pub fn new(alloc: Global) -> Found {
+        Found {
+            alloc,
+            values: Items::new(alloc),
+        }
+    }
+
+    /// Adds a text.
+    pub fn put(&mut self, text: &[u8]) -> Result<(), Memory> {
+        self.values.put(Text::of(self.alloc, text)?)
+    }
+
+    /// Adds a number in decimal.
+    pub fn put_number(&mut self, n: u64) -> Result<(), Memory> {
+        let mut text = Text::new(self.alloc);
+        put_dec(&mut text, n)?;
+        self.values.put(text)
+    }
+
+    /// Adds the number, or `none`.
+    pub fn put_option(&mut self, n: Option<u64>) -> Result<(), Memory> {
+        match n {
+            Some(n) => self.put_number(n),
+            None => self.put(b"none"),
+        }
+    }
+
+    /// Adds both numbers, or `none`.
+    pub fn put_pair(&mut self, pair: Option<(u64, u64)>) -> Result<(), Memory> {
+        match pair {
+            Some((a, b)) => {
+                self.put_number(a)?;
+                self.put_number(b)
+            }
+            None => self.put(b"none"),
+        }
+    }
+
+    /// Adds a word behind what it is: `plain`, `quoted`, `open`, or `unsound` without quotes.
+    pub fn put_word(&mut self, word: &Word) -> Result<(), Memory> {
+        let kind: &[u8] = match (word.quoted, word.is_sound()) {
+            (true, true) => b"quoted ",
+            (true, false) => b"open ",
+            (false, true) => b"plain ",
+            (false, false) => b"unsound ",
+        };
+        let mut text = Text::of(self.alloc, kind)?;
+        text.put(word.text.as_slice())?;
+        self.values.put(text)
+    }
+
+    /// Adds a line: its number, `>` where it is indented, and its words.
+    pub fn put_line(&mut self, line: &Line) -> Result<(), Memory> {
+        let mut text = Text::new(self.alloc);
+        put_dec(&mut text, u64::from(line.number))?;
+        if line.indented {
+            text.put(b" >")?;
+        }
+        for word in line.words.as_slice() {
+            text.put(b" ")?;
+            text.put(word.text.as_slice())?;
+        }
+        self.values.put(text)
+    }
+
+    /// Adds the pieces of a text.
+    pub fn put_pieces(&mut self, byte: u8, text: &[u8]) -> Result<(), Memory> {
+        for piece in pieces(self.alloc, byte, text)?.as_slice() {
+            self.put(piece.as_slice())?;
+        }
+        Ok(())
+    }
+
+    /// Adds the words of a line.
+    pub fn put_words(&mut self, line: &[u8]) -> Result<(), Memory> {
+        for word in words(self.alloc, line, 1)?.as_slice() {
+            self.put_word(word)?;
+        }
+        Ok(())
+    }
+
+    /// Adds the lines of a text, and the number past the last one.
+    pub fn put_lines(&mut self, comments: Comments, text: &[u8]) -> Result<(), Memory> {
+        let read = read_lines(self.alloc, comments, text)?;
+        for line in read.lines.as_slice() {
+            self.put_line(line)?;
+        }
+        self.put_number(u64::from(read.past))
+    }
+
+    /// Adds `yes` or `no`.
+    pub fn put_answer(&mut self, answer: bool) -> Result<(), Memory> {
+        self.put(if answer { b"yes" } else { b"no" })
+    }
+
+    /// Adds an address.
+    pub fn put_address(&mut self, a: u32) -> Result<(), Memory> {
+        let mut text = Text::new(self.alloc);
+        put_quad(&mut text, a)?;
+        self.values.put(text)
+    }
+
+    /// Adds the numbers of a set, as `lo-hi,lo-hi`.
+    pub fn put_numbers(&mut self, parts: &[Iv]) -> Result<(), Memory> {
+        let mut text = Text::new(self.alloc);
+        for part in parts {
+            if !text.as_slice().is_empty() {
+                text.put(b",")?;
+            }
+            put_dec(&mut text, u64::from(part.lo))?;
+            text.put(b"-")?;
+            put_dec(&mut text, u64::from(part.hi))?;
+        }
+        self.values.put(text)
+    }
+
+    /// Adds the addresses of a set, as `lo-hi,lo-hi`.
+    pub fn put_addresses(&mut self, parts: &[Iv]) -> Result<(), Memory> {
+        let mut text = Text::new(self.alloc);
+        for part in parts {
+            if !text.as_slice().is_empty() {
+                text.put(b",")?;
+            }
+            put_quad(&mut text, part.lo)?;
+            text.put(b"-")?;
+            put_quad(&mut text, part.hi)?;
+        }
+        self.values.put(text)
+    }
+}
+
+/// The texts of a case's fields, each of which ends with a bar.
+pub fn fields_of(alloc: Global, case: &[u8]) -> Result<Items<Text>, Stop> {
+    let parts = pieces(alloc, b'|', case)?;
+    let Some((_, parts)) = parts.as_slice().split_last() else {
+        return Err(Stop::Malformed);
+    };
+    let mut fields = Items::new(alloc);
+    for part in parts {
+        let mut field = Text::new(alloc);
+        put_unescaped(&mut field, part.as_slice())?;
+        fields.put(field)?;
+    }
+    Ok(fields)
+}
