@@ -1,5 +1,7 @@
 #!/usr/bin/env bash
 # Runs the built program over filter files of growing length, and prints a line `rules seconds megabytes rows` for each;
+# then over 400 rules at sites of 62 interfaces and up to 4,096 routes, and prints a line `routes seconds megabytes
+# rows` for each; then writes these sites by the command site2, and prints a line `routes seconds megabytes` for each;
 # then over texts of up to 4 MiB that are read and not executed, and prints a line `mebibytes seconds megabytes` for each;
 # then makes trees of growing numbers of rows that have cuts of their own in four fields, and prints a line
 # `rows paths seconds` for each. Exit status 1 where a bound is passed. Build first: ./fws --build
@@ -19,6 +21,19 @@ measure() { # rules family seconds megabytes
 echo 'rules seconds megabytes rows'
 for rules in 50 100 200 400; do measure "$rules" overlapping 5 1024; done
 measure 4000 apart 120 4096
+
+echo 'routes seconds megabytes rows'
+python3 "$top/bench/make.py" 400 routed >"$work/file" || exit 1
+for routes in 256 1024 4096; do
+    site=$work/site.$routes
+    python3 "$top/bench/make_site.py" "$routes" >"$site" || exit 1
+    python3 "$top/bench/measure.py" "$routes" 2 1024 "$program" synth iptables "$site" "$work/file" new || status=1
+done
+
+echo 'routes seconds megabytes'
+for routes in 256 1024 4096; do
+    python3 "$top/bench/respelled.py" "$routes" 1 1024 "$program" "$work/site.$routes" || status=1
+done
 
 echo 'mebibytes seconds megabytes'
 for size in 0.5 1 2 4; do

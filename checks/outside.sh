@@ -29,7 +29,8 @@ check 'a plain run' "$table"$'\nstatus 0' "$(told "$program" synth iptables S F 
 "$program" synth iptables S F new >/dev/full 2>/dev/null
 check 'a full device' 5 "$?"
 
-{ "$program" synth iptables S F new; echo "$?" >code; } 2>/dev/null | true
+# the other end is closed before the program writes
+{ sleep 1; "$program" synth iptables S F new; echo "$?" >code; } 2>/dev/null | true
 check 'a closed pipe' 5 "$(cat code)"
 
 "$program" synth iptables S F new >&- 2>/dev/null
@@ -64,7 +65,7 @@ rm -- "$odd"
 check 'an odd name that is absent' "cannot read $odd"$'\nstatus 4' "$(told "$program" synth iptables S "$odd" new)"
 
 check 'an argument that is no UTF-8' $'\nstatus 2' "$(told "$program" synth iptables S $'\xff' new)"
-check 'no words' $'usage: fws synth|query\nstatus 2' "$(told "$program")"
+check 'no words' $'usage: fws synth|query|site2\nstatus 2' "$(told "$program")"
 
 for rules in "$top"/examples/*.rules; do
     wanted=$("$program" synth iptables S "$rules" new | sed '1s/^table/query/')$'\nstatus 0'
@@ -72,6 +73,9 @@ for rules in "$top"/examples/*.rules; do
     check "a query for everything of ${rules##*/}" "$wanted" \
         "$(told "$program" query iptables S "$rules" new 'entry=*' dst=0.0.0.0-255.255.255.255)"
 done
+
+check 'the second form of a site' "$(sed '/^#/d' "$top/examples/routed.site")"$'\nstatus 0' \
+    "$(told "$program" site2 "$top/examples/routed.site")"
 
 check 'the version' $'fws 0.1.0\nstatus 0' "$(told "$program" --version)"
 
