@@ -15,13 +15,12 @@ use Rattle.fws_net.specs.declared.exit.Exit.{Exit}
 use Rattle.fws_net.specs.declared.exit.Exit.TheVariants.{Deliver, Out, Lost}
 use Rattle.fws_net.specs.declared.site.Site.{Site}
 use Rattle.fws_net.specs.declared.view.View.{View}
-use Rattle.fws_net.specs.Fates.{written_addr, sent_port}
-use Rattle.fws_net.specs.Connections.{est_port}
 use Rattle.fws_net.specs.Conditions.{holds}
 use Rattle.fws_net.specs.Ends.{host_end}
 use Rattle.fws_net.specs.Faces.{face_addr, loopback_addr}
 use Rattle.fws_net.specs.Routes.{exit_at}
 use Rattle.fws_net.specs.Showing.{receiving, sending}
+use Rattle.fws_net.specs.Transits.{rewritten, with_rec_dst, with_rec_src, nothing_written}
 use Rattle.fws_ipt.specs.declared.config.IptTable.{IptTable}
 use Rattle.fws_ipt.specs.declared.config.IptTable.TheVariants.{Filter, Nat, Mangle}
 use Rattle.fws_ipt.specs.declared.config.IptGo.{IptGo}
@@ -65,15 +64,6 @@ view_at site is_est hook m = record {
 }
 
 -- What a rule writes
-
--- the packet that entered, with the ends over its fields
-abbrev pub rewritten : Packet → Rewrite → Packet
-rewritten p w = record p {
-  dst = written_addr w.dst p.dst;
-  dport = sent_port p.proto w.dst p.dport;
-  src = written_addr w.src p.src;
-  sport = sent_port p.proto w.src p.sport;
-}
 
 -- an end stands over the fields with which the packet p entered
 abbrev pub with_wrote : Packet → Rewrite → Passage → Passage
@@ -206,21 +196,13 @@ builtin_walk chains site p is_est hook (Some c) m =
 
 -- The ways of a packet
 
--- the destination of an established packet as it leaves
-abbrev pub with_rec_dst : Rec → Passage → Passage
-with_rec_dst r m = record m { packet = record m.packet { dst = r.rdst; dport = est_port m.packet.proto r.rdport m.packet.dport } }
-
--- the source of an established packet as it leaves
-abbrev pub with_rec_src : Rec → Passage → Passage
-with_rec_src r m = record m { packet = record m.packet { src = r.rsrc; sport = est_port m.packet.proto r.rsport m.packet.sport } }
-
 -- an established packet doesn't meet the chains of nat: there its destination or source becomes that with which it leaves
 abbrev pub tracked_at : Rec → Hook → Passage → Passage
-tracked_at r Prerouting m = with_rec_dst r m
-tracked_at r Input m = with_rec_src r m
+tracked_at r Prerouting m = record m { packet = with_rec_dst r m.packet }
+tracked_at r Input m = record m { packet = with_rec_src r m.packet }
 tracked_at r Forward m = m
-tracked_at r Output m = with_rec_dst r m
-tracked_at r Postrouting m = with_rec_src r m
+tracked_at r Output m = record m { packet = with_rec_dst r m.packet }
+tracked_at r Postrouting m = record m { packet = with_rec_src r m.packet }
 
 -- the chain of a table at a hook, for a packet of a class; none where it drops
 abbrev pub visit : IptConfig → Site → Packet → Kind → IptTable → Hook → Passage → Option Passage
@@ -254,9 +236,6 @@ go_to c site p k Lost m = None
 
 abbrev pub routed : IptConfig → Site → Packet → Kind → Passage → Option Passage
 routed c site p k m = go_to c site p k (exit_at site p.entry m.packet.dst) m
-
-abbrev pub nothing_written : Rewrite
-nothing_written = record { src = None; dst = None }
 
 -- the packet as it enters, with the mark 0
 abbrev pub entering : Packet → Passage

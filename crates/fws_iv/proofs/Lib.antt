@@ -1,4 +1,10 @@
+pub mod Apart
+pub mod Blocks
+pub mod CubeBits
+pub mod OneCube
 pub mod Parts
+pub mod Powers
 pub mod SameMembers
 pub mod Steps
+pub mod Tables
 pub mod WithRange

@@ -1,1 +1,3 @@
+pub mod Cubes
 pub mod Ivs
+pub mod Prefixes

@@ -56,6 +56,16 @@ impl Ivs {
         })
     }
 
+    /// The set of these intervals, which ascend and of which no two touch. An error is want of memory.
+    pub fn of_parts(alloc: Global, parts: &[Iv]) -> Result<Ivs, Memory>
+        requires { IsRegular parts.now }
+        ensures { IfOk result (λ s. s ≡ parts.now) }
+    {
+        Ok(Ivs {
+            parts: Vec::from_slice(alloc, parts)?,
+        })
+    }
+
     /// The intervals, in ascending order.
     pub fn parts(&self) -> &[Iv]
         ensures value { result.now ≡ self.now }
@@ -82,9 +92,7 @@ impl Ivs {
     pub fn copy(&self, alloc: Global) -> Result<Ivs, Memory>
         ensures { IfOk result (λ s. s ≡ self.now) }
     {
-        Ok(Ivs {
-            parts: Vec::from_slice(alloc, self.parts.as_slice())?,
-        })
+        Ivs::of_parts(alloc, self.parts())
     }
 
     /// Adds the numbers from `lo` to `hi`, all past those that are there; they join the last interval

@@ -1,6 +1,7 @@
 //! Laws of sets.
 
 ghost use Rattle.fws_iv.specs.Ivs.{SameMembersSameList, RangesAreRegular, RangesAddMembers, ManyRangesAddMembers};
+ghost use Rattle.fws_iv.specs.Prefixes.{PrefixesAreApart};
 
 /// Regular lists with the same members are equal. The call does nothing: its clause is the law.
 pub fn same_members_same_list()
@@ -20,4 +21,9 @@ pub fn ranges_add_members()
 /// Ranges from the empty set on make a regular list of their numbers. The call does nothing: its clause is the law.
 pub fn many_ranges_add_members()
     ensures { ManyRangesAddMembers }
+{}
+
+/// An address lies in one at most of prefixes that ascend. The call does nothing: its clause is the law.
+pub fn prefixes_are_apart()
+    ensures { PrefixesAreApart }
 {}

@@ -4,12 +4,13 @@ use Rattle.std.specs.List.{All, find, list_all}
 use Rattle.std.specs.Option.{option_map_or, option_or}
 use Rattle.std.proofs.lemmas.Bool.{and_parts, and_left, and_right, cases_Bool, cases_order, both_ways, ltb-true, eqb-true, lt-ltb, le-ltb, ne_eqb, false_from_ne_true, not-true}
 use Rattle.std.proofs.lemmas.List.Elements.{All-head, All-tail, All-cons, All-nil, All-append, All-map, All-weaker, All-contains, All-filter, All-same, filter_passes}
+use Rattle.fws_iv.specs.Prefixes.{agree, IsBlock}
 use Rattle.fws_num.specs.declared.prefix.Prefix.{Prefix}
 use Rattle.fws_net.specs.declared.site.Iface.{Iface}
 use Rattle.fws_net.specs.declared.site.RouteLine.{RouteLine}
 use Rattle.fws_net.specs.declared.site.Site.{Site}
-use Rattle.fws_net.specs.RouteSets.{leads_alike, is_within, is_block, nets_within, block_entry, first_half, second_half, IsBlock, AreFrom}
-use Rattle.fws_net.specs.Routes.{agree, leads, longer, longest, led_to, net_line, nets_from, prefixes_of, IsSound, IsSoundAddress, IsSoundFace, IsSoundRoute}
+use Rattle.fws_net.specs.RouteSets.{leads_alike, is_within, is_block, nets_within, block_entry, first_half, second_half, AreFrom}
+use Rattle.fws_net.specs.Routes.{leads, longer, longest, led_to, net_line, nets_from, prefixes_of, IsSound, IsSoundAddress, IsSoundFace, IsSoundRoute}
 use Rattle.fws_net.proofs.Halves.{agree_in_fewer, agree_both, agree_back, agree_halves}
 use Rattle.fws_net.proofs.Longest.{longer-first, longer-second, longest_among}
 

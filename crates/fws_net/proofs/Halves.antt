@@ -6,9 +6,9 @@ use Rattle.std.proofs.lemmas.List.Folds.{list_any-append}
 use Rattle.std.proofs.lemmas.Nat.{pow_pos, pow-add, shr-shr, field_of, mod-pow-add, div-mul-add, mod-mul-add}
 use Rattle.fws_iv.specs.declared.iv.Iv.{Iv}
 use Rattle.fws_iv.specs.Ivs.{has, in_part}
+use Rattle.fws_iv.specs.Prefixes.{agree, IsBlock}
 use Rattle.fws_num.specs.declared.prefix.Prefix.{Prefix}
-use Rattle.fws_net.specs.RouteSets.{first_half, second_half, IsBlock}
-use Rattle.fws_net.specs.Routes.{agree}
+use Rattle.fws_net.specs.RouteSets.{first_half, second_half}
 use Rattle.fws_net.proofs.Ends.{block_within}
 use Rattle.fws_net.proofs.Nets.{has_block}
 

@@ -3,7 +3,7 @@ use Rattle.std.proofs.Common.{◌≡◌, ℕ, ◌+◌, ◌-◌, ◌*◌, ◌/◌
 use Rattle.std.proofs.lemmas.Bool.{le-leb, leb-true, and_parts, and_from, cases_Bool, eqb-true}
 use Rattle.std.proofs.lemmas.Nat.{pow_pos, div-mul-add}
 use Rattle.fws_iv.specs.Ivs.{has}
-use Rattle.fws_net.specs.Routes.{agree}
+use Rattle.fws_iv.specs.Prefixes.{agree}
 use Rattle.fws_net.proofs.Ends.{block_within}
 
 -- a test by two bounds is one by an equation where each tells the other

@@ -7,9 +7,9 @@ use Rattle.std.proofs.lemmas.Bool.Decides.{same_from_decides, Decides-eqb}
 use Rattle.std.proofs.lemmas.Slice.Eq.{bytes_eq-Decides}
 use Rattle.std.specs.List.{list_any, list_all}
 use Rattle.std.specs.Str.{bytes_eq}
+use Rattle.fws_iv.specs.Prefixes.{agree}
 use Rattle.fws_net.specs.declared.site.Address.{Address}
 use Rattle.fws_net.specs.declared.site.Names.{Names}
-use Rattle.fws_net.specs.Routes.{agree}
 use Rattle.fws_net.specs.SiteLines.{share_name, nets_meet, is_same_net}
 use Rattle.fws_net.specs.SiteLaws.{are_other_texts, are_other_names, are_other_addresses, are_other_nets, are_apart}
 use Rattle.fws_net.proofs.Inserted.{IsSymmetric}

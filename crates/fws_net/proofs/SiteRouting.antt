@@ -4,12 +4,13 @@ use Rattle.std.proofs.lemmas.List.Folds.{list_all-append}
 use Rattle.std.proofs.lemmas.Bool.{and_parts, eqb-true, eq-eqb, both_ways, not-true}
 use Rattle.std.specs.List.{list_any, list_all}
 use Rattle.std.specs.Option.{option_map_or}
+use Rattle.fws_iv.specs.Prefixes.{agree}
 use Rattle.fws_num.specs.Numbers.{QuadsAreDotted}
 use Rattle.fws_net.specs.declared.site.Address.{Address}
 use Rattle.fws_net.specs.declared.site.Iface.{Iface}
 use Rattle.fws_net.specs.declared.site.RouteLine.{RouteLine}
 use Rattle.fws_net.specs.declared.site.Site.{Site}
-use Rattle.fws_net.specs.Routes.{agree, net_line, nets_from, longer, longest, led_to, route_of}
+use Rattle.fws_net.specs.Routes.{net_line, nets_from, longer, longest, led_to, route_of}
 use Rattle.fws_net.specs.SiteLaws.{all_pairs, addresses_of, are_apart, first_leading, IsPlain, FirstFormsRouteByNetwork}
 use Rattle.fws_net.specs.SiteLines.{nets_meet}
 use Rattle.fws_net.proofs.PairTests.{agree_shorter}

@@ -1,5 +1,5 @@
 -- Tracked connections: which packets belong to one, and what becomes of them.
-use Rattle.std.specs.Prelude.{ℕ, Bool, ◌&&◌, ◌||◌, not, nat_eq, List, [], ◌∷◌, if◌then◌else◌}
+use Rattle.std.specs.Prelude.{ℕ, Bool, true, false, ◌&&◌, ◌||◌, not, nat_eq, List, [], ◌∷◌, if◌then◌else◌}
 use Rattle.fws_net.specs.declared.packet.Packet.{Packet}
 use Rattle.fws_net.specs.declared.connection.Tuple.{Tuple}
 use Rattle.fws_net.specs.declared.connection.Conn.{Conn}
@@ -31,6 +31,11 @@ abbrev pub class_of : List Conn → Tuple → Kind
 class_of [] t = New
 class_of (c ∷ cs) t =
     if matches c.orig t then Est (inverse c.reply) else if matches c.reply t then Est (inverse c.orig) else class_of cs t
+
+-- packets of the class belong to a tracked connection
+abbrev pub is_est : Kind → Bool
+is_est New = false
+is_est (Est r) = true
 
 -- a port of an established packet as it leaves: another one for TCP and UDP alone
 abbrev pub est_port : ℕ → ℕ → ℕ → ℕ

@@ -17,3 +17,4 @@ pub mod SiteLines
 pub mod SiteSpelling
 pub mod SiteText
 pub mod SiteWords
+pub mod Transits

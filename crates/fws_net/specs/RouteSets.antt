@@ -1,10 +1,10 @@
 -- How the addresses of a block are divided among networks: the networks within it, and its halves.
-use Rattle.std.specs.Prelude.{◌≡◌, ℕ, ◌+◌, ◌-◌, ◌%◌, ◌^◌, ◌<◌, ◌≤◌, Bool, ◌&&◌, not, nat_eq, nat_lt, if◌then◌else◌, List, All}
+use Rattle.std.specs.Prelude.{ℕ, ◌+◌, ◌-◌, ◌^◌, ◌≤◌, Bool, ◌&&◌, not, nat_eq, nat_lt, if◌then◌else◌, List, All}
 use Rattle.std.specs.List.{filter, find}
 use Rattle.std.specs.Option.{option_map_or}
+use Rattle.fws_iv.specs.Prefixes.{agree}
 use Rattle.fws_num.specs.declared.prefix.Prefix.{Prefix}
 use Rattle.fws_net.specs.declared.site.RouteLine.{RouteLine}
-use Rattle.fws_net.specs.Routes.{agree}
 
 -- the network begins with the bits of the block, and is longer
 abbrev pub is_within : Prefix → RouteLine → Bool
@@ -33,12 +33,6 @@ first_half block = record { addr = block.addr; len = block.len + 1 }
 -- those whose next bit is 1
 abbrev pub second_half : Prefix → Prefix
 second_half block = record { addr = block.addr + 2 ^ (31 - block.len); len = block.len + 1 }
-
--- an address of 32 bits, of which those past the length are 0
-pub record IsBlock (block : Prefix) : Type 0 where
-  pub short : block.len ≤ 32
-  pub fits : block.addr < 2 ^ 32
-  pub cleared : block.addr % 2 ^ (32 - block.len) ≡ 0
 
 -- each network has at least this length, and at most 32
 abbrev pub AreFrom : ℕ → List RouteLine → Type 0

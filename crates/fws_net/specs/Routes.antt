@@ -1,17 +1,14 @@
 -- Where packets go: local addresses, routes and exits.
-use Rattle.std.specs.Prelude.{ℕ, suc, ◌+◌, ◌-◌, ◌/◌, ◌^◌, ◌<◌, ◌≤◌, Bool, ◌||◌, nat_eq, nat_le, Option, Some, None, List, [], ◌∷◌, ◌++◌, length, map, All, if◌then◌else◌}
+use Rattle.std.specs.Prelude.{ℕ, suc, ◌+◌, ◌/◌, ◌^◌, ◌<◌, ◌≤◌, Bool, ◌||◌, nat_eq, nat_le, Option, Some, None, List, [], ◌∷◌, ◌++◌, length, map, All, if◌then◌else◌}
 use Rattle.std.specs.List.{list_any}
 use Rattle.std.specs.Option.{option_map_or}
+use Rattle.fws_iv.specs.Prefixes.{agree}
 use Rattle.fws_net.specs.declared.exit.Exit.{Exit}
 use Rattle.fws_net.specs.declared.exit.Exit.TheVariants.{Deliver, Out, Lost}
 use Rattle.fws_net.specs.declared.site.Address.{Address}
 use Rattle.fws_net.specs.declared.site.Iface.{Iface}
 use Rattle.fws_net.specs.declared.site.RouteLine.{RouteLine}
 use Rattle.fws_net.specs.declared.site.Site.{Site}
-
--- two addresses agree in their first n bits
-abbrev pub agree : ℕ → ℕ → ℕ → Bool
-agree n a b = nat_eq (a / 2 ^ (32 - n)) (b / 2 ^ (32 - n))
 
 -- 127.0.0.0/8
 abbrev pub is_loopback : ℕ → Bool

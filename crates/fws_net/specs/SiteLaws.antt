@@ -2,6 +2,7 @@
 use Rattle.std.specs.Prelude.{◌≡◌, ℕ, suc, ◌-◌, ◌%◌, ◌^◌, ◌≤◌, Bool, true, ◌&&◌, not, nat_eq, map, Result, Ok, Err, List, [], ◌∷◌, ◌++◌, length, codes, if◌then◌else◌}
 use Rattle.std.specs.List.{list_any, list_all}
 use Rattle.std.specs.Str.{bytes_eq}
+use Rattle.fws_iv.specs.Prefixes.{agree}
 use Rattle.fws_num.specs.declared.comments.Comments.TheVariants.{HashLine}
 use Rattle.fws_num.specs.declared.lines.Line.{Line}
 use Rattle.fws_num.specs.Lines.{read_of}
@@ -14,7 +15,7 @@ use Rattle.fws_net.specs.declared.site.Iface.{Iface}
 use Rattle.fws_net.specs.declared.site.Names.{Names}
 use Rattle.fws_net.specs.declared.site.RouteLine.{RouteLine}
 use Rattle.fws_net.specs.declared.site.Site.{Site}
-use Rattle.fws_net.specs.Routes.{agree, prefixes_of, route_of, IsSound}
+use Rattle.fws_net.specs.Routes.{prefixes_of, route_of, IsSound}
 use Rattle.fws_net.specs.SiteLines.{form_of, nets_meet, meets_loopback, is_same_net, share_name, address_count}
 use Rattle.fws_net.specs.SiteSpelling.{site2_text}
 use Rattle.fws_net.specs.SiteText.{site_of}

@@ -3,6 +3,7 @@ use Rattle.std.specs.Prelude.{ℕ, suc, ◌-◌, ◌*◌, ◌^◌, zero, Bool, t
 use Rattle.std.specs.Str.{bytes_eq}
 use Rattle.std.specs.Option.{ok_or}
 use Rattle.std.specs.List.{list_any, list_all}
+use Rattle.fws_iv.specs.Prefixes.{agree}
 use Rattle.fws_num.specs.declared.lines.Line.{Line}
 use Rattle.fws_num.specs.declared.prefix.Prefix.{Prefix}
 use Rattle.fws_num.specs.declared.word.Word.{Word}
@@ -21,7 +22,7 @@ use Rattle.fws_net.specs.declared.site.RouteLine.{RouteLine}
 use Rattle.fws_net.specs.declared.site.Side.{Side}
 use Rattle.fws_net.specs.declared.site.Site.{Site}
 use Rattle.fws_net.specs.Reading.{◌>>=◌, sound_read}
-use Rattle.fws_net.specs.Routes.{agree, has_addr}
+use Rattle.fws_net.specs.Routes.{has_addr}
 use Rattle.fws_net.specs.SiteWords.{is_word, name_of, names_of, names_and_side, address_of, net_of}
 
 -- What is read so far

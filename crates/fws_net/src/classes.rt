@@ -1,7 +1,7 @@
 //! The class of a packet, and its fate by class.
 
 ghost use Rattle.std.specs.Prelude.{◌≡◌};
-ghost use Rattle.fws_net.specs.Connections.{tuple_of, matches, inverse, class_of, est_port, est_sent, fate_in};
+ghost use Rattle.fws_net.specs.Connections.{tuple_of, matches, inverse, class_of, is_est, est_port, est_sent, fate_in};
 
 use crate::connection::{Conn, Kind, Rec, Tuple};
 use crate::outcome::{Fate, Outcome};
@@ -101,6 +101,18 @@ impl Outcome {
             (Outcome::Drop, _) => Fate::Dropped,
             (Outcome::Accept(rewrite), Kind::New) => rewrite.apply(p),
             (Outcome::Accept(_), Kind::Est(ends)) => ends.apply(p),
+        }
+    }
+}
+
+impl Kind {
+    /// Whether packets of the class belong to a tracked connection.
+    pub fn is_est(&self) -> bool
+        ensures { result ≡ is_est self.now }
+    {
+        match self {
+            Kind::New => false,
+            Kind::Est(_) => true,
         }
     }
 }

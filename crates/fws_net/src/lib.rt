@@ -15,6 +15,7 @@ mod outcome;
 mod packet;
 mod points;
 mod ports;
+mod rewriting;
 mod route_sets;
 mod routes;
 mod sending;
@@ -27,6 +28,7 @@ mod site_reader;
 mod site_spelling;
 mod site_text;
 mod site_words;
+mod transit;
 mod view;
 mod written_ends;
 
@@ -54,4 +56,5 @@ pub use site_laws::{
 };
 pub use site_spelling::put_site;
 pub use site_text::read_site;
+pub use transit::{Transit, outcome_of};
 pub use view::View;

@@ -3,8 +3,9 @@
 ghost use Rattle.std.specs.Prelude.{◌≡◌, ℕ, ◌+◌, ◌<◌, ◌≤◌, ◌^◌, ◌++◌, ◌&&◌, ◌||◌, nat_eq, nat_lt, length, map, IfOk, OnOk};
 ghost use Rattle.std.specs.List.{list_all};
 ghost use Rattle.fws_iv.specs.Ivs.{has, AreRanges};
-ghost use Rattle.fws_net.specs.RouteSets.{leads_alike, is_within, is_block, nets_within, block_entry, first_half, second_half, IsBlock, AreFrom};
-ghost use Rattle.fws_net.specs.Routes.{agree, led_to, net_line, nets_from, prefixes_of, route_of, IsSound};
+ghost use Rattle.fws_iv.specs.Prefixes.{agree, IsBlock};
+ghost use Rattle.fws_net.specs.RouteSets.{leads_alike, is_within, is_block, nets_within, block_entry, first_half, second_half, AreFrom};
+ghost use Rattle.fws_net.specs.Routes.{led_to, net_line, nets_from, prefixes_of, route_of, IsSound};
 
 use crate::routes::{FIRST_ENTRY, agree, net_line};
 use crate::site::{Address, Iface, RouteLine, Site};

@@ -2,8 +2,9 @@
 
 ghost use Rattle.std.specs.Prelude.{◌≡◌, ◌≤◌, length, map, [], ◌∷◌, Some};
 ghost use Rattle.std.specs.List.{list_any};
+ghost use Rattle.fws_iv.specs.Prefixes.{agree};
 ghost use Rattle.fws_net.specs.RouteLaws.{LongestPrefixesLead, RoutesAreEntries};
-ghost use Rattle.fws_net.specs.Routes.{agree, has_addr, is_loopback, is_local, joined, leads, longer, longest, net_line, nets_from, prefixes_of, route_of, exit_at, IsSound};
+ghost use Rattle.fws_net.specs.Routes.{has_addr, is_loopback, is_local, joined, leads, longer, longest, net_line, nets_from, prefixes_of, route_of, exit_at, IsSound};
 
 use crate::exit::Exit;
 use crate::site::{Address, Iface, RouteLine, Site};

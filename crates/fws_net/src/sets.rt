@@ -3,8 +3,9 @@
 ghost use Rattle.std.specs.Prelude.{◌≡◌, ℕ, ◌-◌, ◌≤◌, ◌^◌, [], ◌∷◌, ◌++◌, IfOk, OnOk};
 ghost use Rattle.std.specs.List.{list_any};
 ghost use Rattle.fws_iv.specs.Ivs.{has, with_ranges, AreRanges};
+ghost use Rattle.fws_iv.specs.Prefixes.{agree};
 ghost use Rattle.fws_net.specs.Faces.{all_own_ranges, block, local_parts, net_ranges, own_ranges, prefix_parts};
-ghost use Rattle.fws_net.specs.Routes.{agree, has_addr, is_local};
+ghost use Rattle.fws_net.specs.Routes.{has_addr, is_local};
 
 use crate::site::{Iface, Site};
 use fws_iv::{Iv, Ivs, one};

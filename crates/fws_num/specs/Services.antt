@@ -4,7 +4,8 @@ use Rattle.std.specs.Option.{option_map_or}
 use Rattle.fws_num.specs.Named.{named_in}
 use Rattle.fws_num.specs.Numbers.{dec_of}
 
--- services and their ports, as services(5) has them from IANA's registry of service names; lpd, rip and non500-isakmp are of Cisco IOS
+-- services and their ports, as services(5) has them from IANA's registry of service names; netbios-ss, lpd, rip and non500-isakmp
+-- are of Cisco IOS
 abbrev pub service_names : List (List ℕ × ℕ)
 service_names =
     (codes "ftp-data", 20) ∷ (codes "ftp", 21) ∷ (codes "ssh", 22) ∷ (codes "telnet", 23) ∷ (codes "smtp", 25) ∷

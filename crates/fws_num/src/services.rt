@@ -7,8 +7,8 @@ use crate::named::value_named;
 use crate::numbers::read_dec;
 
 /// Ports by the names of their services in services(5), which has them from IANA's registry of service
-/// names. `lpd`, `rip` and `non500-isakmp` are the names that the manuals of Cisco IOS have for the
-/// registry's `printer`, `router` and `ipsec-nat-t`.
+/// names. `netbios-ss`, `lpd`, `rip` and `non500-isakmp` are the names that the manuals of Cisco IOS
+/// have for the registry's `netbios-ssn`, `printer`, `router` and `ipsec-nat-t`.
 const SERVICES: [(&[u8], u16); 31] = [
     (b"ftp-data", 20),
     (b"ftp", 21),
@@ -51,9 +51,9 @@ fn service(name: &[u8]) -> Option<u16>
     value_named(&SERVICES, name)
 }
 
-/// The port that a decimal 0 to 65535 or the name of a service spells. The names are 28 of services(5),
+/// The port that a decimal 0 to 65535 or the name of a service spells. The names are 27 of services(5),
 /// which has them from IANA's registry of service names, with `www` beside `http` and `ident` for port
-/// 113, and `lpd`, `rip` and `non500-isakmp` of Cisco IOS.
+/// 113, and `netbios-ss`, `lpd`, `rip` and `non500-isakmp` of Cisco IOS.
 pub fn read_port(text: &[u8]) -> Option<u16>
     ensures { result ≡ port_of text.now }
 {

@@ -2,7 +2,7 @@
 
 ghost use Rattle.std.specs.Prelude.{◌≡◌, IfOk};
 ghost use Rattle.fws_net.specs.Routes.{IsSound};
-ghost use Rattle.fws_ipt.specs.Walk.{builtin_from, builtin_walk, visit, visits, arriving, delivered, forwarded, sent_out, go_to, routed, nothing_written, entering, way_of, outcome_of, walk};
+ghost use Rattle.fws_ipt.specs.Walk.{builtin_from, builtin_walk, visit, visits, arriving, delivered, forwarded, sent_out, go_to, routed, entering, way_of, outcome_of, walk};
 
 use crate::config::{IptConfig, IptTable};
 use crate::hook::Hook;
@@ -139,11 +139,6 @@ fn routed(alloc: Global, trip: &Trip, m: Passage) -> Result<Option<Passage>, Mem
     go_to(alloc, trip, exit, m)
 }
 
-const NOTHING_WRITTEN: Rewrite = Rewrite {
-    src: None,
-    dst: None,
-};
-
 /// The packet as it enters.
 fn entering(p: &Packet) -> Passage
     ensures { result ≡ entering p.now }
@@ -151,7 +146,7 @@ fn entering(p: &Packet) -> Passage
     Passage {
         packet: *p,
         mark: 0,
-        wrote: NOTHING_WRITTEN,
+        wrote: Rewrite::nothing(),
     }
 }
 
@@ -178,7 +173,7 @@ fn outcome_of(kind: &Kind, end: Option<Passage>) -> Outcome
         None => Outcome::Drop,
         Some(m) => match kind {
             Kind::New => Outcome::Accept(m.wrote),
-            Kind::Est(_) => Outcome::Accept(NOTHING_WRITTEN),
+            Kind::Est(_) => Outcome::Accept(Rewrite::nothing()),
         },
     }
 }

@@ -1,40 +1,18 @@
 //! What a rule writes over a packet, and what becomes of an established one (iptables-extensions(8)).
 
 ghost use Rattle.std.specs.Prelude.{◌≡◌};
-ghost use Rattle.fws_ipt.specs.Walk.{rewritten, with_wrote, with_src, with_dst, with_mark, writes_dst_at, writes_src_at, masquerades_at, redirect_addr, masqueraded, with_rec_dst, with_rec_src, tracked_at};
+ghost use Rattle.fws_ipt.specs.Walk.{with_wrote, with_src, with_dst, with_mark, writes_dst_at, writes_src_at, masquerades_at, redirect_addr, masqueraded, tracked_at};
 
 use crate::hook::Hook;
 use crate::passage::{ChainEnd, Passage};
-use fws_net::{End, Fate, LOOPBACK_ADDR, Packet, Rec, Rewrite, Site, face_addr};
-
-/// The packet that entered, with the ends over its fields.
-fn rewritten(p: &Packet, w: &Rewrite) -> Packet
-    ensures { result ≡ rewritten p.now w.now }
-{
-    let Fate::Sent {
-        dst,
-        dport,
-        src,
-        sport,
-    } = w.apply(p)
-    else {
-        unreachable!()
-    };
-    Packet {
-        dst,
-        dport,
-        src,
-        sport,
-        ..*p
-    }
-}
+use fws_net::{End, LOOPBACK_ADDR, Packet, Rec, Rewrite, Site, face_addr};
 
 /// The passage of the packet that entered as `p`, with these ends over its fields.
 fn with_wrote(p: &Packet, w: Rewrite, m: &Passage) -> Passage
     ensures { result ≡ with_wrote p.now w m.now }
 {
     Passage {
-        packet: rewritten(p, &w),
+        packet: p.rewritten(&w),
         wrote: w,
         ..*m
     }
@@ -123,38 +101,11 @@ pub(crate) fn masqueraded(site: &Site, p: &Packet, xmit: Option<u8>, m: &Passage
     }
 }
 
-/// The passage with the destination with which an established packet leaves.
-fn with_rec_dst(r: &Rec, m: &Passage) -> Passage
-    ensures { result ≡ with_rec_dst r.now m.now }
+/// The passage with these fields of the packet.
+fn with_packet(packet: Packet, m: &Passage) -> Passage
+    ensures { result ≡ record m.now { packet = packet } }
 {
-    let Fate::Sent { dst, dport, .. } = r.apply(&m.packet) else {
-        unreachable!()
-    };
-    Passage {
-        packet: Packet {
-            dst,
-            dport,
-            ..m.packet
-        },
-        ..*m
-    }
-}
-
-/// The passage with the source with which an established packet leaves.
-fn with_rec_src(r: &Rec, m: &Passage) -> Passage
-    ensures { result ≡ with_rec_src r.now m.now }
-{
-    let Fate::Sent { src, sport, .. } = r.apply(&m.packet) else {
-        unreachable!()
-    };
-    Passage {
-        packet: Packet {
-            src,
-            sport,
-            ..m.packet
-        },
-        ..*m
-    }
+    Passage { packet, ..*m }
 }
 
 /// What becomes of an established packet where a chain of nat stands.
@@ -162,8 +113,8 @@ pub(crate) fn tracked_at(r: &Rec, hook: Hook, m: &Passage) -> Passage
     ensures { result ≡ tracked_at r.now hook m.now }
 {
     match hook {
-        Hook::Prerouting | Hook::Output => with_rec_dst(r, m),
-        Hook::Input | Hook::Postrouting => with_rec_src(r, m),
+        Hook::Prerouting | Hook::Output => with_packet(m.packet.with_rec_dst(r), m),
+        Hook::Input | Hook::Postrouting => with_packet(m.packet.with_rec_src(r), m),
         Hook::Forward => *m,
     }
 }

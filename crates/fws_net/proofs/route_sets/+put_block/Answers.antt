@@ -1,7 +1,8 @@
 use Rattle.std.proofs.Common.{refl, rules, nat_eq, ◌<◌, ◌||◌, ap, sym, subst, ◌∙◌}
 use Rattle.std.specs.List.{list_all}
 use Rattle.fws_iv.specs.Ivs.{has}
-use Rattle.fws_net.specs.RouteSets.{leads_alike, IsBlock, AreFrom}
+use Rattle.fws_iv.specs.Prefixes.{IsBlock}
+use Rattle.fws_net.specs.RouteSets.{leads_alike, AreFrom}
 use Rattle.fws_net.proofs.Divided.{led_as_one, led_in_halves, half_from, short_block}
 use Rattle.fws_net.proofs.Halves.{first_half_is, second_half_is}
 use Rattle.fws_net.proofs.route_sets.+put_block.Goals as goal

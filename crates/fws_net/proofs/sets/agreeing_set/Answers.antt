@@ -2,7 +2,7 @@ use Rattle.std.proofs.Common.{ℕ, List, [], ◌∷◌, ◌≡◌, ap, ◌∙◌
 use Rattle.std.proofs.lemmas.Result.{IfOk-weaker}
 use Rattle.fws_iv.specs.declared.iv.Iv.{Iv}
 use Rattle.fws_iv.specs.Ivs.{has}
-use Rattle.fws_net.specs.Routes.{agree}
+use Rattle.fws_iv.specs.Prefixes.{agree}
 use Rattle.fws_net.proofs.Nets.{has_block}
 use Rattle.fws_net.proofs.sets.agreeing_set.Goals as goal
 
