@@ -1,1 +1,4 @@
+pub mod Boxed
+pub mod Meeting
+pub mod Placed
 pub mod SideBySide

@@ -1,14 +1,14 @@
 -- The test of a point, side by side.
 use Rattle.std.proofs.Common.{◌≡◌, ◌≢◌, ℕ, zero, suc, ◌+◌, ◌<◌, ◌≤◌, Bool, true, false, ◌&&◌, not, cond, List, [], ◌∷◌, ◌++◌, inl, inr, refl, sym, ◌∙◌, ap, subst, arith, get_or, set, take, drop, length, nat_le}
 use Rattle.std.proofs.lemmas.Bool.{and_from, or_left, le-leb, cases_lt}
-use Rattle.std.proofs.lemmas.List.{drop_more, get_or-set_other, take_all}
+use Rattle.std.proofs.lemmas.List.{drop_more, get_or-set_other, map-append, take_all, take_more, take_more_set}
 use Rattle.std.proofs.lemmas.List.Elements.{All-nil, All-cons}
 use Rattle.std.proofs.lemmas.Grind.{get_or-set_at}
 use Rattle.fws_iv.specs.declared.iv.Iv.{Iv}
 use Rattle.fws_iv.specs.Ivs.{in_part, has, IsRegular}
 use Rattle.fws_box.specs.declared.pbox.PBox.{PBox}
-use Rattle.fws_box.specs.Boxes.{box_hits}
-use Rattle.fws_box.specs.Sides.{sides_have, IsFilled, whole_sides}
+use Rattle.fws_box.specs.Boxes.{box_hits, sides_of}
+use Rattle.fws_box.specs.Sides.{sides_have, IsFilled, AreRegular, whole_sides}
 
 -- 1 where the test holds
 abbrev pub one : Bool → ℕ
@@ -66,42 +66,65 @@ have_all (s ∷ ss) [] n h = absurd (omega arith)
 have_all (s ∷ ss) (x ∷ p) n h =
     and_from (has s x) (sides_have ss p) (h zero s x (omega arith)) (have_all ss p (omega arith) (λ j d e lt. h (suc j) d e (omega arith)))
 
+-- ---- a side that is narrowed
+
+and_turn : (h o t r : Bool) → r ≡ (h && t) → (r && o) ≡ ((h && o) && t)
+and_turn true true t r e = rw e (same t)
+  where
+    same : (t : Bool) → (t && true) ≡ t
+    same true = refl
+    same false = refl
+and_turn true false t r e = rw e (none t)
+  where
+    none : (t : Bool) → (t && false) ≡ false
+    none true = refl
+    none false = refl
+and_turn false o t r e = rw e refl
+
+-- a narrower side
+pub narrowed : (k : ℕ) (ss : List (List Iv)) (r d t : List Iv) (p : List ℕ) → k < length ss → length p ≡ length ss
+    → ((v : ℕ) → has r v ≡ (has (get_or ss k d) v && has t v)) → sides_have (set ss k r) p ≡ (sides_have ss p && has t (get_or p k 0))
+narrowed k ss r d t p lt n h =
+    let x : ℕ = get_or p k 0 in
+    set_side k ss p r 0 lt n
+    ∙ and_turn (has (get_or ss k d) x) (others k ss p) (has t x) (has r x) (h x)
+    ∙ ap (λ b. b && has t x) (sym (at_side k ss p d 0 lt n))
+
+nowhere : (a o t : Bool) → false ≡ (a && t) → false ≡ ((a && o) && t)
+nowhere true true t e = e
+nowhere true false t e = refl
+nowhere false o t e = refl
+
+-- an empty side
+pub emptied : (k : ℕ) (ss : List (List Iv)) (r d t : List Iv) (p : List ℕ) → k < length ss → length p ≡ length ss
+    → ((v : ℕ) → has r v ≡ (has (get_or ss k d) v && has t v)) → r ≡ [] → false ≡ (sides_have ss p && has t (get_or p k 0))
+emptied k ss r d t p lt n h e =
+    let x : ℕ = get_or p k 0 in
+    nowhere (has (get_or ss k d) x) (others k ss p) (has t x) (ap (λ s. has s x) (sym e) ∙ h x)
+    ∙ ap (λ b. b && has t x) (sym (at_side k ss p d 0 lt n))
+
 -- ---- sides in common
 
-and_both : (a b c d : Bool) → ((a && b) && (c && d)) ≡ ((a && c) && (b && d))
-and_both true b true d = refl
-and_both true true false d = refl
-and_both true false false d = refl
-and_both false b c d = refl
+and_first : (a b c m : Bool) → m ≡ (a && b) → (m && c) ≡ (a && (b && c))
+and_first true b c m e = ap (λ x. x && c) e
+and_first false b c m e = ap (λ x. x && c) e
 
--- sides that have what both have
-pub meet_all : (m a b : List (List Iv)) (p : List ℕ) → length p ≡ length m → length a ≡ length m → length b ≡ length m
-    → ((j : ℕ) (d : List Iv) → j < length m → (v : ℕ) → has (get_or m j d) v ≡ (has (get_or a j d) v && has (get_or b j d) v))
-    → sides_have m p ≡ (sides_have a p && sides_have b p)
-meet_all [] [] [] p n k l h = refl
-meet_all [] [] (t ∷ b) p n k l h = absurd (omega arith)
-meet_all [] (s ∷ a) b p n k l h = absurd (omega arith)
-meet_all (r ∷ m) [] b p n k l h = absurd (omega arith)
-meet_all (r ∷ m) (s ∷ a) [] p n k l h = absurd (omega arith)
-meet_all (r ∷ m) (s ∷ a) (t ∷ b) [] n k l h = absurd (omega arith)
-meet_all (r ∷ m) (s ∷ a) (t ∷ b) (x ∷ p) n k l h =
-    ap (λ c. c && sides_have m p) (h zero s (omega arith) x)
-    ∙ ap (λ c. (has s x && has t x) && c) (meet_all m a b p (omega arith) (omega arith) (omega arith) (λ j d lt v. h (suc j) d (omega arith) v))
-    ∙ sym (and_both (has s x) (sides_have a p) (has t x) (sides_have b p))
+-- one side more of the other box
+pub meet_next : (k : ℕ) (a m : Bool) (b : List (List Iv)) (p : List ℕ) → k < length b → length p ≡ length b → m ≡ (a && has (get_or b k []) (get_or p k 0))
+    → (m && sides_have (drop (k + 1) b) (drop (k + 1) p)) ≡ (a && sides_have (drop k b) (drop k p))
+meet_next k a m b p lt n e =
+    and_first a (has (get_or b k []) (get_or p k 0)) (sides_have (drop (k + 1) b) (drop (k + 1) p)) m e
+    ∙ ap (λ x. a && x) (sym (left_more k b p [] 0 lt n))
 
-apart : (a b c d : Bool) → false ≡ (a && c) → false ≡ ((a && b) && (c && d))
-apart true b true d e = absurd (cc)
-apart true true false d e = refl
-apart true false false d e = refl
-apart false b c d e = refl
+and_true : (a : Bool) → a ≡ (a && true)
+and_true true = refl
+and_true false = refl
 
--- sides of one field without a common value
-pub meet_none : (k : ℕ) (a b : List (List Iv)) (d e : List Iv) (p : List ℕ) → k < length a → length p ≡ length a → length b ≡ length a
-    → ((v : ℕ) → false ≡ (has (get_or a k d) v && has (get_or b k e) v)) → false ≡ (sides_have a p && sides_have b p)
-meet_none k a b d e p lt n l h =
-    let x : ℕ = get_or p k 0 in
-    apart (has (get_or a k d) x) (others k a p) (has (get_or b k e) x) (others k b p) (h x)
-    ∙ sym (ap (λ c. c && sides_have b p) (at_side k a p d 0 lt n) ∙ ap (λ c. (has (get_or a k d) x && others k a p) && c) (at_side k b p e 0 (omega arith) (omega arith)))
+-- no side is left
+pub meet_end : (k : ℕ) (a : Bool) (b : List (List Iv)) (p : List ℕ) → length b ≡ k → a ≡ (a && sides_have (drop k b) p)
+meet_end k a b p n = and_true a ∙ ap (λ x. a && x) (sym (left_none k b p n))
+
+-- ---- sides with a member
 
 -- within a list the default is of no account
 default : (xs : List (List Iv)) (k : ℕ) (d e : List Iv) → k < length xs → get_or xs k d ≡ get_or xs k e
@@ -109,40 +132,35 @@ default [] k d e lt = absurd (omega arith)
 default (x ∷ xs) zero d e lt = refl
 default (x ∷ xs) (suc k) d e lt = default xs k d e (omega arith)
 
--- the sides below the index have what both have
-abbrev pub MeetBelow : ℕ → List (List Iv) → List (List Iv) → List (List Iv) → Type 0
-MeetBelow k m a b = (j : ℕ) (d : List Iv) → j < k → (v : ℕ) → has (get_or m j d) v ≡ (has (get_or a j d) v && has (get_or b j d) v)
+-- each side below the index has its value
+abbrev pub ChosenBelow : ℕ → List (List Iv) → List ℕ → Type 0
+ChosenBelow k sides point = (j : ℕ) (d : List Iv) (e : ℕ) → j < k → has (get_or sides j d) (get_or point j e) ≡ true
+
+-- one value more
+pub chosen_more : (k : ℕ) (sides : List (List Iv)) (point : List ℕ) (x : ℕ) → k < length sides → k < length point → has (get_or sides k []) x ≡ true
+    → ChosenBelow k sides point → ChosenBelow (k + 1) sides (set point k x)
+chosen_more k sides point x ls lp here before j d e below = elim (cases_lt j k) [
+  | inl less ↦ let ne : j ≢ k = omega arith in ap (λ v. has (get_or sides j d) v) (get_or-set_other point k j x e ne) ∙ before j d e less
+  | inr more ↦
+      let is : j ≡ k = omega arith in
+      let side : get_or sides j d ≡ get_or sides k [] = default sides j d [] (omega arith) ∙ ap (λ i. get_or sides i []) is in
+      ap (λ v. has (get_or sides j d) v) (get_or-set_at point k j x e is lp) ∙ ap (λ s. has s x) side ∙ here
+]
 
 -- each side below the index has a member
 abbrev pub MemberBelow : ℕ → List (List Iv) → Type 0
 MemberBelow k m = (j : ℕ) (d : List Iv) → j < k → (v : ℕ) × (has (get_or m j d) v ≡ true)
 
--- one more side
-pub meet_more : (k : ℕ) (m a b : List (List Iv)) (r f g : List Iv) → k < length m → length a ≡ length m → length b ≡ length m
-    → ((v : ℕ) → has r v ≡ (has (get_or a k f) v && has (get_or b k g) v)) → MeetBelow k m a b → MeetBelow (k + 1) (set m k r) a b
-meet_more k m a b r f g lt la lb h before j d below v = elim (cases_lt j k) [
-  | inl less ↦ let ne : j ≢ k = omega arith in ap (λ u. has u v) (get_or-set_other m k j r d ne) ∙ before j d less v
-  | inr more ↦
-      let e : j ≡ k = omega arith in
-      let aj : get_or a k f ≡ get_or a j d = default a k f d (omega arith) ∙ ap (λ i. get_or a i d) (sym e) in
-      let bj : get_or b k g ≡ get_or b j d = default b k g d (omega arith) ∙ ap (λ i. get_or b i d) (sym e) in
-      ap (λ u. has u v) (get_or-set_at m k j r d e lt) ∙ h v ∙ ap (λ u. has u v && has (get_or b k g) v) aj ∙ ap (λ u. has (get_or a j d) v && has u v) bj
-]
+-- the least number of a set is a member
+pub least_of : (s : List Iv) (d : Iv) → IsRegular s → s ≢ [] → has s (get_or s 0 d).lo ≡ true
+least_of [] d r ne = absurd (ne refl)
+least_of (x ∷ s) d r ne = or_left (in_part x x.lo) (has s x.lo) (and_from (nat_le x.lo x.lo) (nat_le x.lo x.hi) (le-leb x.lo x.lo (omega arith)) (le-leb x.lo x.hi r.1))
 
-pub member_more : (k : ℕ) (m : List (List Iv)) (r : List Iv) → k < length m → (v : ℕ) × (has r v ≡ true) → MemberBelow k m → MemberBelow (k + 1) (set m k r)
-member_more k m r lt here before j d below = elim (cases_lt j k) [
-  | inl less ↦ let ne : j ≢ k = omega arith in let w = before j d less in (w.0, ap (λ u. has u w.0) (get_or-set_other m k j r d ne) ∙ w.1)
-  | inr more ↦ let e : j ≡ k = omega arith in (here.0, ap (λ u. has u here.0) (get_or-set_at m k j r d e lt) ∙ here.1)
-]
-
--- a regular set that is not empty has a member
-pub member_of : (s : List Iv) → IsRegular s → 0 < length s → (v : ℕ) × (has s v ≡ true)
-member_of [] r lt = absurd (omega arith)
-member_of (x ∷ s) r lt = (x.lo, or_left (in_part x x.lo) (has s x.lo) (and_from (nat_le x.lo x.lo) (nat_le x.lo x.hi) (le-leb x.lo x.lo (omega arith)) (le-leb x.lo x.hi r.1)))
-
--- sides with a member are filled
-pub filled_members : (m : List (List Iv)) → MemberBelow (length m) m → IsFilled m
-filled_members m h k d lt e = let w = h k d lt in let f : has [] w.0 ≡ true = ap (λ u. has u w.0) (sym e) ∙ w.1 in absurd (cc)
+-- filled and regular sides have members
+pub members : (m : List (List Iv)) → IsFilled m → AreRegular m → MemberBelow (length m) m
+members m filled regular j d lt =
+    let x : Iv = record { lo = 0; hi = 0 } in
+    ((get_or (get_or m j d) 0 x).lo, least_of (get_or m j d) x (regular j d lt) (filled j d lt))
 
 whole_filled : (tops : List ℕ) → IsFilled (whole_sides tops)
 whole_filled [] = All-nil _
@@ -151,6 +169,25 @@ whole_filled (top ∷ tops) = All-cons (λ s. s ≢ []) (record { lo = 0; hi = t
 -- whole ranges are filled
 pub filled_made : (k : ℕ) (sides : List (List Iv)) (tops : List ℕ) → length sides ≤ k → take k sides ≡ whole_sides (take k tops) → IsFilled sides
 filled_made k sides tops n e = subst IsFilled (sym e ∙ take_all k sides n) (whole_filled (take k tops))
+
+whole_regular : (tops : List ℕ) → AreRegular (whole_sides tops)
+whole_regular [] = All-nil _
+whole_regular (top ∷ tops) = All-cons IsRegular (record { lo = 0; hi = top } ∷ []) (whole_sides tops) (omega arith, omega arith, _) (whole_regular tops)
+
+-- whole ranges are regular
+pub regular_made : (k : ℕ) (sides : List (List Iv)) (tops : List ℕ) → length sides ≤ k → take k sides ≡ whole_sides (take k tops) → AreRegular sides
+regular_made k sides tops n e = subst AreRegular (sym e ∙ take_all k sides n) (whole_regular (take k tops))
+
+-- one more whole range
+pub made_more : (sides : List (List Iv)) (tops : List ℕ) (k : ℕ) (s : List Iv) → k < length sides → k < length tops → s ≡ record { lo = 0; hi = get_or tops k 0 } ∷ []
+    → take k sides ≡ whole_sides (take k tops) → take (k + 1) (set sides k s) ≡ whole_sides (take (k + 1) tops)
+made_more sides tops k s ls lt is made =
+    let whole : ℕ → List Iv = λ top. record { lo = 0; hi = top } ∷ [] in
+    take_more_set sides k s ls
+    ∙ ap (λ t. t ++ s ∷ []) made
+    ∙ ap (λ x. whole_sides (take k tops) ++ x ∷ []) is
+    ∙ sym (map-append whole (take k tops) (get_or tops k 0 ∷ []))
+    ∙ ap whole_sides (sym (take_more tops k 0 lt))
 
 -- sides of which each has a member have a point
 pub point_of : (m : List (List Iv)) → MemberBelow (length m) m
@@ -163,7 +200,7 @@ point_of (s ∷ m) h =
 
 -- ---- pieces
 
-pub box_hits-push : (bs : List PBox) (b : PBox) (p : List ℕ) → box_hits (bs ++ b ∷ []) p ≡ box_hits bs p + one (sides_have b.sides p)
+pub box_hits-push : (bs : List PBox) (b : PBox) (p : List ℕ) → box_hits (bs ++ b ∷ []) p ≡ box_hits bs p + one (sides_have (sides_of b) p)
 box_hits-push [] b p = omega arith
 box_hits-push (c ∷ bs) b p = let e = box_hits-push bs b p in omega (arith, e)
 
@@ -178,7 +215,7 @@ outside true false t r e = rw e (never (not t))
 outside false o t r e = ap (λ c. one (c && o)) e
 
 -- one more piece: the points whose value of the field is outside the set
-pub hits_outside : (bs : List PBox) (b : PBox) (k : ℕ) (ss : List (List Iv)) (r d t : List Iv) (p : List ℕ) → k < length ss → length p ≡ length ss → b.sides ≡ set ss k r
+pub hits_outside : (bs : List PBox) (b : PBox) (k : ℕ) (ss : List (List Iv)) (r d t : List Iv) (p : List ℕ) → k < length ss → length p ≡ length ss → sides_of b ≡ set ss k r
     → ((v : ℕ) → has r v ≡ (has (get_or ss k d) v && not (has t v)))
     → box_hits (bs ++ b ∷ []) p ≡ box_hits bs p + one (sides_have ss p && not (has t (get_or p k 0)))
 hits_outside bs b k ss r d t p lt n is h =
@@ -235,16 +272,19 @@ cut_more k ss other r d e p lt n l h =
     ∙ ap (λ c. one (c && not (t && u))) (sym whole)
     ∙ ap (λ c. one (sides_have ss p && not c)) (sym (left_more k other p e 0 (omega arith) (omega arith)))
 
+apart : (s t u : Bool) → false ≡ (s && t) → one s ≡ one (s && not (t && u))
+apart true true u e = absurd (cc)
+apart true false u e = refl
+apart false t u e = refl
+
 -- where the boxes share no value of the field, that was all
-pub cut_last : (k : ℕ) (ss other : List (List Iv)) (r d e : List Iv) (p : List ℕ) → k < length ss → length p ≡ length ss → length other ≡ length ss
-    → ((v : ℕ) → has r v ≡ (has (get_or ss k d) v && has (get_or other k e) v)) → r ≡ []
-    → one (sides_have ss p && not (has (get_or other k e) (get_or p k 0))) ≡ one (sides_have ss p && not (sides_have (drop k other) (drop k p)))
-cut_last k ss other r d e p lt n l h none =
-    let u : Bool = sides_have (drop (k + 1) other) (drop (k + 1) p) in
-    let m = cut_more k ss other r d e p lt n l h in
-    let f : sides_have (set ss k r) p ≡ false = set_side k ss p r 0 lt n ∙ ap (λ o. has o (get_or p k 0) && others k ss p) none in
-    let g = ap (λ c. one (c && not u)) f in
-    omega (arith, m, g)
+pub cut_apart : (k : ℕ) (ss other : List (List Iv)) (r e : List Iv) (p : List ℕ) → k < length ss → length p ≡ length ss → length other ≡ length ss
+    → ((v : ℕ) → has r v ≡ (has (get_or ss k e) v && has (get_or other k e) v)) → r ≡ []
+    → one (sides_have ss p) ≡ one (sides_have ss p && not (sides_have (drop k other) (drop k p)))
+cut_apart k ss other r e p lt n l h none =
+    let x : ℕ = get_or p k 0 in
+    apart (sides_have ss p) (has (get_or other k e) x) (sides_have (drop (k + 1) other) (drop (k + 1) p)) (emptied k ss r e (get_or other k e) p lt n h none)
+    ∙ ap (λ c. one (sides_have ss p && not c)) (sym (left_more k other p e 0 (omega arith) (omega arith)))
 
 never : (a : Bool) → one (a && false) ≡ 0
 never true = refl

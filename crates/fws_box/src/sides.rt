@@ -1,8 +1,9 @@
-//! The sides of a box.
+//! The sides of a box: a set of values for each field.
 
-ghost use Rattle.std.specs.Prelude.{◌≡◌, length, All, [], IfOk};
+ghost use Rattle.std.specs.Prelude.{◌≡◌, ◌&&◌, ℕ, List, IfOk};
+ghost use Rattle.fws_box.specs.Sides.{sides_have, whole_sides};
 
-use fws_iv::Ivs;
+use fws_iv::{Ivs, one};
 use fws_num::Memory;
 use std::alloc::Global;
 use std::array;
@@ -10,6 +11,17 @@ use std::array;
 /// Twelve sets without a member.
 pub fn no_sides(alloc: Global) -> [Ivs; 12] {
     array::from_fn(|_| Ivs::none(alloc))
+}
+
+/// The whole range of each field, up to its top. An error is want of memory.
+pub fn whole_sides(alloc: Global, tops: &[u32; 12]) -> Result<[Ivs; 12], Memory>
+    ensures { IfOk result (λ sides. sides ≡ whole_sides tops.now) }
+{
+    let mut sides = no_sides(alloc);
+    for k in 0..12 {
+        sides[k] = one(alloc, 0, tops[k])?;
+    }
+    Ok(sides)
 }
 
 /// Equal sides. An error is want of memory.
@@ -21,4 +33,16 @@ pub fn copy_sides(alloc: Global, sides: &[Ivs; 12]) -> Result<[Ivs; 12], Memory>
         copies[k] = sides[k].copy(alloc)?;
     }
     Ok(copies)
+}
+
+/// The sides of the points that lie in both. The time is linear in the number of intervals. An error
+/// is want of memory.
+pub fn meet_sides(alloc: Global, a: &[Ivs; 12], b: &[Ivs; 12]) -> Result<[Ivs; 12], Memory>
+    ensures { IfOk result (λ m. (p : List ℕ) → sides_have m p ≡ (sides_have a.now p && sides_have b.now p)) }
+{
+    let mut met = no_sides(alloc);
+    for k in 0..12 {
+        met[k] = a[k].inter(alloc, &b[k])?;
+    }
+    Ok(met)
 }

@@ -3,11 +3,10 @@ use Rattle.std.proofs.Common.{◌≡◌, ℕ, Bool, true, false, ◌&&◌, ◌||
 use Rattle.std.proofs.lemmas.Bool.{and_parts, leb-true}
 use Rattle.fws_iv.specs.declared.iv.Iv.{Iv}
 use Rattle.fws_iv.specs.Ivs.{has}
-use Rattle.fws_box.specs.Sides.{sides_have, whole_sides}
-use Rattle.fws_tree.specs.Plain.{IsWithin}
+use Rattle.fws_box.specs.Sides.{sides_have, whole_sides, IsWithin}
 use Rattle.fws_net.specs.declared.site.Site.{Site}
 use Rattle.fws_net.specs.Points.{tops_of}
-use Rattle.fws_exec.specs.Splits.{IsOfSite}
+use Rattle.fws_exec.specs.Areas.{IsOfSite}
 
 pub or_false : (b : Bool) → (b || false) ≡ b
 or_false true = refl

@@ -1,54 +1,26 @@
 -- Counting the boxes that have a point.
-use Rattle.std.proofs.Common.{◌≡◌, ℕ, ◌+◌, ◌<◌, ◌≤◌, Bool, true, false, ◌&&◌, not, cond, nat_eq, List, [], ◌∷◌, ◌++◌, length, take, get_or, set, refl, sym, ap, subst, ◌∙◌, arith}
+use Rattle.std.proofs.Common.{◌≡◌, ℕ, ◌+◌, ◌<◌, ◌≤◌, Bool, true, false, ◌&&◌, not, cond, nat_eq, List, [], ◌∷◌, ◌++◌, length, take, get_or, refl, sym, ap, subst, ◌∙◌, arith}
 use Rattle.std.proofs.lemmas.Bool.{ne_eqb}
 use Rattle.std.proofs.lemmas.List.{take_more, take_all}
 use Rattle.fws_iv.specs.declared.iv.Iv.{Iv}
-use Rattle.fws_iv.specs.Ivs.{has}
 use Rattle.fws_box.specs.declared.pbox.PBox.{PBox}
-use Rattle.fws_box.specs.Boxes.{box_hits}
+use Rattle.fws_box.specs.Boxes.{box_hits, sides_of}
 use Rattle.fws_box.specs.Sides.{sides_have}
-use Rattle.fws_exec.proofs.SideBySide.{one, others, at_side, set_side, box_hits-push}
 use Rattle.fws_exec.specs.Kept.{Adds, AddsThose, AreThose}
-use Rattle.fws_exec.specs.Splits.{AreWhere}
+use Rattle.fws_exec.specs.Areas.{AreWhere}
 
-and_turn : (h o t r : Bool) → r ≡ (h && t) → (r && o) ≡ ((h && o) && t)
-and_turn true true t r e = rw e (same t)
-  where
-    same : (t : Bool) → (t && true) ≡ t
-    same true = refl
-    same false = refl
-and_turn true false t r e = rw e (none t)
-  where
-    none : (t : Bool) → (t && false) ≡ false
-    none true = refl
-    none false = refl
-and_turn false o t r e = rw e refl
+-- 1 where the test holds
+abbrev pub one : Bool → ℕ
+one b = cond b 1 0
 
--- a narrower side
-pub narrowed : (k : ℕ) (ss : List (List Iv)) (r d t : List Iv) (p : List ℕ) → k < length ss → length p ≡ length ss
-    → ((v : ℕ) → has r v ≡ (has (get_or ss k d) v && has t v)) → sides_have (set ss k r) p ≡ (sides_have ss p && has t (get_or p k 0))
-narrowed k ss r d t p lt n h =
-    let x : ℕ = get_or p k 0 in
-    set_side k ss p r 0 lt n
-    ∙ and_turn (has (get_or ss k d) x) (others k ss p) (has t x) (has r x) (h x)
-    ∙ ap (λ b. b && has t x) (sym (at_side k ss p d 0 lt n))
-
-never : (a o t : Bool) → false ≡ (a && t) → false ≡ ((a && o) && t)
-never true true t e = e
-never true false t e = refl
-never false o t e = refl
-
--- an empty side
-pub emptied : (k : ℕ) (ss : List (List Iv)) (r d t : List Iv) (p : List ℕ) → k < length ss → length p ≡ length ss
-    → ((v : ℕ) → has r v ≡ (has (get_or ss k d) v && has t v)) → r ≡ [] → false ≡ (sides_have ss p && has t (get_or p k 0))
-emptied k ss r d t p lt n h e =
-    let x : ℕ = get_or p k 0 in
-    never (has (get_or ss k d) x) (others k ss p) (has t x) (ap (λ s. has s x) (sym e) ∙ h x)
-    ∙ ap (λ b. b && has t x) (sym (at_side k ss p d 0 lt n))
+-- one more box
+pub box_hits-push : (bs : List PBox) (b : PBox) (p : List ℕ) → box_hits (bs ++ b ∷ []) p ≡ box_hits bs p + one (sides_have (sides_of b) p)
+box_hits-push [] b p = omega arith
+box_hits-push (c ∷ bs) b p = let e = box_hits-push bs b p in omega (arith, e)
 
 -- a narrower box, if there is one, is added
 pub adds_some : (area : List (List Iv)) (test : List ℕ → Bool) (old : List PBox) (b : PBox)
-    → ((p : List ℕ) → length p ≡ 12 → sides_have b.sides p ≡ (sides_have area p && test p)) → Adds area test old (old ++ b ∷ [])
+    → ((p : List ℕ) → length p ≡ 12 → sides_have (sides_of b) p ≡ (sides_have area p && test p)) → Adds area test old (old ++ b ∷ [])
 adds_some area test old b h p n = box_hits-push old b p ∙ ap (λ c. box_hits old p + one c) (h p n)
 
 pub adds_none : (area : List (List Iv)) (test : List ℕ → Bool) (old : List PBox)
@@ -71,14 +43,14 @@ step false false base seen out new a b = omega (arith, a, b)
 
 -- one more box
 pub those_more : (base seen : List PBox) (b : PBox) (test : List ℕ → Bool) (out new : List PBox)
-    → AddsThose seen test base out → Adds b.sides test out new → AddsThose (seen ++ b ∷ []) test base new
+    → AddsThose seen test base out → Adds (sides_of b) test out new → AddsThose (seen ++ b ∷ []) test base new
 those_more base seen b test out new a h p n =
-    step (test p) (sides_have b.sides p) (box_hits base p) (box_hits seen p) (box_hits out p) (box_hits new p) (a p n) (h p n)
+    step (test p) (sides_have (sides_of b) p) (box_hits base p) (box_hits seen p) (box_hits out p) (box_hits new p) (a p n) (h p n)
     ∙ ap (λ m. box_hits base p + cond (test p) m 0) (sym (box_hits-push seen b p))
 
 -- one more box of a list
 pub those_next : (base boxes : List PBox) (i : ℕ) (b : PBox) (test : List ℕ → Bool) (out new : List PBox) → i < length boxes → b ≡ get_or boxes i b
-    → AddsThose (take i boxes) test base out → Adds b.sides test out new → AddsThose (take (i + 1) boxes) test base new
+    → AddsThose (take i boxes) test base out → Adds (sides_of b) test out new → AddsThose (take (i + 1) boxes) test base new
 those_next base boxes i b test out new lt is a h =
     subst (λ seen. AddsThose seen test base new) (ap (λ x. take i boxes ++ x ∷ []) is ∙ sym (take_more boxes i b lt))
     (those_more base (take i boxes) b test out new a h)
@@ -131,12 +103,12 @@ zero_more false n = right (nat_eq n 0) ∙ ap (λ m. nat_eq m 0) (omega arith)
 
 -- one more box is cut out
 pub cut_next : (area : List (List Iv)) (boxes : List PBox) (i : ℕ) (b : PBox) (left new : List PBox) → i < length boxes → b ≡ get_or boxes i b
-    → AreWhere area (λ p. nat_eq (box_hits (take i boxes) p) 0) left → AreThose left (λ p. not (sides_have b.sides p)) new
+    → AreWhere area (λ p. nat_eq (box_hits (take i boxes) p) 0) left → AreThose left (λ p. not (sides_have (sides_of b) p)) new
     → AreWhere area (λ p. nat_eq (box_hits (take (i + 1) boxes) p) 0) new
 cut_next area boxes i b left new lt is e f =
-    where_same area (λ p. nat_eq (box_hits (take i boxes) p) 0 && not (sides_have b.sides p)) (λ p. nat_eq (box_hits (take (i + 1) boxes) p) 0) new
-    (where_those area (λ p. nat_eq (box_hits (take i boxes) p) 0) (λ p. not (sides_have b.sides p)) left new e f)
-    (λ p n h. zero_more (sides_have b.sides p) (box_hits (take i boxes) p)
+    where_same area (λ p. nat_eq (box_hits (take i boxes) p) 0 && not (sides_have (sides_of b) p)) (λ p. nat_eq (box_hits (take (i + 1) boxes) p) 0) new
+    (where_those area (λ p. nat_eq (box_hits (take i boxes) p) 0) (λ p. not (sides_have (sides_of b) p)) left new e f)
+    (λ p n h. zero_more (sides_have (sides_of b) p) (box_hits (take i boxes) p)
     ∙ ap (λ m. nat_eq m 0) (sym (box_hits-push (take i boxes) b p) ∙ ap (λ bs. box_hits bs p) (ap (λ x. take i boxes ++ x ∷ []) is ∙ sym (take_more boxes i b lt))))
 
 pub cut_ended : (area : List (List Iv)) (boxes : List PBox) (i : ℕ) (left : List PBox) → length boxes ≤ i

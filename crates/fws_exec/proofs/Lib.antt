@@ -4,5 +4,4 @@ pub mod Counting
 pub mod Dividing
 pub mod Routing
 pub mod Showing
-pub mod SideBySide
 pub mod Values

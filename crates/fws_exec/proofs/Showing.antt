@@ -1,13 +1,10 @@
 -- What a rule sees of the packets of an area.
-use Rattle.std.proofs.Common.{◌≡◌, ℕ, zero, suc, ◌+◌, ◌<◌, ◌≤◌, Bool, true, false, ◌&&◌, ◌||◌, not, cond, nat_eq, Some, None, List, [], ◌∷◌, ◌++◌, length, get_or, refl, sym, ap, ◌∙◌, arith}
-use Rattle.std.proofs.lemmas.Bool.{and_parts}
+use Rattle.std.proofs.Common.{◌≡◌, ℕ, zero, suc, ◌+◌, ◌<◌, ◌≤◌, Bool, true, false, ◌&&◌, ◌||◌, not, cond, nat_eq, Some, None, List, [], ◌∷◌, ◌++◌, length, get_or, refl, ap, ◌∙◌, arith}
 use Rattle.fws_iv.specs.declared.iv.Iv.{Iv}
 use Rattle.fws_iv.specs.Ivs.{has}
 use Rattle.fws_box.specs.declared.pbox.PBox.{PBox}
 use Rattle.fws_box.specs.Boxes.{box_hits}
-use Rattle.fws_box.specs.Sides.{sides_have}
-use Rattle.fws_exec.proofs.SideBySide.{one, others, at_side}
-use Rattle.fws_tree.specs.Plain.{IsWithin}
+use Rattle.fws_box.specs.Sides.{sides_have, IsWithin}
 use Rattle.fws_net.specs.declared.exit.Exit.TheVariants.{Deliver, Out, Lost}
 use Rattle.fws_net.specs.Conditions.{is_shown}
 use Rattle.fws_net.specs.Fates.{has_ports}
@@ -16,14 +13,8 @@ use Rattle.fws_exec.specs.declared.scene.Standing.{Standing}
 use Rattle.fws_exec.specs.declared.scene.Standing.TheVariants.{Entered, Written, Tracked}
 use Rattle.fws_exec.specs.Ports.{carried_port}
 use Rattle.fws_exec.specs.Scenes.{standing_port}
-use Rattle.fws_exec.specs.Splits.{AreWhere}
-use Rattle.fws_exec.proofs.Counting.{box_hits-append}
-
--- a point of an area has its values in the sides
-pub in_side : (k : ℕ) (ss : List (List Iv)) (p : List ℕ) (d : List Iv) → k < length ss → length p ≡ length ss → sides_have ss p ≡ true
-    → has (get_or ss k d) (get_or p k 0) ≡ true
-in_side k ss p d lt n h =
-    let both = and_parts (has (get_or ss k d) (get_or p k 0)) (others k ss p) (sym (at_side k ss p d 0 lt n) ∙ h) in both.0
+use Rattle.fws_exec.specs.Areas.{AreWhere}
+use Rattle.fws_exec.proofs.Counting.{one, box_hits-append}
 
 -- a value is no greater than its top
 pub within_top : (tops p : List ℕ) (k : ℕ) → IsWithin tops p → k < length tops → get_or p k 0 ≤ get_or tops k 0

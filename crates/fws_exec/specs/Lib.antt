@@ -1,4 +1,5 @@
+pub mod Areas
 pub mod Kept
 pub mod Ports
 pub mod Scenes
-pub mod Splits
+pub mod Ways

@@ -1,5 +1,7 @@
 -- What a rule sees of the packet of a point.
-use Rattle.std.specs.Prelude.{ℕ, ◌+◌, ◌-◌, ◌%◌, ◌^◌, Some, None, List, slice_index, if◌then◌else◌}
+use Rattle.std.specs.Prelude.{ℕ, ◌+◌, ◌-◌, ◌%◌, ◌^◌, Some, None, List, if◌then◌else◌}
+use Rattle.fws_box.specs.declared.field.Field.TheVariants.{Proto, Dst, Dport, Src, Sport, SentDst, SentDport, SentSrc, SentSport}
+use Rattle.fws_box.specs.Fields.{value_of}
 use Rattle.fws_net.specs.declared.packet.Packet.{Packet}
 use Rattle.fws_net.specs.declared.site.Site.{Site}
 use Rattle.fws_net.specs.declared.view.View.{View}
@@ -26,10 +28,10 @@ standing_port Tracked proto p r = est_port proto r p
 -- the packet of a point, as it stands
 abbrev pub standing_packet : Scene → List ℕ → Packet
 standing_packet scene p = record (packet_of p) {
-  dst = standing_addr scene.dst (slice_index p 2) (slice_index p 8);
-  dport = standing_port scene.dst (slice_index p 1) (slice_index p 3) (slice_index p 9);
-  src = standing_addr scene.src (slice_index p 4) (slice_index p 10);
-  sport = standing_port scene.src (slice_index p 1) (slice_index p 5) (slice_index p 11);
+  dst = standing_addr scene.dst (value_of p Dst) (value_of p SentDst);
+  dport = standing_port scene.dst (value_of p Proto) (value_of p Dport) (value_of p SentDport);
+  src = standing_addr scene.src (value_of p Src) (value_of p SentSrc);
+  sport = standing_port scene.src (value_of p Proto) (value_of p Sport) (value_of p SentSport);
 }
 
 -- what a rule sees of the packet of a point

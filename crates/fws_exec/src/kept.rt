@@ -1,76 +1,63 @@
 //! What is kept of boxes.
 
-ghost use Rattle.std.specs.Prelude.{◌≡◌, ◌&&◌, ◌<◌, ℕ, List, length, true, false, IfOk, OnOk, option_map, unwrap_or, slice_index};
+ghost use Rattle.std.specs.Prelude.{true, IfOk, OnOk};
 ghost use Rattle.fws_iv.specs.Ivs.{has};
-ghost use Rattle.fws_box.specs.Sides.{sides_have};
+ghost use Rattle.fws_box.specs.Boxes.{sides_of};
+ghost use Rattle.fws_box.specs.Fields.{value_of};
 ghost use Rattle.fws_exec.specs.Kept.{Adds, AreThose};
-ghost use Rattle.fws_exec.specs.Splits.{AreWhere};
+ghost use Rattle.fws_exec.specs.Areas.{AreWhere};
 
-use fws_box::PBox;
+use bumpalo::Bump;
+use fws_box::{Field, PBox, narrow};
 use fws_iv::Ivs;
 use fws_num::Memory;
 use std::alloc::Global;
 
-/// The points of the area whose value of the field is in the set, or `None` where there are none.
-pub fn narrow(alloc: Global, area: PBox, field: usize, set: &Ivs) -> Result<Option<PBox>, Memory>
-    requires { field < 12 }
-    ensures { IfOk result (λ o. (p : List ℕ) → length p ≡ 12 → unwrap_or (option_map (λ b. sides_have b.sides p) o) false ≡ (sides_have area.sides p && has set.now (slice_index p field))) }
-{
-    let mut sides = area.sides;
-    let side = sides[field].inter(alloc, set)?;
-    if side.is_empty() {
-        return Ok(None);
-    }
-    sides[field] = side;
-    Ok(Some(PBox { sides }))
-}
-
 /// Adds the points of the area whose value of the field is in the set.
-pub(crate) fn add_narrowed(
-    alloc: Global,
-    boxes: &mut Vec<PBox>,
-    area: PBox,
-    field: usize,
+pub(crate) fn add_narrowed<'b>(
+    bump: &'b Bump,
+    boxes: &mut Vec<PBox<'b>>,
+    area: &PBox<'b>,
+    field: Field,
     set: &Ivs,
 ) -> Result<(), Memory>
-    requires { field < 12 }
-    ensures { OnOk result (Adds area.sides (λ p. has set.now (slice_index p field)) boxes.old.items boxes.new.items) }
+    ensures { OnOk result (Adds (sides_of area.now) (λ p. has set.now (value_of p field)) boxes.old.items boxes.new.items) }
 {
-    if let Some(part) = narrow(alloc, area, field, set)? {
+    if let Some(part) = narrow(bump, area, field, set)? {
         boxes.push(part)?;
     }
     Ok(())
 }
 
 /// The area as the only box.
-pub(crate) fn all_of(alloc: Global, area: &PBox) -> Result<Vec<PBox>, Memory>
-    ensures { IfOk result (λ boxes. AreWhere area.now.sides (λ p. true) boxes.items) }
+pub(crate) fn all_of<'b>(alloc: Global, area: &PBox<'b>) -> Result<Vec<PBox<'b>>, Memory>
+    ensures { IfOk result (λ boxes. AreWhere (sides_of area.now) (λ p. true) boxes.items) }
 {
     let mut boxes = Vec::new(alloc);
-    boxes.push(area.copy(alloc)?)?;
+    boxes.push(*area)?;
     Ok(boxes)
 }
 
 /// The points of the boxes whose value of the field is in the set.
-pub(crate) fn those_in(
+pub(crate) fn those_in<'b>(
     alloc: Global,
-    boxes: Vec<PBox>,
-    field: usize,
+    bump: &'b Bump,
+    boxes: Vec<PBox<'b>>,
+    field: Field,
     set: &Ivs,
-) -> Result<Vec<PBox>, Memory>
-    requires { field < 12 }
-    ensures { IfOk result (λ kept. AreThose boxes.items (λ p. has set.now (slice_index p field)) kept.items) }
+) -> Result<Vec<PBox<'b>>, Memory>
+    ensures { IfOk result (λ kept. AreThose boxes.entry.items (λ p. has set.now (value_of p field)) kept.items) }
 {
     let mut kept = Vec::new(alloc);
     for area in boxes {
-        add_narrowed(alloc, &mut kept, area, field, set)?;
+        add_narrowed(bump, &mut kept, &area, field, set)?;
     }
     Ok(kept)
 }
 
 /// All of the boxes, or none.
-pub(crate) fn those_if(alloc: Global, boxes: Vec<PBox>, all: bool) -> Vec<PBox>
-    ensures { AreThose boxes.items (λ p. all) result.items }
+pub(crate) fn those_if<'b>(alloc: Global, boxes: Vec<PBox<'b>>, all: bool) -> Vec<PBox<'b>>
+    ensures { AreThose boxes.entry.items (λ p. all) result.items }
 {
     if all { boxes } else { Vec::new(alloc) }
 }

@@ -4,19 +4,20 @@
 mod address_boxes;
 mod area;
 mod field_boxes;
-mod fields;
 mod flag_boxes;
+mod holding;
 mod interface_boxes;
 mod kept;
 mod members;
+mod numbers;
 mod outside;
 mod port_boxes;
 mod scene;
 mod sets;
-mod splitting;
 mod test_boxes;
+mod ways;
 
 pub use area::whole_site;
-pub use kept::narrow;
+pub use holding::where_holds;
 pub use scene::{Scene, Standing};
-pub use splitting::{Pieces, split};
+pub use ways::Ways;

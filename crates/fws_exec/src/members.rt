@@ -1,9 +1,9 @@
 //! Addresses by what stands for them once an end is written.
 
 ghost use Rattle.std.specs.Prelude.{◌≡◌, ◌<◌, ◌≤◌, ◌+◌, ◌-◌, ◌%◌, ◌^◌, ◌&&◌, ◌||◌, ℕ, true, nat_le, min, IfOk, OnOk};
-ghost use Rattle.fws_iv.specs.Ivs.{has};
+ghost use Rattle.fws_iv.specs.Ivs.{has, IsRegular};
 
-use fws_iv::{Ivs, Overlap, one, overlap};
+use fws_iv::{Iv, Ivs, Overlap, one, overlap};
 use fws_net::End;
 use fws_num::Memory;
 use std::alloc::Global;
@@ -89,17 +89,18 @@ fn add_range(
 /// The addresses of the side for which a number of the set stands: `base` and the rest by `size`.
 fn members_by_block(
     alloc: Global,
-    side: &Ivs,
+    side: &[Iv],
     set: &Ivs,
     base: u32,
     size: u32,
 ) -> Result<Ivs, Memory>
+    requires side { IsRegular side.now }
     requires size { 0 < size }
     requires fits { base + (size - 1) < 2 ^ 32 }
     ensures { IfOk result (λ s. (a : ℕ) → has s a ≡ (has side.now a && has set.now (base + a % size))) }
 {
     let mut out = Ivs::none(alloc);
-    for part in side.parts() {
+    for part in side {
         add_range(alloc, &mut out, set, base, size, part.lo, part.hi)?;
     }
     Ok(out)
@@ -112,16 +113,17 @@ fn members_by_block(
 #[tactic(auto, using(crate::proofs::Blocks::end_low))]
 pub(crate) fn standing_members(
     alloc: Global,
-    side: &Ivs,
+    side: &[Iv],
     end: End,
     set: &Ivs,
 ) -> Result<Ivs, Memory>
+    requires { IsRegular side.now }
     ensures low { IfOk result (λ s. (a : ℕ) → end.addr + a % 2 ^ (32 - end.len) < 2 ^ 32) }
     ensures members { IfOk result (λ s. (a : ℕ) → has s a ≡ (has side.now a && has set.now (end.addr + a % 2 ^ (32 - end.len)))) }
 {
     let size = 2u32.pow(32 - u32::from(end.len));
     match overlap(set.parts(), end.addr, end.addr + (size - 1)) {
-        Overlap::Whole => side.copy(alloc),
+        Overlap::Whole => Ivs::of_parts(alloc, side),
         Overlap::Apart => Ok(Ivs::none(alloc)),
         Overlap::Part => members_by_block(alloc, side, set, end.addr, size),
     }

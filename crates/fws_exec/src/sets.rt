@@ -1,13 +1,15 @@
 //! Sets of values.
 
-ghost use Rattle.std.specs.Prelude.{◌≡◌, ◌<◌, ◌&&◌, ◌||◌, ◌^◌, not, ℕ, true, nat_eq, nat_lt, bit_and, IfOk, OnOk};
+ghost use Rattle.std.specs.Prelude.{◌≡◌, ◌+◌, ◌<◌, ◌&&◌, ◌||◌, ◌^◌, not, ℕ, true, nat_eq, nat_lt, length, bit_and, IfOk, OnOk};
 ghost use Rattle.fws_iv.specs.Ivs.{has};
 ghost use Rattle.fws_net.specs.Fates.{has_ports};
 ghost use Rattle.fws_net.specs.Routes.{route_of, IsSound};
+ghost use Rattle.fws_exec.specs.Ways.{AreWaysOf};
 
-use crate::fields::{TCP, UDP};
+use crate::numbers::{TCP, UDP};
+use crate::ways::Ways;
 use fws_iv::{Ivs, one};
-use fws_net::{Site, route_set, routes_are_entries};
+use fws_net::{Site, routes_are_entries};
 use fws_num::Memory;
 use std::alloc::Global;
 
@@ -63,24 +65,27 @@ pub(crate) fn flags_among(alloc: Global, mask: u8) -> Result<Ivs, Memory>
 fn with_routes(
     alloc: Global,
     site: &Site,
+    ways: &Ways,
     so_far: Ivs,
     entry: u8,
     asked: bool,
 ) -> Result<Ivs, Memory>
-    requires { IsSound site.now }
+    requires ways { AreWaysOf site.now ways.now }
+    requires entry { entry < length site.now.faces + 2 }
     ensures { IfOk result (λ s. (a : ℕ) → has s a ≡ (has so_far a || (asked && (nat_eq (route_of site.now a) entry && nat_lt a (2 ^ 32))))) }
 {
     if asked {
-        let routes = route_set(alloc, site, entry)?;
-        so_far.union(alloc, &routes)
+        let routes = &ways.routed.as_slice()[usize::from(entry)];
+        so_far.union(alloc, routes)
     } else {
         Ok(so_far)
     }
 }
 
 /// The addresses to which packets are sent by an interface of the set, as far as interfaces go.
-pub(crate) fn routed_set(alloc: Global, site: &Site, set: &Ivs) -> Result<Ivs, Memory>
-    requires { IsSound site.now }
+pub(crate) fn routed_set(alloc: Global, site: &Site, ways: &Ways, set: &Ivs) -> Result<Ivs, Memory>
+    requires sound { IsSound site.now }
+    requires ways { AreWaysOf site.now ways.now }
     ensures { IfOk result (λ s. (a : ℕ) → has s a ≡ (has set.now (route_of site.now a) && nat_lt a (2 ^ 32))) }
 {
     // each address is sent by an interface of the site
@@ -88,7 +93,8 @@ pub(crate) fn routed_set(alloc: Global, site: &Site, set: &Ivs) -> Result<Ivs, M
     let past = site.faces.as_slice().len() as u8 + 2;
     let mut routed = Ivs::none(alloc);
     for entry in 0..past {
-        routed = with_routes(alloc, site, routed, entry, set.has(u32::from(entry)))?;
+        let asked = set.has(u32::from(entry));
+        routed = with_routes(alloc, site, ways, routed, entry, asked)?;
     }
     Ok(routed)
 }

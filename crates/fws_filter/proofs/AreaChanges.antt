@@ -4,7 +4,8 @@ use Rattle.std.proofs.lemmas.Bool.{le-leb}
 use Rattle.fws_iv.specs.declared.iv.Iv.{Iv}
 use Rattle.fws_iv.specs.Ivs.{has}
 use Rattle.fws_box.specs.declared.pbox.PBox.{PBox}
-use Rattle.fws_box.specs.Sides.{sides_have, whole_sides}
+use Rattle.fws_box.specs.Boxes.{sides_of}
+use Rattle.fws_box.specs.Sides.{sides_have, whole_sides, IsWithin}
 use Rattle.fws_ipt.specs.declared.config.IptChain.{IptChain}
 use Rattle.fws_ipt.specs.declared.config.IptConfig.{IptConfig}
 use Rattle.fws_ipt.specs.declared.hook.Hook.TheVariants.{Input, Forward, Output}
@@ -18,7 +19,6 @@ use Rattle.fws_net.specs.declared.site.Site.{Site}
 use Rattle.fws_net.specs.Points.{tops_of, packet_of}
 use Rattle.fws_net.specs.Routes.{is_local}
 use Rattle.fws_tree.specs.declared.row.Row.{Row}
-use Rattle.fws_tree.specs.Plain.{IsWithin}
 use Rattle.fws_tree.specs.Rows.{first_leaf}
 use Rattle.fws_filter.specs.Changes.{Changes}
 use Rattle.fws_filter.specs.Verdicts.{verdict, accepts_at}
@@ -39,7 +39,7 @@ whole_have (top ∷ tops) (x ∷ p) w = go _ _ _ (le-leb 0 x (omega arith)) (le-
 
 -- whether the box, if there is one, has the point
 abbrev pub held : Option PBox → List ℕ → Bool
-held o p = unwrap_or (option_map (λ b. sides_have b.sides p) o) false
+held o p = unwrap_or (option_map (λ b. sides_have (sides_of b) p) o) false
 
 -- the points of the area whose value of the field is in the set
 abbrev pub IsPart : List (List Iv) → ℕ → List Iv → Option PBox → Type 0
@@ -56,7 +56,7 @@ entered site whole entries o e part p w =
     ∙ ap (λ b. b && has entries (get_or p 0 0)) (ap (λ sides. sides_have sides p) e ∙ whole_have (tops_of site) p w)
 
 part_of_part : (site : Site) (whole : List (List Iv)) (entries destinations : List Iv) (o at : Option PBox) (b : PBox)
-    → whole ≡ whole_sides (tops_of site) → IsPart whole 0 entries o → o ≡ Some b → IsPart b.sides 2 destinations at
+    → whole ≡ whole_sides (tops_of site) → IsPart whole 0 entries o → o ≡ Some b → IsPart (sides_of b) 2 destinations at
     → (p : List ℕ) → IsWithin (tops_of site) p → held at p ≡ in_area entries destinations p
 part_of_part site whole entries destinations o at b e part is further p w =
     further p (within-length (tops_of site) p w)
@@ -76,7 +76,7 @@ no_entries site whole entries destinations leaf old o e part is =
 
 -- no point with these entries has these destinations
 pub no_destinations : (site : Site) (whole : List (List Iv)) (entries destinations : List Iv) (leaf : List ℕ → Outcome) (old : List (Row Outcome)) (o at : Option PBox) (b : PBox)
-    → whole ≡ whole_sides (tops_of site) → IsPart whole 0 entries o → o ≡ Some b → IsPart b.sides 2 destinations at → at ≡ None
+    → whole ≡ whole_sides (tops_of site) → IsPart whole 0 entries o → o ≡ Some b → IsPart (sides_of b) 2 destinations at → at ≡ None
     → Changes site old old (λ rest p. cond (in_area entries destinations p) (leaf p) rest)
 no_destinations site whole entries destinations leaf old o at b e part is further none =
     empty_area site (in_area entries destinations) leaf old
@@ -84,8 +84,8 @@ no_destinations site whole entries destinations leaf old o at b e part is furthe
 
 -- the box of these entries and destinations
 pub area_change : (site : Site) (whole : List (List Iv)) (entries destinations : List Iv) (leaf : List ℕ → Outcome) (old new : List (Row Outcome)) (o at : Option PBox) (b a : PBox)
-    → whole ≡ whole_sides (tops_of site) → IsPart whole 0 entries o → o ≡ Some b → IsPart b.sides 2 destinations at → at ≡ Some a
-    → Changes site old new (λ rest p. cond (sides_have a.sides p) (leaf p) rest)
+    → whole ≡ whole_sides (tops_of site) → IsPart whole 0 entries o → o ≡ Some b → IsPart (sides_of b) 2 destinations at → at ≡ Some a
+    → Changes site old new (λ rest p. cond (sides_have (sides_of a) p) (leaf p) rest)
     → Changes site old new (λ rest p. cond (in_area entries destinations p) (leaf p) rest)
 area_change site whole entries destinations leaf old new o at b a e part is further some changes rest p w =
     changes rest p w

@@ -2,20 +2,17 @@
 use Rattle.std.proofs.Common.{◌≡◌, ℕ, zero, suc, ◌≤◌, ◌+◌, Bool, true, false, cond, ◌&&◌, Option, Some, None, List, [], ◌∷◌, ◌++◌, map, length, drop, refl, sym, ◌∙◌, ap, arith}
 use Rattle.std.specs.Option.{option_map_or}
 use Rattle.fws_iv.specs.declared.iv.Iv.{Iv}
-use Rattle.fws_iv.specs.Ivs.{has}
 use Rattle.fws_box.specs.declared.pbox.PBox.{PBox}
-use Rattle.fws_box.specs.Boxes.{box_hits}
-use Rattle.fws_box.specs.Sides.{sides_have}
+use Rattle.fws_box.specs.Boxes.{box_hits, sides_of}
+use Rattle.fws_box.specs.Sides.{sides_have, IsWithin}
 use Rattle.fws_exec.specs.declared.scene.Scene.{Scene}
 use Rattle.fws_exec.specs.Scenes.{view_of}
-use Rattle.fws_exec.specs.Splits.{AreWhere}
+use Rattle.fws_exec.specs.Areas.{AreWhere}
 use Rattle.fws_ipt.specs.declared.config.IptRule.{IptRule}
 use Rattle.fws_net.specs.declared.outcome.Outcome.{Outcome}
 use Rattle.fws_net.specs.declared.site.Site.{Site}
 use Rattle.fws_net.specs.Points.{tops_of}
 use Rattle.fws_tree.specs.declared.row.Row.{Row}
-use Rattle.fws_tree.specs.Plain.{IsWithin}
-use Rattle.fws_tree.specs.Rows as tree_rows
 use Rattle.fws_tree.specs.Rows.{first_leaf}
 use Rattle.fws_filter.specs.Changes.{row_of, Changes}
 use Rattle.fws_filter.specs.Verdicts.{verdict, rules_accept}
@@ -23,13 +20,7 @@ use Rattle.fws_filter.specs.Verdicts.{verdict, rules_accept}
 -- the rows behind are met where those before hold nothing
 pub first_leaf-append : (xs ys : List (Row Outcome)) (rest : Outcome) (p : List ℕ) → first_leaf (xs ++ ys) rest p ≡ first_leaf xs (first_leaf ys rest p) p
 first_leaf-append [] ys rest p = refl
-first_leaf-append (x ∷ xs) ys rest p = ap (λ l. cond (tree_rows.sides_have x.sides p) x.leaf l) (first_leaf-append xs ys rest p)
-
--- rows and boxes have the same points
-same_sides : (sides : List (List Iv)) (p : List ℕ) → tree_rows.sides_have sides p ≡ sides_have sides p
-same_sides [] p = refl
-same_sides (s ∷ sides) [] = refl
-same_sides (s ∷ sides) (x ∷ p) = ap (λ b. has s x && b) (same_sides sides p)
+first_leaf-append (x ∷ xs) ys rest p = ap (λ l. cond (sides_have x.sides p) x.leaf l) (first_leaf-append xs ys rest p)
 
 pub within-length : (tops p : List ℕ) → IsWithin tops p → length p ≡ length tops
 within-length [] [] w = refl
@@ -44,8 +35,7 @@ hits_first : (boxes : List PBox) (leaf rest : Outcome) (p : List ℕ) (there : B
 hits_first [] leaf rest p true e = absurd (omega arith)
 hits_first [] leaf rest p false e = refl
 hits_first (b ∷ boxes) leaf rest p there e =
-    ap (λ h. cond h leaf (first_leaf (map (row_of leaf) boxes) rest p)) (same_sides b.sides p)
-    ∙ go (sides_have b.sides p) there e (hits_first boxes leaf rest p there)
+    go (sides_have (sides_of b) p) there e (hits_first boxes leaf rest p there)
   where
     go : (h there : Bool) → cond h 1 0 + box_hits boxes p ≡ cond there 1 0
         → (box_hits boxes p ≡ cond there 1 0 → first_leaf (map (row_of leaf) boxes) rest p ≡ cond there leaf rest)
@@ -104,7 +94,6 @@ pub rules_end : (site : Site) (scene : Scene) (area : List (List Iv)) (policy : 
 rules_end site scene area policy rules i old mid new leaf le goes is e rest p w =
     ap (λ rows. first_leaf rows rest p) e
     ∙ first_leaf-append mid (record { sides = area; leaf = leaf } ∷ []) rest p
-    ∙ ap (λ h. first_leaf mid (cond h leaf rest) p) (same_sides area p)
     ∙ ap (λ l. first_leaf mid (cond (sides_have area p) l rest) p) is
     ∙ ap (λ left. first_leaf mid (ruled site scene area policy left rest p) p) (sym (dropped i rules le))
     ∙ goes rest p w

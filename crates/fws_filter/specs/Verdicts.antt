@@ -7,6 +7,7 @@ use Rattle.fws_net.specs.declared.packet.Packet.{Packet}
 use Rattle.fws_net.specs.declared.site.Site.{Site}
 use Rattle.fws_net.specs.declared.view.View.{View}
 use Rattle.fws_net.specs.Conditions.{holds}
+use Rattle.fws_net.specs.Transits.{nothing_written}
 use Rattle.fws_ipt.specs.declared.config.IptTable.{IptTable}
 use Rattle.fws_ipt.specs.declared.config.IptTable.TheVariants.{Filter}
 use Rattle.fws_ipt.specs.declared.config.IptGo.{IptGo}
@@ -14,7 +15,7 @@ use Rattle.fws_ipt.specs.declared.config.IptGo.TheVariants.{Accept, Drop, Return
 use Rattle.fws_ipt.specs.declared.config.IptRule.{IptRule}
 use Rattle.fws_ipt.specs.declared.config.IptChain.{IptChain}
 use Rattle.fws_ipt.specs.declared.hook.Hook.{Hook}
-use Rattle.fws_ipt.specs.Walk.{stands_at, view_at, entering, nothing_written}
+use Rattle.fws_ipt.specs.Walk.{stands_at, view_at, entering}
 
 -- accepted without a rewriting, or dropped
 abbrev pub verdict : Bool → Outcome

@@ -2,7 +2,8 @@
 
 ghost use Rattle.std.specs.Prelude.{◌≡◌, ℕ, List, ◌&&◌, not, nat_eq, true, slice_index, IfOk, OnOk, if◌then◌else◌};
 ghost use Rattle.fws_iv.specs.Ivs.{has};
-ghost use Rattle.fws_box.specs.Sides.{sides_have};
+ghost use Rattle.fws_box.specs.Boxes.{sides_of};
+ghost use Rattle.fws_box.specs.Sides.{sides_have, IsWithin};
 ghost use Rattle.fws_net.specs.declared.connection.Kind.TheVariants.{New};
 ghost use Rattle.fws_net.specs.Points.{tops_of, packet_of};
 ghost use Rattle.fws_net.specs.Routes.{IsSound, is_local};
@@ -10,8 +11,8 @@ ghost use Rattle.fws_ipt.specs.declared.hook.Hook.TheVariants.{Input, Forward, O
 ghost use Rattle.fws_ipt.specs.FilterOnly.{is_filter_only};
 ghost use Rattle.fws_ipt.specs.Soundness.{is_fitting};
 ghost use Rattle.fws_ipt.specs.Walk.{walk};
-ghost use Rattle.fws_exec.specs.Splits.{IsOfSite};
-ghost use Rattle.fws_tree.specs.Plain.{IsWithin};
+ghost use Rattle.fws_exec.specs.Areas.{IsOfSite};
+ghost use Rattle.fws_exec.specs.Ways.{AreWaysOf};
 ghost use Rattle.fws_tree.specs.Rows.{first_leaf};
 ghost use Rattle.fws_filter.specs.Changes.{Changes};
 ghost use Rattle.fws_filter.specs.Verdicts.{verdict, accepts_at};
@@ -19,64 +20,68 @@ ghost use Rattle.fws_filter.specs.Verdicts.{verdict, accepts_at};
 use crate::chains::chain_at;
 use crate::rows::put_rules;
 use crate::scenery::scene_at;
-use fws_box::PBox;
-use fws_exec::{narrow, whole_site};
+use bumpalo::Bump;
+use fws_box::{Field, PBox, narrow};
+use fws_exec::{Ways, whole_site};
 use fws_ipt::{Hook, IptChain, IptConfig, filter_only_rules};
 use fws_iv::{Ivs, one};
-use fws_net::{Outcome, Site, local_set};
+use fws_net::{Outcome, Site};
 use fws_num::Memory;
 use fws_tree::Row;
 use std::alloc::Global;
-
-const ENTRY: usize = 0;
-
-const DESTINATION: usize = 2;
 
 /// The least entry of packets that arrive; 0 is that of the host's own.
 const LOOPBACK: u32 = 1;
 
 /// Adds the rows of the chain at the hook for the packets of the area.
-fn put_chain(
+fn put_chain<'b>(
     alloc: Global,
+    bump: &'b Bump,
     rows: &mut Vec<Row<Outcome>>,
     site: &Site,
+    ways: &Ways,
     chains: &[IptChain],
     hook: Hook,
-    area: PBox,
+    area: &PBox<'b>,
 ) -> Result<(), Memory>
     requires sound { IsSound site.now }
-    requires within { IsOfSite site.now area.sides }
+    requires ways { AreWaysOf site.now ways.now }
+    requires within { IsOfSite site.now (sides_of area.now) }
     ensures { OnOk result (Changes site.now rows.old.items rows.new.items (λ rest p.
-        if sides_have area.sides p then verdict (accepts_at chains.now site.now hook (packet_of p)) else rest)) }
+        if sides_have (sides_of area.now) p then verdict (accepts_at chains.now site.now hook (packet_of p)) else rest)) }
 {
     let scene = scene_at(alloc, hook)?;
     let (rules, policy) = chain_at(chains, hook);
-    put_rules(alloc, rows, site, &scene, area, policy, rules)?;
+    put_rules(alloc, bump, rows, site, ways, &scene, area, policy, rules)?;
     Ok(())
 }
 
-/// Adds the rows of the chain at the hook for the packets with these entries and destinations.
+/// Adds the rows of the chain at the hook for the packets with these entries and destinations. Their boxes lie
+/// in an arena that ends with the call.
 fn put_area(
     alloc: Global,
     rows: &mut Vec<Row<Outcome>>,
     site: &Site,
+    ways: &Ways,
     chains: &[IptChain],
     hook: Hook,
     entries: &Ivs,
     destinations: &Ivs,
 ) -> Result<(), Memory>
-    requires { IsSound site.now }
+    requires sound { IsSound site.now }
+    requires ways { AreWaysOf site.now ways.now }
     ensures { OnOk result (Changes site.now rows.old.items rows.new.items (λ rest p.
         if has entries.now (slice_index p 0) && has destinations.now (slice_index p 2) then verdict (accepts_at chains.now site.now hook (packet_of p)) else rest)) }
 {
-    let whole = whole_site(alloc, site)?;
-    let Some(entered) = narrow(alloc, whole, ENTRY, entries)? else {
+    let bump = Bump::new(alloc);
+    let whole = whole_site(&bump, site)?;
+    let Some(entered) = narrow(&bump, &whole, Field::Entry, entries)? else {
         return Ok(());
     };
-    let Some(area) = narrow(alloc, entered, DESTINATION, destinations)? else {
+    let Some(area) = narrow(&bump, &entered, Field::Dst, destinations)? else {
         return Ok(());
     };
-    put_chain(alloc, rows, site, chains, hook, area)?;
+    put_chain(alloc, &bump, rows, site, ways, chains, hook, &area)?;
     Ok(())
 }
 
@@ -85,15 +90,17 @@ fn put_sent(
     alloc: Global,
     rows: &mut Vec<Row<Outcome>>,
     site: &Site,
+    ways: &Ways,
     chains: &[IptChain],
 ) -> Result<(), Memory>
-    requires { IsSound site.now }
+    requires sound { IsSound site.now }
+    requires ways { AreWaysOf site.now ways.now }
     ensures { OnOk result (Changes site.now rows.old.items rows.new.items (λ rest p.
         if nat_eq (slice_index p 0) 0 then verdict (accepts_at chains.now site.now Output (packet_of p)) else rest)) }
 {
     let host = one(alloc, 0, 0)?;
     let every = one(alloc, 0, u32::MAX)?;
-    put_area(alloc, rows, site, chains, Hook::Output, &host, &every)?;
+    put_area(alloc, rows, site, ways, chains, Hook::Output, &host, &every)?;
     Ok(())
 }
 
@@ -102,15 +109,25 @@ fn put_delivered(
     alloc: Global,
     rows: &mut Vec<Row<Outcome>>,
     site: &Site,
+    ways: &Ways,
     chains: &[IptChain],
 ) -> Result<(), Memory>
-    requires { IsSound site.now }
+    requires sound { IsSound site.now }
+    requires ways { AreWaysOf site.now ways.now }
     ensures { OnOk result (Changes site.now rows.old.items rows.new.items (λ rest p.
         if not (nat_eq (slice_index p 0) 0) && is_local site.now (slice_index p 2) then verdict (accepts_at chains.now site.now Input (packet_of p)) else rest)) }
 {
     let arriving = one(alloc, LOOPBACK, u32::MAX)?;
-    let local = local_set(alloc, site)?;
-    put_area(alloc, rows, site, chains, Hook::Input, &arriving, &local)?;
+    put_area(
+        alloc,
+        rows,
+        site,
+        ways,
+        chains,
+        Hook::Input,
+        &arriving,
+        &ways.local,
+    )?;
     Ok(())
 }
 
@@ -119,9 +136,11 @@ fn put_forwarded(
     alloc: Global,
     rows: &mut Vec<Row<Outcome>>,
     site: &Site,
+    ways: &Ways,
     chains: &[IptChain],
 ) -> Result<(), Memory>
-    requires { IsSound site.now }
+    requires sound { IsSound site.now }
+    requires ways { AreWaysOf site.now ways.now }
     ensures { OnOk result (Changes site.now rows.old.items rows.new.items (λ rest p.
         if site.now.forwarding && (not (nat_eq (slice_index p 0) 0) && not (is_local site.now (slice_index p 2)))
         then verdict (accepts_at chains.now site.now Forward (packet_of p)) else rest)) }
@@ -131,9 +150,17 @@ fn put_forwarded(
     }
     let arriving = one(alloc, LOOPBACK, u32::MAX)?;
     let every = one(alloc, 0, u32::MAX)?;
-    let local = local_set(alloc, site)?;
-    let remote = every.minus(alloc, &local)?;
-    put_area(alloc, rows, site, chains, Hook::Forward, &arriving, &remote)?;
+    let remote = every.minus(alloc, &ways.local)?;
+    put_area(
+        alloc,
+        rows,
+        site,
+        ways,
+        chains,
+        Hook::Forward,
+        &arriving,
+        &remote,
+    )?;
     Ok(())
 }
 
@@ -150,9 +177,10 @@ pub(crate) fn filter_rows(
 {
     filter_only_rules();
     let chains = c.chains.as_slice();
+    let ways = Ways::of_site(alloc, site)?;
     let mut rows = Vec::new(alloc);
-    put_sent(alloc, &mut rows, site, chains)?;
-    put_delivered(alloc, &mut rows, site, chains)?;
-    put_forwarded(alloc, &mut rows, site, chains)?;
+    put_sent(alloc, &mut rows, site, &ways, chains)?;
+    put_delivered(alloc, &mut rows, site, &ways, chains)?;
+    put_forwarded(alloc, &mut rows, site, &ways, chains)?;
     Ok(rows)
 }

@@ -7,7 +7,8 @@ ghost use Rattle.fws_net.specs.Routes.{IsSound};
 ghost use Rattle.fws_ipt.specs.FilterOnly.{is_filter_only};
 ghost use Rattle.fws_ipt.specs.Soundness.{is_fitting};
 ghost use Rattle.fws_ipt.specs.Walk.{walk};
-ghost use Rattle.fws_tree.specs.Plain.{IsReduced, IsWithin, value};
+ghost use Rattle.fws_tree.specs.Plain.{IsReduced, value};
+ghost use Rattle.fws_box.specs.Sides.{IsWithin};
 
 use crate::areas::filter_rows;
 use fws_ipt::IptConfig;

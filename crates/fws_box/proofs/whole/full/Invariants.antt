@@ -1,9 +1,10 @@
 use Rattle.std.proofs.Common.{◌≡◌, take, length}
 use Rattle.fws_box.specs.Sides.{whole_sides}
+use Rattle.fws_box.proofs.Placed.{seen}
 use Rattle.fws_box.proofs.whole.full.Given as goal
 
 abbrev pub invariant-loop-k : goal.invariant-loop-k
 invariant-loop-k l = record {
   twelve : length l.sides ≡ 12;
-  made : take l.k l.sides ≡ whole_sides (take l.k l.tops);
+  made : take l.k (seen l.sides) ≡ whole_sides (take l.k l.tops);
 }

@@ -1,0 +1,65 @@
+//! Sets that lie in an arena.
+
+ghost use Rattle.std.specs.Prelude.{◌≡◌, ◌&&◌, not, ℕ, true, IfOk};
+ghost use Rattle.fws_iv.specs.Ivs.{has, IsRegular};
+
+use bumpalo::Bump;
+use bumpalo::collections::into_bump_slice;
+use fws_iv::{Iv, Overlap, inter_into, minus_into, overlap};
+use fws_num::Memory;
+
+/// Whether each number of `inner` is one of `outer`. Of n and m intervals the time is that of n log m steps.
+pub(crate) fn is_within(inner: &[Iv], outer: &[Iv]) -> bool
+    requires inner { IsRegular inner.now }
+    requires outer { IsRegular outer.now }
+    ensures { result ≡ true → (v : ℕ) → has inner.now v ≡ true → has outer.now v ≡ true }
+{
+    for part in inner {
+        if overlap(outer, part.lo, part.hi) != Overlap::Whole {
+            return false;
+        }
+    }
+    true
+}
+
+/// The numbers of the side that are in the set: the side itself where all of them are. An error is want of
+/// memory.
+pub(crate) fn common<'b>(bump: &'b Bump, side: &'b [Iv], set: &[Iv]) -> Result<&'b [Iv], Memory>
+    requires side { IsRegular side.now }
+    requires set { IsRegular set.now }
+    ensures regular { IfOk result (λ s. IsRegular s.now) }
+    ensures members { IfOk result (λ s. (v : ℕ) → has s.now v ≡ (has side.now v && has set.now v)) }
+{
+    if is_within(side, set) {
+        return Ok(side);
+    }
+    let mut both = Vec::new(bump);
+    inter_into(&mut both, side, set)?;
+    Ok(into_bump_slice(both))
+}
+
+/// The numbers that the sides share: one of the sides itself where it lies within the other. An error is want
+/// of memory.
+pub(crate) fn shared<'b>(bump: &'b Bump, a: &'b [Iv], b: &'b [Iv]) -> Result<&'b [Iv], Memory>
+    requires first { IsRegular a.now }
+    requires second { IsRegular b.now }
+    ensures regular { IfOk result (λ s. IsRegular s.now) }
+    ensures members { IfOk result (λ s. (v : ℕ) → has s.now v ≡ (has a.now v && has b.now v)) }
+{
+    if is_within(b, a) {
+        return Ok(b);
+    }
+    common(bump, a, b)
+}
+
+/// The numbers of the side that are not in the set. An error is want of memory.
+pub(crate) fn rest<'b>(bump: &'b Bump, side: &[Iv], set: &[Iv]) -> Result<&'b [Iv], Memory>
+    requires side { IsRegular side.now }
+    requires set { IsRegular set.now }
+    ensures regular { IfOk result (λ s. IsRegular s.now) }
+    ensures members { IfOk result (λ s. (v : ℕ) → has s.now v ≡ (has side.now v && not (has set.now v))) }
+{
+    let mut left = Vec::new(bump);
+    minus_into(&mut left, side, set)?;
+    Ok(into_bump_slice(left))
+}
