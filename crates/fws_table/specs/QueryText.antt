@@ -8,8 +8,9 @@ use Rattle.fws_net.specs.declared.packet.State.{State}
 use Rattle.fws_net.specs.declared.site.Site.{Site}
 use Rattle.fws_net.specs.Points.{tops_of}
 use Rattle.fws_tree.specs.declared.row.Row.{Row}
-use Rattle.fws_tree.specs.Plain.{Plain, value, IsWithin, IsReduced}
-use Rattle.fws_tree.specs.Rows.{paths_of, sides_have}
+use Rattle.fws_tree.specs.Plain.{Plain, value, IsReduced}
+use Rattle.fws_box.specs.Sides.{IsWithin, sides_have}
+use Rattle.fws_tree.specs.Rows.{paths_of}
 use Rattle.fws_table.specs.declared.ask.Ask.{Ask}
 use Rattle.fws_table.specs.TableText.{rows_text}
 
@@ -22,10 +23,6 @@ is_verdict (Some accepted) (Accept w) = accepted
 -- the outcome, if it is of the asked verdict
 abbrev pub asked_leaf : Option Bool → Outcome → Option Outcome
 asked_leaf verdict outcome = if is_verdict verdict outcome then Some outcome else None
-
--- the row, with the outcome if it is of the asked verdict
-abbrev pub asked_row : Option Bool → Row Outcome → Row (Option Outcome)
-asked_row verdict row = record { sides = row.sides; leaf = asked_leaf verdict row.leaf }
 
 -- what the changed tree has at a point in place of a value: nothing off the asked sides and verdict
 abbrev pub asked_value : Ask → List ℕ → Option Outcome → Option Outcome

@@ -9,7 +9,7 @@ use Rattle.fws_iv.specs.Ivs.{has}
 use Rattle.fws_net.specs.declared.site.Site.{Site}
 use Rattle.fws_net.specs.Points.{tops_of}
 use Rattle.fws_num.specs.Numbers.{split_once}
-use Rattle.fws_tree.specs.Rows.{sides_have}
+use Rattle.fws_box.specs.Sides.{sides_have}
 use Rattle.fws_top.specs.declared.ask.Subject.{Subject}
 use Rattle.fws_top.specs.declared.ask.Subject.TheVariants.{Entry, Proto, Dst, Dport, Src, Sport, Flags, Icmp, Verdict}
 use Rattle.fws_top.specs.Asks.{items_of, number_of, item_has, set_has, HasValues, AreNarrowed}

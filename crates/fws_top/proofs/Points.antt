@@ -1,6 +1,6 @@
 -- Points within the tops of their fields.
 use Rattle.std.proofs.Common.{◌≡◌, ℕ, zero, suc, ◌≤◌, ◌<◌, List, [], ◌∷◌, length, get_or, refl, ap, arith}
-use Rattle.fws_tree.specs.Plain.{IsWithin}
+use Rattle.fws_box.specs.Sides.{IsWithin}
 
 pub within_at : (tops p : List ℕ) (k : ℕ) → IsWithin tops p → k < length tops → get_or p k 0 ≤ get_or tops k 0
 within_at [] p k w lt = absurd (omega arith)

@@ -10,8 +10,7 @@ use Rattle.fws_iv.specs.declared.iv.Iv.{Iv}
 use Rattle.fws_iv.specs.Ivs.{has}
 use Rattle.fws_net.specs.declared.site.Site.{Site}
 use Rattle.fws_net.specs.Points.{tops_of}
-use Rattle.fws_tree.specs.Plain.{IsWithin}
-use Rattle.fws_tree.specs.Rows.{sides_have}
+use Rattle.fws_box.specs.Sides.{IsWithin, sides_have}
 use Rattle.fws_table.specs.TableText.{entry_name}
 use Rattle.fws_top.specs.declared.ask.Subject.{Subject}
 use Rattle.fws_top.specs.declared.ask.Subject.TheVariants.{Entry, Proto, Dst, Dport, Src, Sport, Flags, Icmp, Verdict}

@@ -11,7 +11,8 @@ use Rattle.fws_net.specs.declared.site.Site.{Site}
 use Rattle.fws_net.specs.Points.{tops_of, packet_of}
 use Rattle.fws_net.specs.SiteSpelling.{site2_text}
 use Rattle.fws_net.specs.SiteText.{site_of}
-use Rattle.fws_tree.specs.Plain.{Plain, value, IsWithin, IsReduced}
+use Rattle.fws_tree.specs.Plain.{Plain, value, IsReduced}
+use Rattle.fws_box.specs.Sides.{IsWithin}
 use Rattle.fws_table.specs.TableText.{table_text}
 use Rattle.fws_table.specs.QueryText.{asked_leaf, query_text}
 use Rattle.fws_top.specs.Asks.{asks_have, asked_verdict, are_known}

@@ -8,16 +8,15 @@ ghost use Rattle.fws_iv.specs.Ivs.{has};
 ghost use Rattle.fws_net.specs.Points.{tops_of};
 ghost use Rattle.fws_net.specs.Routes.{IsSound};
 ghost use Rattle.fws_table.specs.TableText.{entry_name};
-ghost use Rattle.fws_tree.specs.Plain.{IsWithin};
-ghost use Rattle.fws_tree.specs.Rows.{sides_have};
+ghost use Rattle.fws_box.specs.Sides.{IsWithin, sides_have};
 ghost use Rattle.fws_top.specs.Asks.{items_of, range_of, ask_of, are_asks, item_has, set_has, number_of, HasValues, ask_has, word_has, asks_have, AreNarrowed, word_verdict, asked_verdict};
 
 use crate::ask::{Subject, is, is_named, number_of, read_range, read_verdict, read_word};
+use fws_box::whole_sides;
 use fws_iv::{Ivs, one};
 use fws_net::{Site, tops};
 use fws_num::{Memory, Text, behind_is_shorter, split_once};
 use fws_table::Ask;
-use fws_tree::ranges;
 use std::alloc::Global;
 
 /// The entries of this name.
@@ -163,7 +162,7 @@ pub(crate) fn read_ask(alloc: Global, site: &Site, words: &[Text]) -> Result<Ask
     ensures sides { IfOk result (λ ask. (p : List ℕ) → IsWithin (tops_of site.now) p → sides_have ask.sides p ≡ asks_have site.now words.now p) }
     ensures verdict { IfOk result (λ ask. ask.verdict ≡ asked_verdict words.now) }
 {
-    let mut sides = ranges(alloc, &tops(site))?;
+    let mut sides = whole_sides(alloc, &tops(site))?;
     narrow(alloc, site, &mut sides, words)?;
     Ok(Ask {
         sides,

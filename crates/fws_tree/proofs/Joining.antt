@@ -13,25 +13,26 @@ use Rattle.fws_tree.specs.Nodes.{kids_over, tree_of, trees_after}
 use Rattle.fws_tree.specs.Plain.{Plain, leaf, cut, Kids, none, kid_at, branch, EachKid, Parts, AreMany, IsReducedFrom}
 use Rattle.fws_tree.proofs.Numbered.{tree_of-told}
 use Rattle.fws_tree.proofs.Parting.{TreesDiffer, parts_from, are_many, each_kid}
+use Rattle.fws_tree.specs.Subtrees.{IsSubtree}
 use Rattle.fws_tree.proofs.Places.{different-head, different-tail}
 
 -- a tree over the later fields
 
-field_from : (tops : List ℕ) (h g : ℕ) (ks : Kids ℕ) → IsReducedFrom h tops (cut g ks) → h ≤ g
+field_from : {L : Type 0} (tops : List ℕ) (h g : ℕ) (ks : Kids L) → IsReducedFrom h tops (cut g ks) → h ≤ g
 field_from [] h g ks r = absurd r
 field_from (top ∷ tops) h g ks r = elim (cases_Bool (nat_eq g h)) [
   | inl y ↦ let e = eqb-true g h y in omega arith
   | inr n ↦ let l = field_from tops (suc h) g ks (MatchBool-at_false _ _ n r) in omega arith
 ]
 
-other_field : (tops : List ℕ) (f g : ℕ) (ks : Kids ℕ) → IsReducedFrom (suc f) tops (cut g ks) → nat_eq g f ≡ false
+other_field : {L : Type 0} (tops : List ℕ) (f g : ℕ) (ks : Kids L) → IsReducedFrom (suc f) tops (cut g ks) → nat_eq g f ≡ false
 other_field tops f g ks r = let l = field_from tops (suc f) g ks r in ne_eqb g f (λ e. omega arith)
 
-pub reduced_later : (f top : ℕ) (tops : List ℕ) (t : Plain ℕ) → IsReducedFrom (suc f) tops t → IsReducedFrom f (top ∷ tops) t
+pub reduced_later : {L : Type 0} (f top : ℕ) (tops : List ℕ) (t : Plain L) → IsReducedFrom (suc f) tops t → IsReducedFrom f (top ∷ tops) t
 reduced_later f top tops (leaf a) r = tt
 reduced_later f top tops (cut g ks) r = rw (other_field tops f g ks r) r
 
-pub branch_later : (f : ℕ) (tops : List ℕ) (t : Plain ℕ) → IsReducedFrom (suc f) tops t → (x : ℕ) → branch f t x ≡ t
+pub branch_later : {L : Type 0} (f : ℕ) (tops : List ℕ) (t : Plain L) → IsReducedFrom (suc f) tops t → (x : ℕ) → branch f t x ≡ t
 branch_later f tops (leaf a) r x = refl
 branch_later f tops (cut g ks) r x = cond-false (nat_eq g f) (kid_at ks x) (cut g ks) (other_field tops f g ks r)
 
@@ -104,7 +105,7 @@ pub lone_reduced : (ns : List Node) (f top : ℕ) (tops : List ℕ) (pieces : Li
     → All (λ p. IsReducedFrom (suc f) tops (tree_of ns p.held)) pieces → IsReducedFrom f (top ∷ tops) (tree_of ns k.node)
 lone_reduced ns f top tops pieces ks k e named all = reduced_later f top tops (tree_of ns k.node) (lone_fact (λ n. IsReducedFrom (suc f) tops (tree_of ns n)) pieces ks k e named all)
 
-lone_node : (k : Kid) (n x : ℕ) → HasKid (k ∷ []) n x → k.node ≡ n
+pub lone_node : (k : Kid) (n x : ℕ) → HasKid (k ∷ []) n x → k.node ≡ n
 lone_node k n x (inl a) = a.0
 lone_node k n x (inr b) = absurd b
 
@@ -113,6 +114,10 @@ pub lone_branch : (ns : List Node) (f n x : ℕ) (tops : List ℕ) (pieces : Lis
 lone_branch ns f n x tops pieces ks k e named all h =
     branch_later f tops (tree_of ns k.node) (lone_fact (λ n. IsReducedFrom (suc f) tops (tree_of ns n)) pieces ks k e named all) x
     ∙ ap (λ m. tree_of ns m) (lone_node k n x (subst (λ js. HasKid js n x) e h))
+
+-- what is a subtree of a piece's tree, where one kid is all there is
+pub lone_over : (ns : List Node) (n x : ℕ) (ks : List Kid) (k : Kid) (u : Plain ℕ) → ks ≡ k ∷ [] → HasKid ks n x → IsSubtree u (tree_of ns n) → IsSubtree u (tree_of ns k.node)
+lone_over ns n x ks k u e h s = subst (λ m. IsSubtree u (tree_of ns m)) (sym (lone_node k n x (subst (λ js. HasKid js n x) e h))) s
 
 some_kid : (end top : ℕ) (ks : List Kid) → AreKidsTo end ks → end ≡ suc top → 1 ≤ length ks
 some_kid end top [] kids e =

@@ -3,7 +3,8 @@ use Rattle.std.proofs.Common.{◌≡◌, ℕ, suc, ◌<◌, Bool, true, ◌&&◌
 use Rattle.std.proofs.lemmas.Bool.{leb-true, and_parts, cases_Bool, MatchBool-at_true, MatchBool-at_false, cond-true, not-true}
 use Rattle.std.specs.Prelude.{nat_le, nat_eq, map}
 use Rattle.fws_iv.specs.Ivs.{has}
-use Rattle.fws_tree.specs.Plain.{Plain, leaf, cut, Kids, none, kid, kid_at, value_from, value, IsWithin, EachKid, Parts, IsReducedFrom, IsReduced}
+use Rattle.fws_tree.specs.Plain.{Plain, leaf, cut, Kids, none, kid, kid_at, value_from, value, EachKid, Parts, IsReducedFrom, IsReduced}
+use Rattle.fws_box.specs.Sides.{IsWithin}
 use Rattle.fws_tree.specs.Tree.{AreLeavesBelow, AreKidLeavesBelow}
 use Rattle.fws_tree.proofs.Reduced.{cond_false}
 use Rattle.fws_tree.proofs.PathPoints.{leaf_value}

@@ -8,8 +8,9 @@ use Rattle.std.specs.Prelude.{nat_le, nat_eq, slice_set, All}
 use Rattle.fws_iv.specs.declared.iv.Iv.{Iv}
 use Rattle.fws_iv.specs.Ivs.{has}
 use Rattle.fws_tree.specs.declared.row.Row.{Row}
-use Rattle.fws_tree.specs.Plain.{Plain, leaf, cut, Kids, none, kid, kid_at, value_from, value, IsWithin, EachKid, Parts, IsReducedFrom, IsReduced}
-use Rattle.fws_tree.specs.Rows.{sides_have, row_hits, whole_sides, paths_below, paths_through, paths_of}
+use Rattle.fws_tree.specs.Plain.{Plain, leaf, cut, Kids, none, kid, kid_at, value_from, value, EachKid, Parts, IsReducedFrom, IsReduced}
+use Rattle.fws_box.specs.Sides.{IsWithin, sides_have, whole_sides}
+use Rattle.fws_tree.specs.Rows.{row_hits, paths_below, paths_through, paths_of}
 use Rattle.fws_tree.proofs.Reduced.{cond_false}
 
 -- 1 where the test holds

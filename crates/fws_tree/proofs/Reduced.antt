@@ -4,7 +4,8 @@ use Rattle.std.proofs.lemmas.Bool.{le-leb, leb-true, eqb-true, and_parts, cases_
 use Rattle.std.specs.Prelude.{nat_le, nat_eq}
 use Rattle.fws_iv.specs.declared.iv.Iv.{Iv}
 use Rattle.fws_iv.specs.Ivs.{has, SameMembersSameList}
-use Rattle.fws_tree.specs.Plain.{Plain, leaf, cut, Kids, none, kid, kid_at, branch, value_from, IsWithin, EachKid, Parts, AreMany, IsReducedFrom, OneReducedTree, HasValues}
+use Rattle.fws_tree.specs.Plain.{Plain, leaf, cut, Kids, none, kid, kid_at, branch, value_from, EachKid, Parts, AreMany, IsReducedFrom, OneReducedTree, HasValues}
+use Rattle.fws_box.specs.Sides.{IsWithin}
 
 pub cond_false : {A : Type 0} (b : Bool) (x y : A) → b ≡ false → cond b x y ≡ y
 cond_false b x y e = rw e refl

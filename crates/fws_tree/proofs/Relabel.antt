@@ -57,7 +57,7 @@ named_same : {L : Type 0} (a b : L) → leaf a ≡ leaf b → a ≡ b
 named_same a b e = cc
 
 mutual
-  relabel_inj : {L : Type 0} (leaves : List L) → AreDifferent leaves → (t u : Plain ℕ) → AreLeavesBelow (length leaves) t → AreLeavesBelow (length leaves) u
+  pub relabel_inj : {L : Type 0} (leaves : List L) → AreDifferent leaves → (t u : Plain ℕ) → AreLeavesBelow (length leaves) t → AreLeavesBelow (length leaves) u
       → relabel leaves t ≡ relabel leaves u → t ≡ u
   relabel_inj leaves d (leaf m) (leaf n) h g e =
       let a = leaf_there leaves m h in

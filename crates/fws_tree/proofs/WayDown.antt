@@ -1,12 +1,13 @@
 -- Steps down the tree of a node.
-use Rattle.std.proofs.Common.{◌≡◌, ◌≢◌, ℕ, suc, ◌<◌, Bool, true, false, cond, Option, Some, None, List, [], ◌∷◌, length, get_or, refl, sym, ◌∙◌, ap, subst, arith, zero-add, drop, drop-cons}
+use Rattle.std.proofs.Common.{◌≡◌, ◌≢◌, ℕ, suc, ◌-◌, ◌<◌, Bool, true, false, cond, Option, Some, None, List, [], ◌∷◌, length, get_or, refl, sym, ◌∙◌, ap, subst, arith, zero-add, drop, drop-cons}
 use Rattle.std.proofs.lemmas.List.{get_or_default}
 use Rattle.std.proofs.lemmas.Bool.{cond-true, cond_both, eqb-true, eq-eqb}
 use Rattle.std.proofs.lemmas.Option.{slice_get_within, slice_get_read}
 use Rattle.std.specs.Prelude.{nat_eq, IfSome, slice_get, option_and_then}
 use Rattle.fws_tree.specs.declared.node.Node.{Node}
 use Rattle.fws_tree.specs.declared.node.Node.TheVariants.{Leaf}
-use Rattle.fws_tree.specs.Plain.{Plain, leaf, cut, Kids, none, kid_at, branch, value_from, value, IsWithin}
+use Rattle.fws_tree.specs.Plain.{Plain, leaf, cut, Kids, none, kid_at, branch, value_from, value}
+use Rattle.fws_box.specs.Sides.{IsWithin}
 use Rattle.fws_tree.specs.Nodes.{tree_over, trees_after, tree_of, IsNodeBelow, AreOrderedFrom, relabel}
 use Rattle.fws_tree.specs.Tree.{IsKept}
 use Rattle.fws_tree.proofs.Numbered.{node_tree, ordered_at}
@@ -58,10 +59,12 @@ some_below at n None lt h = h
 some_below at n (Some k) lt h = omega arith
 
 -- at a point within its tops, a kept tree has a leaf at the place that its tree of places gives
-pub place_there : {L : Type 0} (tops : List ℕ) (leaves : List L) (nodes : List Node) (root : ℕ) → IsKept L tops leaves nodes root → (ts p : List ℕ) → tops ≡ ts → IsWithin ts p
-    → (n : ℕ) × (value (tree_of nodes root) p ≡ Some n) × (n < length leaves)
-place_there tops leaves nodes root k ts p s w =
-    let a = has_value_from tops 0 (relabel leaves (tree_of nodes root)) k.reduced p (subst (λ us. IsWithin us p) (sym s) w) in
+pub place_there : {L : Type 0} (tops : List ℕ) (leaves : List L) (nodes : List Node) → IsKept L tops leaves nodes → (ts p : List ℕ) → tops ≡ ts → IsWithin ts p
+    → (n : ℕ) × (value (tree_of nodes (length nodes - 1)) p ≡ Some n) × (n < length leaves)
+place_there tops leaves nodes k ts p s w =
+    let root : ℕ = length nodes - 1 in
+    let some = k.shared.some in
+    let a = has_value_from tops 0 (relabel leaves (tree_of nodes root)) (k.shared.reduced root (omega arith)) p (subst (λ us. IsWithin us p) (sym s) w) in
     of_place leaves (value (tree_of nodes root) p) a.0 (sym (value-relabel leaves (tree_of nodes root) p) ∙ a.1)
   where
     of_place : {L : Type 0} (leaves : List L) (o : Option ℕ) (a : L) → option_and_then (slice_get leaves) o ≡ Some a → (n : ℕ) × (o ≡ Some n) × (n < length leaves)
@@ -69,10 +72,10 @@ place_there tops leaves nodes root k ts p s w =
     of_place leaves (Some n) a e = (n, refl, slice_get_within leaves n a e)
 
 -- so the place is below the number of leaves
-pub place_within : {L : Type 0} (tops : List ℕ) (leaves : List L) (nodes : List Node) (root : ℕ) → IsKept L tops leaves nodes root → (ts p : List ℕ) → tops ≡ ts → IsWithin ts p
-    → (n : ℕ) → Some n ≡ value (tree_of nodes root) p → n < length leaves
-place_within tops leaves nodes root k ts p s w n e =
-    let t = place_there tops leaves nodes root k ts p s w in
+pub place_within : {L : Type 0} (tops : List ℕ) (leaves : List L) (nodes : List Node) → IsKept L tops leaves nodes → (ts p : List ℕ) → tops ≡ ts → IsWithin ts p
+    → (n : ℕ) → Some n ≡ value (tree_of nodes (length nodes - 1)) p → n < length leaves
+place_within tops leaves nodes k ts p s w n e =
+    let t = place_there tops leaves nodes k ts p s w in
     let q : Some n ≡ Some t.0 = e ∙ t.1 in
     let r : t.0 ≡ n = cc in subst (λ m. m < length leaves) r t.2
 

@@ -1,7 +1,6 @@
 -- What the builder of reduced trees keeps.
-use Rattle.std.specs.Prelude.{◌≡◌, ℕ, suc, slice_index, ◌+◌, ◌<◌, ◌≤◌, ◌⊎◌, Bool, ◌&&◌, nat_lt, nat_le, true, Option, Some, None, filter, map, slice_index_or, length, All, List, [], ◌∷◌, ◌++◌, slice_get, if◌then◌else◌}
+use Rattle.std.specs.Prelude.{◌≡◌, ℕ, ◌+◌, ◌≤◌, ◌⊎◌, Bool, ◌&&◌, nat_lt, nat_le, true, Option, Some, None, map, List, [], ◌∷◌, ◌++◌, slice_get, if◌then◌else◌}
 use Rattle.std.specs.List.{AllByRecursion}
-use Rattle.std.specs.Option.{option_map_or}
 use Rattle.fws_iv.specs.declared.iv.Iv.{Iv}
 use Rattle.fws_iv.specs.Ivs.{has, IsRegular}
 use Rattle.fws_tree.specs.declared.join.Piece.{Piece}
@@ -66,32 +65,6 @@ in_piece p x = nat_le p.lo x && nat_le x p.hi
 abbrev pub held_at : {T : Type 0} → List (Piece T) → ℕ → Option T
 held_at [] x = None
 held_at (p ∷ ps) x = if in_piece p x then Some p.held else held_at ps x
-
--- the side of a row by its number, at a field
-abbrev pub side_of : {L : Type 0} → List (Row L) → ℕ → ℕ → List Iv
-side_of rows f n = option_map_or (λ r. slice_index_or r.sides f []) (slice_get rows n) []
-
--- the numbers among these of the rows whose side at a field has a value
-abbrev pub live_at : {L : Type 0} → List (Row L) → ℕ → List ℕ → ℕ → List ℕ
-live_at rows f live x = filter (λ n. has (side_of rows f n) x) live
-
--- some of these rows, in their order, that have the same rows alive at each value from lo to hi; all of them where the
--- test says so, and at a single value the test does
-pub record IsNarrowed {L : Type 0} (rows : List (Row L)) (f lo hi : ℕ) (live kept : List ℕ) (whole : Bool) : Type 0 where
-  pub same : (x : ℕ) → lo ≤ x → x ≤ hi → live_at rows f kept x ≡ live_at rows f live x
-  pub all : whole ≡ true → (x : ℕ) → lo ≤ x → x ≤ hi → kept ≡ live_at rows f live x
-  pub single : lo ≡ hi → whole ≡ true
-  pub below : All (λ n. n < length rows) kept
-
--- a row by its number has these values of the fields from f on
-abbrev pub row_has : {L : Type 0} → List (Row L) → ℕ → ℕ → List ℕ → Bool
-row_has rows f n [] = true
-row_has rows f n (x ∷ p) = has (side_of rows f n) x && row_has rows (suc f) n p
-
--- the number of the leaf of the first of these rows that has the values of the fields from f on, else that of the rest
-abbrev pub first_number : {L : Type 0} → List (Row L) → List ℕ → ℕ → ℕ → List ℕ → List ℕ → ℕ
-first_number rows numbers rest f [] p = rest
-first_number rows numbers rest f (n ∷ live) p = if row_has rows f n p then slice_index numbers n else first_number rows numbers rest f live p
 
 -- numbers that stand for the leaves of rows, by their places in a list
 abbrev pub AreNumbersOf : {L : Type 0} → List L → List ℕ → List (Row L) → Type 0

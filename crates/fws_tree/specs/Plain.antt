@@ -2,6 +2,7 @@
 use Rattle.std.specs.Prelude.{◌≡◌, ◌≢◌, ℕ, suc, ◌≤◌, Bool, true, false, ◌&&◌, not, nat_eq, nat_le, Option, Some, None, List, [], ◌∷◌, if◌then◌else◌, MatchBool}
 use Rattle.fws_iv.specs.declared.iv.Iv.{Iv}
 use Rattle.fws_iv.specs.Ivs.{has, IsRegular}
+use Rattle.fws_box.specs.Sides.{IsWithin}
 
 -- a tree is a leaf, or it cuts a field: each kid has a set of that field's values and the tree for them
 mutual
@@ -36,13 +37,6 @@ value_from f t (x ∷ p) = value_from (suc f) (branch f t x) p
 -- the value of a tree at a point
 abbrev pub value : {L : Type 0} → Plain L → List ℕ → Option L
 value t p = value_from 0 t p
-
--- a point whose values are at most the tops of their fields
-abbrev pub IsWithin : List ℕ → List ℕ → Type 0
-IsWithin [] [] = Unit {0}
-IsWithin [] (x ∷ p) = ⊥
-IsWithin (top ∷ tops) [] = ⊥
-IsWithin (top ∷ tops) (x ∷ p) = (x ≤ top) × IsWithin tops p
 
 abbrev pub EachKid : {L : Type 0} → (Plain L → Type 0) → Kids L → Type 0
 EachKid P none = Unit {0}

@@ -1,15 +1,9 @@
 -- Rows: a set for each field, and a leaf for the points that lie in all of them.
-use Rattle.std.specs.Prelude.{◌≡◌, ℕ, ◌+◌, Bool, true, false, ◌&&◌, IsTrue, Option, Some, List, [], ◌∷◌, ◌++◌, slice_set, map, All, if◌then◌else◌}
+use Rattle.std.specs.Prelude.{◌≡◌, ℕ, ◌+◌, IsTrue, Option, Some, List, [], ◌∷◌, ◌++◌, slice_set, All, if◌then◌else◌}
 use Rattle.fws_iv.specs.declared.iv.Iv.{Iv}
-use Rattle.fws_iv.specs.Ivs.{has}
+use Rattle.fws_box.specs.Sides.{sides_have, whole_sides}
 use Rattle.fws_tree.specs.declared.row.Row.{Row}
 use Rattle.fws_tree.specs.Plain.{Plain, leaf, cut, Kids, none, kid}
-
--- each value of the point is a member of its side
-abbrev pub sides_have : List (List Iv) → List ℕ → Bool
-sides_have [] p = true
-sides_have (s ∷ ss) [] = false
-sides_have (s ∷ ss) (x ∷ p) = has s x && sides_have ss p
 
 -- the leaf of the first row that holds the point, else the rest
 abbrev pub first_leaf : {L : Type 0} → List (Row L) → L → List ℕ → L
@@ -20,10 +14,6 @@ first_leaf (r ∷ rs) rest p = if sides_have r.sides p then r.leaf else first_le
 abbrev pub row_hits : {L : Type 0} → List (Row L) → List ℕ → ℕ
 row_hits [] p = 0
 row_hits (r ∷ rs) p = (if sides_have r.sides p then 1 else 0) + row_hits rs p
-
--- the whole range of each field
-abbrev pub whole_sides : List ℕ → List (List Iv)
-whole_sides tops = map (λ top. record { lo = 0; hi = top } ∷ []) tops
 
 -- the paths of a tree, depth first, kids in their order: a row for each leaf, with the sets on the way to it
 abbrev mutual

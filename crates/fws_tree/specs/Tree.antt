@@ -1,8 +1,8 @@
 -- What holds of the parts of a tree as the code keeps it.
-use Rattle.std.specs.Prelude.{◌≡◌, ℕ, ◌<◌, List, length}
+use Rattle.std.specs.Prelude.{◌≡◌, ℕ, ◌-◌, ◌<◌, List, length}
 use Rattle.fws_tree.specs.declared.node.Node.{Node}
-use Rattle.fws_tree.specs.Plain.{Plain, leaf, cut, Kids, none, kid, IsReduced}
-use Rattle.fws_tree.specs.Nodes.{tree_of, AreOrderedFrom, relabel}
+use Rattle.fws_tree.specs.Plain.{Plain, leaf, cut, Kids, none, kid}
+use Rattle.fws_tree.specs.Shared.{IsShared, subtree_of}
 
 -- each leaf holds a number below n
 abbrev mutual
@@ -14,9 +14,7 @@ abbrev mutual
   AreKidLeavesBelow n none = Unit {0}
   AreKidLeavesBelow n (kid s t ks) = AreLeavesBelow n t × AreKidLeavesBelow n ks
 
--- twelve tops, nodes that name earlier ones alone, a root among them, and a tree that is reduced over the tops
-pub record IsKept (L : Type 0) (tops : List ℕ) (leaves : List L) (nodes : List Node) (root : ℕ) : Type 0 where
+-- twelve tops, and nodes and leaves that stand for the last node's tree and nothing else
+pub record IsKept (L : Type 0) (tops : List ℕ) (leaves : List L) (nodes : List Node) : Type 0 where
   pub twelve : length tops ≡ 12
-  pub ordered : AreOrderedFrom 0 nodes
-  pub inside : root < length nodes
-  pub reduced : IsReduced tops (relabel leaves (tree_of nodes root))
+  pub shared : IsShared tops (subtree_of leaves nodes (length nodes - 1)) leaves nodes

@@ -3,7 +3,8 @@
 ghost use Rattle.std.specs.Prelude.{◌≡◌, ◌⊎◌, ◌+◌, ◌<◌, ◌≤◌, ◌++◌, List, [], ◌∷◌, ℕ, suc, map, length, if◌then◌else◌, IfOk, OnOk, All, Contains};
 ghost use Rattle.fws_tree.specs.Building.{AreDifferent, AreInRow, AreKidsTo, end_of, Extends, HasKid, IsArena};
 ghost use Rattle.fws_tree.specs.Nodes.{tree_of};
-ghost use Rattle.fws_tree.specs.Plain.{branch, IsReducedFrom};
+ghost use Rattle.fws_tree.specs.Plain.{Plain, branch, IsReducedFrom};
+ghost use Rattle.fws_tree.specs.Subtrees.{IsSubtree};
 
 use crate::arena::{Arena, place_of};
 use crate::node::{Kid, Node};
@@ -87,6 +88,8 @@ pub(crate) fn join(
         → IsReducedFrom field (top ∷ tops) (tree_of arena.new r)) }
     ensures branches { IfOk result (λ r. (tops : List ℕ) → All (λ p. IsReducedFrom (suc field) tops (tree_of arena.old p.held)) pieces.now
         → All (λ p. (x : ℕ) → p.lo ≤ x → x ≤ p.hi → branch field (tree_of arena.new r) x ≡ tree_of arena.old p.held) pieces.now) }
+    ensures over { IfOk result (λ r. All (λ p. (u : Plain ℕ) → IsSubtree u (tree_of arena.old p.held) → IsSubtree u (tree_of arena.new r)) pieces.now) }
+    ensures added { IfOk result (λ r. (k : ℕ) → length arena.old ≤ k → k < length arena.new → k ≡ r) }
 {
     let kids = kids_of(alloc, pieces)?;
     let found = kids.as_slice();

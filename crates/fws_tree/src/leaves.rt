@@ -52,27 +52,3 @@ impl<L: Leaf, M: Leaf> Leaf for (L, M) {
 
     ghost exact = { λ x y h. let both = and_parts (L.PartialEq.eq x.0 y.0) (M.PartialEq.eq x.1 y.1) h in λ i. (L.exact x.0 y.0 both.0 i, M.exact x.1 y.1 both.1 i) };
 }
-
-#[cfg(test)]
-mod tests {
-    use super::*;
-    use fws_net::{Outcome, Rewrite};
-    use std::test::Fail;
-
-    fn is_copied<L: Leaf>(alloc: Global, leaf: &L) -> Result<bool, Memory> {
-        Ok(leaf.copy(alloc)?.same(leaf))
-    }
-
-    #[test]
-    fn copies_are_same(rt: HostRuntime) -> Result<(), Fail> {
-        let alloc = rt.alloc();
-        let outcome = Outcome::Accept(Rewrite {
-            src: None,
-            dst: None,
-        });
-        assert!(rt; is_copied(alloc, &true)?);
-        assert!(rt; is_copied(alloc, &(outcome, Some(Outcome::Drop)))?);
-        assert!(rt; !(outcome, true).same(&(Outcome::Drop, true)));
-        Ok(())
-    }
-}

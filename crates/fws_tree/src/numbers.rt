@@ -21,7 +21,7 @@ pub(crate) struct Numbered<L: Leaf> {
 }
 
 // Gives the number of the leaf, which is stored unless it is there.
-fn number<L: Leaf>(leaves: &mut IndexSet<L>, leaf: L) -> Result<u32, Memory>
+pub(crate) fn number<L: Leaf>(leaves: &mut IndexSet<L>, leaf: L) -> Result<u32, Memory>
     ensures place { IfOk result (λ i. slice_get leaves.new.keys i ≡ Some leaf) }
     ensures extends { Extends leaves.old.keys leaves.new.keys }
     ensures different { AreDifferent leaves.new.keys }

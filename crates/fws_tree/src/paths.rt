@@ -1,43 +1,17 @@
 //! The paths of a tree as rows.
 
 ghost use Rattle.std.specs.Prelude.{◌≡◌, ◌<◌, ◌++◌, length, slice_set, IfOk, OnOk};
-ghost use Rattle.fws_tree.specs.Rows.{whole_sides, paths_below};
+ghost use Rattle.fws_tree.specs.Rows.{paths_below};
+ghost use Rattle.fws_box.specs.Sides.{whole_sides};
 ghost use Rattle.fws_tree.specs.Nodes.{tree_of, AreOrderedFrom, relabel};
 
 use crate::leaf::Leaf;
 use crate::node::Node;
 use crate::row::Row;
-use fws_iv::{Ivs, one};
+use fws_box::copy_sides;
+use fws_iv::Ivs;
 use fws_num::Memory;
 use std::alloc::Global;
-use std::array;
-
-// Twelve sets without a member.
-pub(crate) fn no_sides(alloc: Global) -> [Ivs; 12] {
-    array::from_fn(|_| Ivs::none(alloc))
-}
-
-/// The whole range of each field.
-pub fn ranges(alloc: Global, tops: &[u32; 12]) -> Result<[Ivs; 12], Memory>
-    ensures { IfOk result (λ sides. sides ≡ whole_sides tops.now) }
-{
-    let mut sides = no_sides(alloc);
-    for k in 0..12 {
-        sides[k] = one(alloc, 0, tops[k])?;
-    }
-    Ok(sides)
-}
-
-// Equal sides.
-pub(crate) fn copy_sides(alloc: Global, sides: &[Ivs; 12]) -> Result<[Ivs; 12], Memory>
-    ensures { IfOk result (λ copies. copies ≡ sides.now) }
-{
-    let mut copies = no_sides(alloc);
-    for k in 0..12 {
-        copies[k] = sides[k].copy(alloc)?;
-    }
-    Ok(copies)
-}
 
 // The sides, with this one for the field.
 fn with_side(alloc: Global, sides: &[Ivs; 12], field: u8, side: &Ivs) -> Result<[Ivs; 12], Memory>
@@ -56,7 +30,7 @@ pub fn add_paths<L: Leaf>(
     alloc: Global,
     leaves: &[L],
     nodes: &[Node],
-    at: u32,
+    at: usize,
     sides: [Ivs; 12],
     rows: &mut Vec<Row<L>>,
 ) -> Result<(), Memory>
@@ -64,7 +38,7 @@ pub fn add_paths<L: Leaf>(
     requires inside { at < length nodes.now }
     ensures { OnOk result (rows.new.items ≡ rows.old.items ++ paths_below sides (relabel leaves.now (tree_of nodes.now at))) }
 {
-    match &nodes[at as usize] {
+    match &nodes[at] {
         Node::Leaf(place) => {
             if let Some(leaf) = leaves.get(*place as usize) {
                 let leaf = leaf.copy(alloc)?;
@@ -74,7 +48,7 @@ pub fn add_paths<L: Leaf>(
         Node::Cut(field, kids) => {
             for kid in kids.as_slice() {
                 let next = with_side(alloc, &sides, *field, &kid.set)?;
-                add_paths(alloc, leaves, nodes, kid.node, next, rows)?;
+                add_paths(alloc, leaves, nodes, kid.node as usize, next, rows)?;
             }
         }
     }

@@ -1,17 +1,19 @@
 //! Trees, seen by contracts as the tops of the fields and the plain tree.
 
-ghost use Rattle.std.specs.Prelude.{◌≡◌, ℕ, ◌<◌, List, length, Some, All, IfOk, IsTrue};
-ghost use Rattle.fws_tree.specs.Building.{AreDifferent};
-ghost use Rattle.fws_tree.specs.Nodes.{tree_of, AreOrderedFrom, relabel};
-ghost use Rattle.fws_tree.specs.Plain.{IsReduced, IsWithin, value};
-ghost use Rattle.fws_tree.specs.Rows.{sides_have, row_hits, paths_of};
-ghost use Rattle.fws_tree.specs.Tree.{AreLeavesBelow};
+ghost use Rattle.std.specs.Prelude.{◌≡◌, ℕ, ◌-◌, List, length, Some, All, IfOk, IsTrue};
+ghost use Rattle.fws_tree.specs.Plain.{Plain, IsReduced, value};
+ghost use Rattle.fws_box.specs.Sides.{IsWithin, sides_have};
+ghost use Rattle.fws_tree.specs.Rows.{row_hits, paths_of};
+ghost use Rattle.fws_tree.specs.Shared.{IsShared, subtree_of};
+ghost use Rattle.fws_tree.specs.Subtrees.{AreSubtrees};
 
 use crate::leaf::Leaf;
 use crate::node::Node;
-use crate::paths::{add_paths, ranges};
+use crate::paths::add_paths;
 use crate::row::Row;
+use crate::shared::Shared;
 use crate::walk::place_at;
+use fws_box::whole_sides;
 use fws_num::{Items, Memory};
 use std::alloc::Global;
 use std::marker::Model;
@@ -22,11 +24,10 @@ pub struct Tree<L: Leaf> {
     tops: [u32; 12],
     leaves: Items<L>,
     nodes: Items<Node>,
-    root: u32,
 }
 
 impl<L: Leaf> Model for Tree<L> {
-    ghost use Rattle.std.specs.Prelude.{List, ℕ};
+    ghost use Rattle.std.specs.Prelude.{List, ℕ, ◌-◌, length};
     ghost use Rattle.std.specs.Coded.{coded×, coded_list, coded_ℕ};
     ghost use Rattle.fws_tree.specs.Plain.{Plain};
     ghost use Rattle.fws_tree.specs.PlainCode.{coded_plain};
@@ -35,12 +36,12 @@ impl<L: Leaf> Model for Tree<L> {
 
     ghost coded = { coded× (coded_list coded_ℕ) (coded_plain L.code) };
 
-    ghost use Rattle.fws_tree.specs.Nodes.{tree_of, relabel};
+    ghost use Rattle.fws_tree.specs.Shared.{subtree_of};
     ghost use Rattle.fws_tree.specs.Tree.{IsKept};
 
-    ghost view = { λ t. (t.tops, relabel t.leaves (tree_of t.nodes t.root)) };
+    ghost view = { λ t. (t.tops, subtree_of t.leaves t.nodes (length t.nodes - 1)) };
 
-    ghost invariant = { λ t. IsKept L t.tops t.leaves t.nodes t.root };
+    ghost invariant = { λ t. IsKept L t.tops t.leaves t.nodes };
 }
 
 impl<L: Leaf> Tree<L> {
@@ -58,7 +59,7 @@ impl<L: Leaf> Tree<L> {
         requires { IsWithin self.now.0 p.now }
         ensures { value self.now.1 p.now ≡ Some result.now }
     {
-        match place_at(self.nodes.as_slice(), self.root, p) {
+        match place_at(self.nodes.as_slice(), self.nodes.len() - 1, p) {
             Some(n) => &self.leaves.as_slice()[n as usize],
             None => unreachable!(),
         }
@@ -72,37 +73,44 @@ impl<L: Leaf> Tree<L> {
         ensures right { IfOk result (λ rows. (p : List ℕ) → IsWithin self.now.0 p → All (λ row. IsTrue (sides_have row.sides p) → value self.now.1 p ≡ Some row.leaf) rows.items) }
     {
         let mut rows = Vec::new(alloc);
-        let sides = ranges(alloc, &self.tops)?;
+        let sides = whole_sides(alloc, &self.tops)?;
         add_paths(
             alloc,
             self.leaves.as_slice(),
             self.nodes.as_slice(),
-            self.root,
+            self.nodes.len() - 1,
             sides,
             &mut rows,
         )?;
         Ok(rows)
     }
+
+    /// How many different subtrees the tree has, itself and its leaves included. It allocates nothing.
+    pub fn nodes(&self) -> usize
+        ensures { (ts : List (Plain L)) × AreSubtrees self.now.1 ts × (length ts ≡ result) }
+    {
+        self.nodes.len()
+    }
+
+    /// The leaves and the nodes of the tree: one node for each different subtree.
+    pub fn shared(&self) -> Shared<'_, L>
+        ensures { IsShared self.now.0 self.now.1 result.leaves.now result.nodes.now }
+    {
+        Shared {
+            leaves: self.leaves.as_slice(),
+            nodes: self.nodes.as_slice(),
+        }
+    }
 }
 
-/// The tree of node `root`, with the leaves at the places that its leaves name.
-pub(crate) fn from_nodes<L: Leaf>(
-    tops: &[u32; 12],
-    leaves: Items<L>,
-    nodes: Items<Node>,
-    root: u32,
-) -> Tree<L>
-    requires ordered { AreOrderedFrom 0 nodes }
-    requires inside { root < length nodes }
-    requires reduced { IsReduced tops.now (tree_of nodes root) }
-    requires different { AreDifferent leaves }
-    requires leaves { AreLeavesBelow (length leaves) (tree_of nodes root) }
-    ensures { result ≡ (tops.now, relabel leaves (tree_of nodes root)) }
+/// The tree of the last node, with the leaves at the places that its leaves name.
+pub(crate) fn from_nodes<L: Leaf>(tops: &[u32; 12], leaves: Items<L>, nodes: Items<Node>) -> Tree<L>
+    requires { IsShared tops.now (subtree_of leaves nodes (length nodes - 1)) leaves nodes }
+    ensures { result ≡ (tops.now, subtree_of leaves nodes (length nodes - 1)) }
 {
     Tree {
         tops: *tops,
         leaves,
         nodes,
-        root,
     }
 }

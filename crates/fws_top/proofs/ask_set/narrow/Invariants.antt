@@ -1,7 +1,6 @@
 use Rattle.std.proofs.Common.{◌≡◌, ℕ, List, ◌&&◌, true, drop}
 use Rattle.fws_net.specs.Points.{tops_of}
-use Rattle.fws_tree.specs.Plain.{IsWithin}
-use Rattle.fws_tree.specs.Rows.{sides_have}
+use Rattle.fws_box.specs.Sides.{IsWithin, sides_have}
 use Rattle.fws_top.specs.Asks.{are_asks, asks_have}
 use Rattle.fws_top.proofs.ask_set.narrow.Given as goal
 

@@ -1,9 +1,0 @@
-use Rattle.std.proofs.Common.{◌≡◌, length}
-use Rattle.fws_tree.proofs.Changing.{IsMet}
-use Rattle.fws_tree.proofs.change.meet_sides.Given as goal
-
-abbrev pub invariant-loop-k : goal.invariant-loop-k
-invariant-loop-k l = record {
-  twelve : length l.met ≡ 12;
-  made : IsMet l.met l.a l.b l.k;
-}

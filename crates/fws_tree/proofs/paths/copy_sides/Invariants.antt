@@ -1,8 +1,0 @@
-use Rattle.std.proofs.Common.{◌≡◌, take, length}
-use Rattle.fws_tree.proofs.paths.copy_sides.Given as goal
-
-abbrev pub invariant-loop-k : goal.invariant-loop-k
-invariant-loop-k l = record {
-  twelve : length l.copies ≡ 12;
-  made : take l.k l.copies ≡ take l.k l.sides;
-}

@@ -1,9 +1,0 @@
-use Rattle.std.proofs.Common.{◌≡◌, take, length}
-use Rattle.fws_tree.specs.Rows.{whole_sides}
-use Rattle.fws_tree.proofs.paths.ranges.Given as goal
-
-abbrev pub invariant-loop-k : goal.invariant-loop-k
-invariant-loop-k l = record {
-  twelve : length l.sides ≡ 12;
-  made : take l.k l.sides ≡ whole_sides (take l.k l.tops);
-}

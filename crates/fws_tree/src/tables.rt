@@ -1,0 +1,13 @@
+//! What a configuration makes of packets, as trees.
+
+use crate::tree::Tree;
+use fws_net::Outcome;
+
+/// The outcomes for packets of new connections, and those for packets of established ones.
+#[derive(Drop)]
+pub struct Tables {
+    /// By the packet alone: the last four fields are never cut.
+    pub fresh: Tree<Outcome>,
+    /// By the packet and by what its connection was made of.
+    pub est: Tree<Outcome>,
+}
