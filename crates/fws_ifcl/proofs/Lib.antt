@@ -1,0 +1,4 @@
+pub mod Heights
+pub mod Loops
+pub mod Refused
+pub mod Walks

@@ -1,0 +1,5 @@
+pub mod Loops
+pub mod Refusals
+pub mod Soundness
+pub mod Uses
+pub mod Walk
