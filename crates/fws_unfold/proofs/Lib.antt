@@ -1,0 +1,13 @@
+mod Bodies
+mod BodiesUsed
+mod Drafts
+mod DraftsUsed
+mod Flattened
+mod FlattenedUsed
+mod Levels
+mod Numbers
+mod Placed
+mod Refused
+mod Searching
+mod Shapes
+mod Told

@@ -1,0 +1,10 @@
+pub mod Blocks
+pub mod Calls
+pub mod Drafts
+pub mod Finding
+pub mod Levels
+pub mod Numbers
+pub mod Refused
+pub mod Short
+pub mod Told
+pub mod Used

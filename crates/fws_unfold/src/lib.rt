@@ -1,0 +1,21 @@
+//! Control diagrams unfolded into flat code.
+#![tactic(auto)]
+
+mod answer;
+mod blocks;
+mod calls;
+mod depth;
+mod draft;
+mod emitting;
+mod laws;
+mod loops;
+mod numbering;
+mod placing;
+mod reaching;
+mod refusing;
+mod sizes;
+mod unfolding;
+
+pub use answer::UnfoldAnswer;
+pub use laws::told_each;
+pub use unfolding::{unfold, unfold_from};
