@@ -1,7 +1,7 @@
 """python3 fields.py PROGRAM
 
 Runs the program, which makes the tree of so many rows with cuts of their own in four fields, for growing numbers of
-rows, and prints lines `rows paths seconds`. Exit status 1 where the paths are more than five for each row and one more,
+rows, and prints lines `fields rows seconds paths`. Exit status 1 where the paths are more than five for each row and one more,
 or where twice the rows take more than three times as long: work is to grow with the pieces that rows are alive in, and
 never with the product of all fields' pieces.
 """
@@ -12,14 +12,13 @@ import time
 
 
 def main(program):
-    print('rows paths seconds')
     last = None
     for rows in (500, 1000, 2000, 4000):
         begun = time.monotonic()
-        out = subprocess.run([program, str(rows)], stdout=subprocess.PIPE, check=True, timeout=120).stdout.split()
+        out = subprocess.run([program, 'fields', str(rows)], stdout=subprocess.PIPE, check=True, timeout=120).stdout.split()
         taken = time.monotonic() - begun
         paths = int(out[1])
-        print(rows, paths, '%.2f' % taken)
+        print('fields', rows, '%.2f' % taken, paths)
         if int(out[0]) != rows or paths > 5 * rows + 1:
             return 1
         if last is not None and taken > 3 * last + 0.1:

@@ -1,7 +1,7 @@
-"""python3 measure.py RULES SECONDS MEGABYTES COMMAND WORDS..
+"""python3 measure.py FAMILY COUNT SECONDS MEGABYTES COMMAND WORDS..
 
-Runs the command, which is to write a table and to end with status 0 within these bounds, and prints a line
-`rules seconds megabytes rows`. Exit status 1 past the bounds, or where the command ends otherwise.
+Runs the command, which is to end with status 0 within these bounds. Its first line is to be `table new N` or `COUNT N..`;
+prints a line `FAMILY COUNT seconds megabytes N..`. Exit status 1 past the bounds, or where the command ends otherwise.
 """
 
 import resource
@@ -10,21 +10,34 @@ import sys
 import time
 
 
-def main(rules, seconds, megabytes, command):
+def counted(first, count):
+    """What the first line counts; None where it is another line."""
+    words = first.split()
+    for head in (['table', 'new'], [count]):
+        if words[:len(head)] == head and len(words) > len(head):
+            return words[len(head):]
+    return None
+
+
+def main(family, count, seconds, megabytes, command):
     begun = time.monotonic()
     try:
-        ended = subprocess.run(command, stdout=subprocess.PIPE, timeout=2 * seconds)
+        ended = subprocess.run(command, stdout=subprocess.PIPE, timeout=2 * seconds + 10)
     except subprocess.TimeoutExpired:
-        print(rules, 'more than', 2 * seconds, 'seconds')
+        print(family, count, 'more than %g seconds' % (2 * seconds + 10))
         return 1
     taken = time.monotonic() - begun
     used = resource.getrusage(resource.RUSAGE_CHILDREN).ru_maxrss / 1024
     first = ended.stdout.split(b'\n', 1)[0].decode()
-    if ended.returncode != 0 or not first.startswith('table new '):
-        print(rules, 'ended with status', ended.returncode, first)
+    counts = counted(first, count)
+    if ended.returncode != 0 or counts is None:
+        print(family, count, 'ended with status', ended.returncode, first)
         return 1
-    print(rules, '%.2f' % taken, '%.0f' % used, first.rsplit(' ', 1)[1])
-    return 0 if taken <= seconds and used <= megabytes else 1
+    print(family, count, '%.2f' % taken, '%.0f' % used, *counts)
+    if taken <= seconds and used <= megabytes:
+        return 0
+    print(family, count, 'is past %g seconds or %g megabytes' % (seconds, megabytes))
+    return 1
 
 
-sys.exit(main(int(sys.argv[1]), float(sys.argv[2]), float(sys.argv[3]), sys.argv[4:]))
+sys.exit(main(sys.argv[1], sys.argv[2], float(sys.argv[3]), float(sys.argv[4]), sys.argv[5:]))

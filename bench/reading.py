@@ -2,7 +2,7 @@
 
 Writes rules of every kind into a chain of the user's, up to so many mebibytes, and runs the command over them. The whole
 text is read before the program answers that user chains aren't built yet, so that the time is that of reading. Prints a
-line `mebibytes seconds megabytes`. Exit status 1 past the bounds, or where the command ends otherwise.
+line `reading mebibytes seconds megabytes`. Exit status 1 past the bounds, or where the command ends otherwise.
 """
 
 import os
@@ -52,9 +52,9 @@ def main(mebibytes, seconds, megabytes, program, site):
         taken = time.monotonic() - begun
     used = resource.getrusage(resource.RUSAGE_CHILDREN).ru_maxrss / 1024
     if ended.returncode != 3 or not ended.stdout.endswith(b' not-built\n'):
-        print(mebibytes, 'ended with status', ended.returncode, ended.stdout[:200].decode())
+        print('reading', mebibytes, 'ended with status', ended.returncode, ended.stdout[:200].decode())
         return 1
-    print('%g' % mebibytes, '%.2f' % taken, '%.0f' % used)
+    print('reading', '%g' % mebibytes, '%.2f' % taken, '%.0f' % used)
     return 0 if taken <= seconds and used <= megabytes else 1
 
 

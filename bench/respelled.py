@@ -2,7 +2,7 @@
 
 Runs the command `site2` over the site of make_site.py, which is to write the same lines, the addresses by their
 interfaces, within these bounds; and over what was written, which is to write the same text. Prints a line
-`routes seconds megabytes`. Exit status 1 past the bounds, or where a run ends otherwise.
+`site2 routes seconds megabytes`. Exit status 1 past the bounds, or where a run ends otherwise.
 """
 
 import os
@@ -30,15 +30,15 @@ def main(routes, seconds, megabytes, program, site):
     with open(site, 'rb') as f:
         lines = f.read().splitlines()
     if first.returncode != 0 or second.returncode != 0:
-        print(routes, 'ended with status', first.returncode, first.stdout[:200].decode())
+        print('site2', routes, 'ended with status', first.returncode, first.stdout[:200].decode())
         return 1
     if sorted(first.stdout.splitlines()) != sorted(lines):
-        print(routes, 'other lines than those of the site')
+        print('site2', routes, 'other lines than those of the site')
         return 1
     if second.stdout != first.stdout:
-        print(routes, 'another text the second time')
+        print('site2', routes, 'another text the second time')
         return 1
-    print(routes, '%.2f' % taken, '%.0f' % used)
+    print('site2', routes, '%.2f' % taken, '%.0f' % used)
     return 0 if taken <= seconds and used <= megabytes else 1
 
 

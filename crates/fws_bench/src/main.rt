@@ -1,77 +1,114 @@
-//! Makes the tree of rows that each have cuts of their own in four fields, and prints how many rows and paths there are.
+//! Makes trees of growing size, and prints how large they are. `fields N` makes the tree of N rows that each have cuts of
+//! their own in four fields, and prints N and the number of its paths; `product N` makes the tree of N rows that each test
+//! one of four fields, and prints N and the number of its nodes; `recolour N` recolours a canvas N times, and prints N, the
+//! number of its values and that of its tree's nodes. A run may have several of these, one behind the other.
 #![tactic(auto)]
 
-ghost use Rattle.std.specs.Prelude.{◌<◌, ◌≤◌, IfSome};
+ghost use Rattle.std.specs.Prelude.{◌≤◌, IfSome};
 
-use fws_iv::one;
-use fws_num::{Memory, read_dec};
-use fws_tree::{Row, from_rows, ranges};
+mod fields;
+mod product;
+mod recolour;
+mod tops;
+
+use crate::fields::count_paths;
+use crate::product::count_nodes;
+use crate::recolour::count_recoloured;
+use fws_io::{StdSink, write_all};
+use fws_num::{Items, Memory, Text, put_dec, read_dec};
 use std::alloc::Global;
 use std::env;
 use std::process::ExitCode;
 use std::rt::Env;
 
-/// The most rows.
+/// The most rows and recolourings.
 const MOST: u64 = 4000;
 
-/// The greatest value of each field.
-const TOPS: [u32; 12] = [
-    15,
-    255,
-    u32::MAX,
-    65535,
-    u32::MAX,
-    65535,
-    63,
-    255,
-    u32::MAX,
-    65535,
-    u32::MAX,
-    65535,
-];
-
-/// A row with addresses and ports of its own.
-fn make_row(alloc: Global, k: u32) -> Result<Row<bool>, Memory>
-    requires { k < MOST }
-{
-    let mut sides = ranges(alloc, &TOPS)?;
-    sides[2] = one(alloc, 1000 * k, 1000 * k + 499)?;
-    sides[3] = one(alloc, 16 * k, 16 * k + 7)?;
-    sides[4] = one(alloc, 1000 * k + 250, 1000 * k + 749)?;
-    sides[5] = one(alloc, 16 * k + 4, 16 * k + 11)?;
-    Ok(Row { sides, leaf: true })
+/// Why nothing is printed.
+#[derive(Clone, Copy, Debug, PartialEq, Eq)]
+enum Stop {
+    /// The words ask for nothing that there is.
+    Words,
+    /// Memory was wanting.
+    Memory,
 }
 
-/// How many paths the tree of `n` rows has.
-fn count_paths(alloc: Global, n: u32) -> Result<usize, Memory>
-    requires { n ≤ MOST }
-{
-    let mut rows = Vec::new(alloc);
-    for k in 0..n {
-        rows.push(make_row(alloc, k)?)?;
+impl From<Memory> for Stop {
+    fn from(_e: Memory) -> Stop {
+        Stop::Memory
     }
-    let tree = from_rows(alloc, &TOPS, rows.as_slice(), false)?;
-    Ok(tree.paths(alloc)?.len())
 }
 
-/// The number of rows that the first argument asks for.
-fn read_rows<R: Env + AllocGlobal>(rt: &R) -> Option<u32>
+/// The number that a word asks for.
+fn read_count(word: &Text) -> Option<u32>
     ensures { IfSome result (λ n. n ≤ MOST) }
 {
-    let argument = env::args(rt).ok()?.nth(1)?;
-    let n = read_dec(argument.as_bytes(), MOST)?;
+    let n = read_dec(word.as_slice(), MOST)?;
     Some(n as u32)
 }
 
+/// Appends a line of the number that was asked for and of what was counted.
+fn put_line(out: &mut Text, n: u32, counts: &[usize]) -> Result<(), Memory> {
+    put_dec(out, u64::from(n))?;
+    for count in counts {
+        out.put(b" ")?;
+        put_dec(out, *count as u64)?;
+    }
+    out.put(b"\n")
+}
+
+/// Does one job, and appends what it says.
+fn do_job(alloc: Global, out: &mut Text, kind: &Text, count: &Text) -> Result<(), Stop> {
+    let Some(n) = read_count(count) else {
+        return Err(Stop::Words);
+    };
+    match kind.as_slice() {
+        b"fields" => put_line(out, n, &[count_paths(alloc, n)?])?,
+        b"product" => put_line(out, n, &[count_nodes(alloc, n)?])?,
+        b"recolour" => put_line(out, n, &count_recoloured(alloc, n)?)?,
+        _ => return Err(Stop::Words),
+    }
+    Ok(())
+}
+
+/// Does the jobs of the words, two for each.
+fn do_jobs(alloc: Global, words: &[Text]) -> Result<Text, Stop> {
+    let mut out = Text::new(alloc);
+    for pair in words.chunks(2) {
+        match pair {
+            [kind, count] => do_job(alloc, &mut out, kind, count)?,
+            _ => return Err(Stop::Words),
+        }
+    }
+    Ok(out)
+}
+
+/// The words behind the program's name.
+fn take_words<R: Env + AllocGlobal>(rt: &R) -> Result<Items<Text>, Stop> {
+    let Ok(arguments) = env::args(rt) else {
+        return Err(Stop::Words);
+    };
+    let mut words = Items::new(rt.alloc());
+    for argument in arguments.skip(1) {
+        words.put(Text::of(rt.alloc(), argument.as_bytes())?)?;
+    }
+    Ok(words)
+}
+
 fn main(rt: HostRuntime) -> ExitCode {
-    let Some(n) = read_rows(&rt) else {
-        return ExitCode::from(2);
+    let done = match take_words(&rt) {
+        Ok(words) => do_jobs(rt.alloc(), words.as_slice()),
+        Err(stop) => Err(stop),
     };
-    let Ok(paths) = count_paths(rt.alloc(), n) else {
-        return ExitCode::from(6);
-    };
-    match println!(rt; "{n} {paths}") {
-        Ok(()) => ExitCode::SUCCESS,
-        Err(_) => ExitCode::from(5),
+    match done {
+        Ok(said) => {
+            let mut sink = StdSink::new(&rt);
+            match write_all(&mut sink, said.as_slice()) {
+                Ok(()) => ExitCode::SUCCESS,
+                Err(_) => ExitCode::from(5),
+            }
+        }
+        Err(Stop::Words) => ExitCode::from(2),
+        Err(Stop::Memory) => ExitCode::from(6),
     }
 }

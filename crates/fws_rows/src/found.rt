@@ -2,9 +2,9 @@
 
 use crate::cases::put_unescaped;
 use crate::stop::Stop;
-use fws_iv::Iv;
+use fws_iv::{Cube, Iv};
 use fws_num::{
-    Comments, Items, Line, Memory, Text, Word, pieces, put_dec, put_quad, read_lines, words,
+    Comments, Items, Line, Memory, Prefix, Text, Word, pieces, put_dec, put_quad, read_lines, words,
 };
 use std::alloc::Global;
 
@@ -132,6 +132,24 @@ impl Found {
             text.put(b"-")?;
             put_dec(&mut text, u64::from(part.hi))?;
         }
+        self.values.put(text)
+    }
+
+    /// Adds a prefix, as an address and a length behind a slash.
+    pub fn put_prefix(&mut self, prefix: &Prefix) -> Result<(), Memory> {
+        let mut text = Text::new(self.alloc);
+        put_quad(&mut text, prefix.addr)?;
+        text.put(b"/")?;
+        put_dec(&mut text, u64::from(prefix.len))?;
+        self.values.put(text)
+    }
+
+    /// Adds a cube, as `mask:want`.
+    pub fn put_cube(&mut self, cube: &Cube) -> Result<(), Memory> {
+        let mut text = Text::new(self.alloc);
+        put_dec(&mut text, u64::from(cube.mask))?;
+        text.put(b":")?;
+        put_dec(&mut text, u64::from(cube.want))?;
         self.values.put(text)
     }
 

@@ -1,11 +1,14 @@
 //! Calls on sets of numbers, against cases.
 
+ghost use Rattle.std.specs.Prelude.{◌≡◌, ◌<◌, ℕ, true, IfOk};
+ghost use Rattle.fws_iv.specs.Ivs.{has};
+
 use crate::found::{Found, fields_of};
 use crate::numbers::{address, decimal};
 use crate::stop::Stop;
 use crate::tally::Tally;
-use fws_iv::{Iv, Ivs, Overlap, has_number, one, overlap};
-use fws_num::{Items, Text, pieces, split_once};
+use fws_iv::{Iv, Ivs, Overlap, cubes, has_number, one, overlap, prefixes};
+use fws_num::{Items, Memory, Text, pieces, split_once};
 use std::alloc::Global;
 
 /// A number, in decimal or as an address.
@@ -131,6 +134,35 @@ fn call_set(found: &mut Found, call: &[u8], set: &Ivs, text: &[u8]) -> Result<bo
     Ok(true)
 }
 
+/// The members below 64.
+fn low_members(alloc: Global, set: &Ivs) -> Result<Ivs, Memory>
+    ensures { IfOk result (λ s. (v : ℕ) → has s v ≡ true → v < 64) }
+{
+    let low = one(alloc, 0, 63)?;
+    set.inter(alloc, &low)
+}
+
+/// Adds the parts into which a call divides a set; says whether there is such a call.
+fn call_parts(found: &mut Found, call: &[u8], set: &Ivs) -> Result<bool, Stop> {
+    let alloc = found.alloc;
+    match call {
+        b"parts" => found.put_numbers(Ivs::of_parts(alloc, set.parts())?.parts())?,
+        b"prefixes" => {
+            for prefix in &prefixes(alloc, set)? {
+                found.put_prefix(prefix)?;
+            }
+        }
+        b"cubes" => {
+            let low = low_members(alloc, set)?;
+            for cube in &cubes(alloc, &low)? {
+                found.put_cube(cube)?;
+            }
+        }
+        _ => return Ok(false),
+    }
+    Ok(true)
+}
+
 /// Adds what a call gives of two sets; says whether there is such a call.
 fn call_sets(found: &mut Found, call: &[u8], a: &Ivs, text: &[u8]) -> Result<bool, Stop> {
     let alloc = found.alloc;
@@ -157,7 +189,8 @@ fn agrees(alloc: Global, case: &[u8]) -> Result<bool, Stop> {
         return Ok(found.values.as_slice() == wanted);
     }
     let set = set_of(alloc, first.as_slice())?;
-    if call_set(&mut found, call, &set, second.as_slice())?
+    if call_parts(&mut found, call, &set)?
+        || call_set(&mut found, call, &set, second.as_slice())?
         || call_sets(&mut found, call, &set, second.as_slice())?
     {
         return Ok(found.values.as_slice() == wanted);

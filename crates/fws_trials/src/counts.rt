@@ -1,0 +1,97 @@
+//! Trees of a list of rules, of which the nodes were counted.
+
+ghost use Rattle.fws_net.specs.Routes.{IsSound};
+
+use crate::tally::Tally;
+use fws_filter::filter_tree;
+use fws_ipt::filter_only;
+use fws_ipt_read::read;
+use fws_net::{ReadAnswer, Site, SiteAnswer, read_site};
+use fws_num::{Memory, Text, put_dec};
+use std::alloc::Global;
+
+/// A site of two interfaces.
+const SITE: &[u8] =
+    b"site 1\ninterface lan 10.0.0.1/24 ipt=eth0 ipfw=em0 pf=em0 ios=GigabitEthernet0/0 nat=inside\ninterface wan 203.0.113.2/30 ipt=eth1 ipfw=em1 pf=em1 ios=GigabitEthernet0/1 nat=outside\nloopback ipt=lo ipfw=lo0 pf=lo0 ios=Loopback0\ndefault wan\nforwarding yes\none_pass 1\n";
+
+/// What stands before the rules.
+const OPENING: &[u8] =
+    b"*filter\n:INPUT ACCEPT [0:0]\n:FORWARD DROP [0:0]\n:OUTPUT ACCEPT [0:0]\n-A FORWARD -m state --state RELATED,ESTABLISHED -j ACCEPT\n";
+
+/// How many rules there are, and how many nodes and paths their tree for new packets has.
+struct Counted {
+    rules: u32,
+    nodes: usize,
+    paths: usize,
+}
+
+/// What was counted.
+const COUNTED: [Counted; 2] = [
+    Counted {
+        rules: 1,
+        nodes: 8,
+        paths: 8,
+    },
+    Counted {
+        rules: 400,
+        nodes: 662,
+        paths: 1061,
+    },
+];
+
+/// Appends the rule with this number: from a network of its own to one of 256 networks, at a port of its own.
+fn put_rule(text: &mut Text, k: u32) -> Result<(), Memory> {
+    text.put(b"-A FORWARD -s 10.")?;
+    put_dec(text, u64::from(k / 256))?;
+    text.put(b".")?;
+    put_dec(text, u64::from(k % 256))?;
+    text.put(b".0/24 -d 172.16.")?;
+    put_dec(text, u64::from(k) * 7 % 256)?;
+    text.put(b".0/24 -p tcp -m tcp --dport ")?;
+    put_dec(text, u64::from(k) + 1000)?;
+    text.put(b" -j ACCEPT\n")
+}
+
+/// The text of so many rules.
+fn rules_text(alloc: Global, rules: u32) -> Result<Text, Memory> {
+    let mut text = Text::of(alloc, OPENING)?;
+    for k in 0..rules {
+        put_rule(&mut text, k)?;
+    }
+    text.put(b"COMMIT\n")?;
+    Ok(text)
+}
+
+/// Whether the tree of so many rules has as many nodes and paths as were counted.
+fn agrees(alloc: Global, site: &Site, counted: &Counted) -> Result<bool, Memory>
+    requires { IsSound site.now }
+{
+    let text = rules_text(alloc, counted.rules)?;
+    let config = match read(alloc, text.as_slice(), site) {
+        Ok(config) => config,
+        Err(ReadAnswer::Memory) => return Err(Memory),
+        Err(ReadAnswer::Refused { .. }) => return Ok(false),
+    };
+    if !filter_only(&config) {
+        return Ok(false);
+    }
+    let tree = filter_tree(alloc, site, &config)?;
+    Ok(tree.nodes() == counted.nodes && tree.paths(alloc)?.len() == counted.paths)
+}
+
+/// Tries the trees of lists of rules.
+pub fn try_counts(alloc: Global) -> Result<Tally, Memory> {
+    let mut tally = Tally::new();
+    let site = match read_site(alloc, SITE) {
+        Ok(site) => site,
+        Err(SiteAnswer::Memory) => return Err(Memory),
+        Err(SiteAnswer::Refused { .. }) => {
+            tally.count(false);
+            return Ok(tally);
+        }
+    };
+    for counted in &COUNTED {
+        tally.count(agrees(alloc, &site, counted)?);
+    }
+    Ok(tally)
+}
