@@ -8,6 +8,7 @@ pub mod Points
 pub mod Ports
 pub mod Reading
 pub mod ReadingLaws
+pub mod RegularWalks
 pub mod RouteLaws
 pub mod RouteSets
 pub mod Routes

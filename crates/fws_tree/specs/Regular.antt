@@ -1,5 +1,5 @@
 -- Tables of a kind that every configuration has, said of their values at points.
-use Rattle.std.specs.Prelude.{◌≡◌, ◌≢◌, ℕ, ◌≤◌, ◌<◌, Bool, true, false, ◌||◌, nat_eq, None, Some, IfSome, List, slice_index, slice_set}
+use Rattle.std.specs.Prelude.{◌≡◌, ◌≢◌, ℕ, ◌≤◌, ◌<◌, Bool, true, false, ◌||◌, nat_eq, None, Some, List, slice_index, slice_set}
 use Rattle.fws_box.specs.Sides.{IsWithin}
 use Rattle.fws_net.specs.declared.outcome.Outcome.{Outcome}
 use Rattle.fws_net.specs.declared.outcome.Outcome.TheVariants.{Drop, Accept}
@@ -8,6 +8,7 @@ use Rattle.fws_net.specs.declared.exit.Exit.TheVariants.{Lost}
 use Rattle.fws_net.specs.declared.site.Site.{Site}
 use Rattle.fws_net.specs.Fates.{has_ports, written_addr}
 use Rattle.fws_net.specs.Points.{tops_of}
+use Rattle.fws_net.specs.RegularWalks.{WritesNoPort}
 use Rattle.fws_net.specs.Routes.{exit_at}
 use Rattle.fws_tree.specs.declared.tables.Tables.{Tables}
 use Rattle.fws_tree.specs.Plain.{Plain, value}
@@ -19,10 +20,6 @@ IsFreeOf tops t f p = (x : ℕ) → x ≤ slice_index tops f → value t (slice_
 -- a field that holds a port: of the packet, or of the packet as its connection was made
 abbrev pub is_port : ℕ → Bool
 is_port f = nat_eq f 3 || nat_eq f 5 || nat_eq f 9 || nat_eq f 11
-
--- a rewriting that writes no port
-abbrev pub WritesNoPort : Rewrite → Type 0
-WritesNoPort w = IfSome w.src (λ e. e.port ≡ None) × IfSome w.dst (λ e. e.port ≡ None)
 
 -- tables that are regular for a site
 pub record AreRegular (site : Site) (tables : Tables) : Type 0 where

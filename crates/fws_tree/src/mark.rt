@@ -5,6 +5,7 @@ ghost use Rattle.std.proofs.Props.{props};
 ghost use Rattle.fws_iv.specs.Ivs.{IsRegular};
 ghost use Rattle.fws_tree.specs.RegularLists.{regular-prop};
 
+use fws_box::PBox;
 use fws_iv::{Iv, Ivs};
 
 /// A label for the points that lie in all of the sides.
@@ -21,7 +22,20 @@ pub struct Mark<'a> {
 }
 
 impl<'a> Mark<'a> {
+    ghost use Rattle.fws_box.specs.Boxes.{sides_of as box_sides};
     ghost use Rattle.fws_tree.specs.Marks.{sides_of};
+
+    /// The label for the points of the box.
+    pub fn of_box(b: &PBox<'a>, label: u32) -> Mark<'a>
+        requires { 1 ≤ label }
+        ensures sides { sides_of result ≡ box_sides b.now }
+        ensures label { result.label ≡ label }
+    {
+        Mark {
+            sides: b.sides,
+            label,
+        }
+    }
 
     /// The label for the points that lie in all of these sets.
     pub fn of_sets(sides: &'a [Ivs; 12], label: u32) -> Mark<'a>
