@@ -5,9 +5,9 @@ use Rattle.fws_iv.specs.declared.iv.Iv.{Iv}
 use Rattle.fws_box.specs.declared.pbox.PBox.{PBox}
 use Rattle.fws_box.specs.Boxes.{box_hits, sides_of}
 use Rattle.fws_box.specs.Sides.{sides_have, IsWithin}
-use Rattle.fws_exec.specs.declared.scene.Scene.{Scene}
-use Rattle.fws_exec.specs.Scenes.{view_of}
-use Rattle.fws_exec.specs.Areas.{AreWhere}
+use Rattle.fws_scene.specs.declared.scene.Scene.{Scene}
+use Rattle.fws_scene.specs.Scenes.{view_of}
+use Rattle.fws_scene.specs.Areas.{AreWhere}
 use Rattle.fws_ipt.specs.declared.config.IptRule.{IptRule}
 use Rattle.fws_net.specs.declared.outcome.Outcome.{Outcome}
 use Rattle.fws_net.specs.declared.site.Site.{Site}

@@ -11,8 +11,8 @@ ghost use Rattle.fws_ipt.specs.declared.hook.Hook.TheVariants.{Input, Forward, O
 ghost use Rattle.fws_ipt.specs.FilterOnly.{is_filter_only};
 ghost use Rattle.fws_ipt.specs.Soundness.{is_fitting};
 ghost use Rattle.fws_ipt.specs.Walk.{walk};
-ghost use Rattle.fws_exec.specs.Areas.{IsOfSite};
-ghost use Rattle.fws_exec.specs.Ways.{AreWaysOf};
+ghost use Rattle.fws_scene.specs.Areas.{IsOfSite};
+ghost use Rattle.fws_scene.specs.Ways.{AreWaysOf};
 ghost use Rattle.fws_tree.specs.Rows.{first_leaf};
 ghost use Rattle.fws_filter.specs.Changes.{Changes};
 ghost use Rattle.fws_filter.specs.Verdicts.{verdict, accepts_at};
@@ -22,11 +22,11 @@ use crate::rows::put_rules;
 use crate::scenery::scene_at;
 use bumpalo::Bump;
 use fws_box::{Field, PBox, narrow};
-use fws_exec::{Ways, whole_site};
 use fws_ipt::{Hook, IptChain, IptConfig, filter_only_rules};
 use fws_iv::{Ivs, one};
 use fws_net::{Outcome, Site};
 use fws_num::Memory;
+use fws_scene::{Ways, whole_site};
 use fws_tree::Row;
 use std::alloc::Global;
 

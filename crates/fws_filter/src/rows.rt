@@ -6,19 +6,19 @@ ghost use Rattle.fws_box.specs.Boxes.{sides_of};
 ghost use Rattle.fws_box.specs.Sides.{sides_have};
 ghost use Rattle.fws_net.specs.Conditions.{holds};
 ghost use Rattle.fws_net.specs.Routes.{IsSound};
-ghost use Rattle.fws_exec.specs.Scenes.{view_of};
-ghost use Rattle.fws_exec.specs.Areas.{IsOfSite};
-ghost use Rattle.fws_exec.specs.Ways.{AreWaysOf};
+ghost use Rattle.fws_scene.specs.Scenes.{view_of};
+ghost use Rattle.fws_scene.specs.Areas.{IsOfSite};
+ghost use Rattle.fws_scene.specs.Ways.{AreWaysOf};
 ghost use Rattle.fws_filter.specs.Changes.{row_of, Changes};
 ghost use Rattle.fws_filter.specs.Verdicts.{verdict, decision, rules_accept};
 
 use crate::chains::{decision, verdict};
 use bumpalo::Bump;
 use fws_box::PBox;
-use fws_exec::{Scene, Ways, where_holds};
 use fws_ipt::IptRule;
 use fws_net::{Outcome, Site};
 use fws_num::Memory;
+use fws_scene::{Scene, Ways, where_holds};
 use fws_tree::Row;
 use std::alloc::Global;
 

@@ -4,11 +4,11 @@ ghost use Rattle.std.specs.Prelude.{◌≡◌, ℕ, List, false, IfOk};
 ghost use Rattle.fws_net.specs.declared.site.Site.{Site};
 ghost use Rattle.fws_net.specs.Points.{packet_of};
 ghost use Rattle.fws_ipt.specs.Walk.{shows_recv, shows_xmit, view_at, entering};
-ghost use Rattle.fws_exec.specs.Scenes.{view_of};
+ghost use Rattle.fws_scene.specs.Scenes.{view_of};
 
-use fws_exec::{Scene, Standing};
 use fws_ipt::Hook;
 use fws_num::{Items, Memory};
+use fws_scene::{Scene, Standing};
 use std::alloc::Global;
 
 /// Whether rules at the hook see the receiving interface.

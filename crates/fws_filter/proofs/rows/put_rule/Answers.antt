@@ -3,7 +3,7 @@ use Rattle.fws_net.specs.declared.outcome.Outcome.{Outcome}
 use Rattle.fws_tree.specs.declared.row.Row.{Row}
 use Rattle.fws_box.specs.Boxes.{sides_of}
 use Rattle.fws_net.specs.Conditions.{holds}
-use Rattle.fws_exec.specs.Scenes.{view_of}
+use Rattle.fws_scene.specs.Scenes.{view_of}
 use Rattle.fws_filter.specs.Changes.{row_of}
 use Rattle.fws_filter.specs.Verdicts.{decision}
 use Rattle.fws_filter.proofs.RowChanges.{rule_change}
