@@ -3,7 +3,9 @@ use Rattle.std.proofs.Common.{◌≡◌, ℕ, Bool, true, false, cond, ◌&&◌,
 use Rattle.std.proofs.lemmas.Bool.{false≢true, and_parts, or_parts, or_right}
 use Rattle.std.specs.List.{list_all, list_any}
 use Rattle.std.specs.Option.{option_map_or}
+use Rattle.fws_num.specs.declared.prefix.Prefix.{Prefix}
 use Rattle.fws_num.specs.declared.word.Word.{Word}
+use Rattle.fws_num.specs.Numbers.{prefix_of}
 use Rattle.fws_net.specs.declared.cause.Cause.{Cause}
 use Rattle.fws_net.specs.declared.cause.Cause.TheVariants.{Syntax, LeftOut}
 use Rattle.fws_net.specs.declared.site.Site.{Site}
@@ -16,6 +18,7 @@ use Rattle.fws_ipt.specs.declared.config.IptGo.{IptGo}
 use Rattle.fws_ipt.specs.declared.config.IptGo.TheVariants as acts
 use Rattle.fws_ipt.specs.declared.config.IptRule.{IptRule}
 use Rattle.fws_ipt.specs.declared.config.IptChain.{IptChain}
+use Rattle.fws_ipt.specs.declared.hook.Hook.{Hook}
 use Rattle.fws_ipt.specs.declared.words.Keyword.{Keyword}
 use Rattle.fws_ipt.specs.declared.words.Keyword.TheVariants as keywords
 use Rattle.fws_ipt.specs.declared.words.TestOption.{TestOption}
@@ -28,8 +31,8 @@ use Rattle.fws_ipt.specs.declared.draft.Expects.{Expects}
 use Rattle.fws_ipt.specs.declared.draft.Expects.TheVariants as expect
 use Rattle.fws_ipt.specs.declared.draft.RuleDraft.{RuleDraft}
 use Rattle.fws_ipt.specs.Options.{keyword_of, is_module, target_word, is_left_out_target, belongs, needs_option}
-use Rattle.fws_ipt.specs.RuleText.{fresh_rule, closed, limited, once, noted, with_literals, test_begun, test_step, with_protocol, compared_step, value_step, first_act, with_target, user_chain, other_target, target_step, goto_step, is_written, is_bare, behind_option, fits_target, option_step, target_value_step, target_begun, keyword_step, is_target_option, known_step, any_step, negated_keyword, module_step, expected_step, rule_step, is_complete, is_misplaced, logs, rule_checks, rule_made, rule_of}
-use Rattle.fws_ipt.specs.Values.{meaning_of, literals, protocol_value, flags_of, xmark_value, set_mark_value, place_of, to_port}
+use Rattle.fws_ipt.specs.RuleText.{fresh_rule, closed, limited, once, noted, with_literals, test_begun, test_step, with_source, with_destination, with_protocol, compared_step, value_step, first_act, with_target, user_chain, other_target, target_step, goto_step, is_written, is_bare, behind_option, fits_target, option_step, target_value_step, target_begun, keyword_step, is_target_option, known_step, any_step, negated_keyword, module_step, expected_step, rule_step, is_complete, is_misplaced, logs, is_loose, rule_checks, rule_made, rule_of}
+use Rattle.fws_ipt.specs.Values.{meaning_of, literals, protocol_value, flags_of, xmark_value, set_mark_value, place_of, to_port, network_of}
 use Rattle.fws_ipt.specs.Soundness.{is_user_chain, fits}
 use Rattle.fws_ipt.specs.Walk.{is_table}
 use Rattle.fws_ipt.proofs.Outcomes.{then_holds, then_known, either_holds, found_holds, checked_holds, words_hold}
@@ -67,6 +70,7 @@ owner options.SetMark = targets.Mark
 owner options.ToSource = targets.Source
 owner options.ToDestination = targets.Destination
 owner options.ToPorts = targets.Redirect
+owner options.ToNetwork = targets.Netmap
 
 belongs_owner : (option : TargetOption) (target : TargetWord) → belongs option target ≡ true → target ≡ owner option
 unfolding owner
@@ -84,6 +88,7 @@ belongs_owner options.SetMark targets.Mark h = refl
 belongs_owner options.ToSource targets.Source h = refl
 belongs_owner options.ToDestination targets.Destination h = refl
 belongs_owner options.ToPorts targets.Redirect h = refl
+belongs_owner options.ToNetwork targets.Netmap h = refl
 belongs_owner _ _ h = absurd (false≢true h)
 
 owned_target : (option : TargetOption) (target : Option TargetWord) → option_map_or (belongs option) target false ≡ true → target ≡ Some (owner option)
@@ -106,6 +111,10 @@ redirect_placed : (table : IptTable) → (is_misplaced table targets.Redirect ||
 redirect_placed Filter = refl
 redirect_placed _ = refl
 
+network_placed : (table : IptTable) → (is_misplaced table targets.Netmap || is_table Nat table) ≡ true
+network_placed Filter = refl
+network_placed _ = refl
+
 -- an act behind the option of its target
 placed : (table : IptTable) (chains : List IptChain) (target : Option TargetWord) (named : TargetWord) (go : IptGo) → target ≡ Some named
     → (is_misplaced table named || fits table chains go) ≡ true → may_act table chains target go ≡ true
@@ -123,7 +132,7 @@ once_at : (P : RuleDraft → Type 0) (b : Bool) (e : RuleDraft) (f : RuleDraft �
 once_at P true e f h = tt
 once_at P false e f h = h
 
-once_holds : (P : RuleDraft → Type 0) (text : List ℕ) (d : RuleDraft) (f : RuleDraft → Result RuleDraft Cause) → IfOk (f (record d { given = d.given ++ text ∷ [] })) P
+pub once_holds : (P : RuleDraft → Type 0) (text : List ℕ) (d : RuleDraft) (f : RuleDraft → Result RuleDraft Cause) → IfOk (f (record d { given = d.given ++ text ∷ [] })) P
     → IfOk (and_then (once text d) f) P
 once_holds P text d f h = once_at P (list_any (bytes_eq text) d.given) (record d { given = d.given ++ text ∷ [] }) f h
 
@@ -166,8 +175,22 @@ protocol_kept : (table : IptTable) (chains : List IptChain) (negated : Bool) (pr
 protocol_kept table chains true protocol d h = h
 protocol_kept table chains false protocol d h = h
 
+source_kept : (table : IptTable) (chains : List IptChain) (negated : Bool) (net : Prefix) (d : RuleDraft) → may_act table chains d.target d.go ≡ true
+    → may_act table chains (with_source negated net d).target (with_source negated net d).go ≡ true
+source_kept table chains true net d h = h
+source_kept table chains false net d h = h
+
+destination_kept : (table : IptTable) (chains : List IptChain) (negated : Bool) (net : Prefix) (d : RuleDraft) → may_act table chains d.target d.go ≡ true
+    → may_act table chains (with_destination negated net d).target (with_destination negated net d).go ≡ true
+destination_kept table chains true net d h = h
+destination_kept table chains false net d h = h
+
 value_fits : (site : Site) (table : IptTable) (chains : List IptChain) (option : TestOption) (negated : Bool) (text : List ℕ) (d : RuleDraft) → Fitting table chains d
     → IfOk (value_step site option negated text d) (Fitting table chains)
+value_fits site table chains tests.Source negated text d h =
+    then_holds (Fitting table chains) (ok_or (prefix_of text) Syntax) _ (λ net. record { act = source_kept table chains negated net d h.act; owned = refl })
+value_fits site table chains tests.Destination negated text d h =
+    then_holds (Fitting table chains) (ok_or (prefix_of text) Syntax) _ (λ net. record { act = destination_kept table chains negated net d h.act; owned = refl })
 value_fits site table chains tests.Protocol negated text d h =
     then_holds (Fitting table chains) (protocol_value text) _ (λ protocol. record { act = protocol_kept table chains negated protocol d h.act; owned = refl })
 value_fits site table chains tests.TcpFlags negated text d h =
@@ -197,6 +220,9 @@ target_value_fits table chains options.ToDestination text d h own =
 target_value_fits table chains options.ToPorts text d h own =
     then_holds (Fitting table chains) (to_port text) _
     (λ port. record { act = placed table chains d.target targets.Redirect (acts.Redirect (Some port)) (owned_target options.ToPorts d.target own) (redirect_placed table); owned = refl })
+target_value_fits table chains options.ToNetwork text d h own =
+    then_holds (Fitting table chains) (network_of text) _
+    (λ net. record { act = placed table chains d.target targets.Netmap (acts.Netmap net) (owned_target options.ToNetwork d.target own) (network_placed table); owned = refl })
 target_value_fits table chains _ text d h own = record { act = h.act; owned = refl }
 
 -- Targets
@@ -273,20 +299,23 @@ placed_fits : (misplaced fitting : Bool) → (misplaced || fitting) ≡ true →
 placed_fits true fitting h e = absurd (false≢true (sym e))
 placed_fits false fitting h e = h
 
-made_fits : (table : IptTable) (chains : List IptChain) (d : RuleDraft) → Fitting table chains d → IfOk (rule_made table d) (λ rule. fits table chains rule.go ≡ true)
-made_fits table chains d h =
+made_fits : (table : IptTable) (hook : Option Hook) (chains : List IptChain) (d : RuleDraft) → Fitting table chains d
+    → IfOk (rule_made table hook d) (λ rule. fits table chains rule.go ≡ true)
+made_fits table hook chains d h =
     let P : IptRule → Type 0 = λ rule. fits table chains rule.go ≡ true in
-    either_holds P (is_complete d) (checked (rule_checks table d) (record { cond = d.cond; go = d.go })) (Err Syntax)
-    (λ e. checked_holds P (rule_checks table d) (record { cond = d.cond; go = d.go })
-    (λ k. placed_fits (option_map_or (is_misplaced table) d.target false) (fits table chains d.go) h.act
-    (or_parts (option_map_or (is_misplaced table) d.target false) (d.is_limited && not (option_map_or logs d.target false)) k).0))
+    let misplaced = option_map_or (is_misplaced table) d.target false in
+    let loose = is_loose hook d d.go in
+    either_holds P (is_complete d) (checked (rule_checks table hook d) (record { cond = d.cond; go = d.go })) (Err Syntax)
+    (λ e. checked_holds P (rule_checks table hook d) (record { cond = d.cond; go = d.go })
+    (λ k. placed_fits misplaced (fits table chains d.go) h.act
+    (or_parts misplaced loose (or_parts (misplaced || loose) (d.is_limited && not (option_map_or logs d.target false)) k).0).0))
     (λ e. tt)
 
 -- a rule that is read in a table fits there
-pub rule_fits : (site : Site) (table : IptTable) (chains : List IptChain) (ws : List Word) → list_all is_named chains ≡ true
-    → IfOk (rule_of site table chains ws) (λ rule. fits table chains rule.go ≡ true)
-rule_fits site table chains ws named =
-    then_known (Fitting table chains) (λ rule. fits table chains rule.go ≡ true) (words_read (rule_step site table chains) fresh_rule ws) (rule_made table)
+pub rule_fits : (site : Site) (table : IptTable) (hook : Option Hook) (chains : List IptChain) (ws : List Word) → list_all is_named chains ≡ true
+    → IfOk (rule_of site table hook chains ws) (λ rule. fits table chains rule.go ≡ true)
+rule_fits site table hook chains ws named =
+    then_known (Fitting table chains) (λ rule. fits table chains rule.go ≡ true) (words_read (rule_step site table chains) fresh_rule ws) (rule_made table hook)
     (words_hold (Fitting table chains) (rule_step site table chains) (λ d w h. expected_fits site table chains d.expects w.text d named h.owned h) fresh_rule ws
     (record { act = refl; owned = refl }))
-    (made_fits table chains)
+    (made_fits table hook chains)

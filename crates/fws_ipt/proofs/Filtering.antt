@@ -1,6 +1,6 @@
 -- Rules of configurations that only filter.
 use Rattle.std.proofs.Common.{◌≡◌, ℕ, zero, suc, Bool, true, false, Option, Some, None, is_none, List, [], ◌∷◌, refl, sym, ◌∙◌}
-use Rattle.std.proofs.lemmas.Bool.{false≢true, and_parts, and_from, and_right}
+use Rattle.std.proofs.lemmas.Bool.{false≢true, and_parts, and_right}
 use Rattle.std.specs.List.{list_all}
 use Rattle.fws_ipt.specs.declared.config.IptTable.{IptTable}
 use Rattle.fws_ipt.specs.declared.config.IptTable.TheVariants.{Filter}
@@ -11,14 +11,7 @@ use Rattle.fws_ipt.specs.declared.config.IptChain.{IptChain}
 use Rattle.fws_ipt.specs.FilterOnly.{fits_table, filters_only}
 use Rattle.fws_ipt.specs.Soundness.{is_user_chain, fits, chain_fits, decides_only, FilterOnlyRules}
 use Rattle.fws_ipt.specs.Walk.{is_table}
-use Rattle.fws_ipt.proofs.Users.{all_weaker}
-
-both_pass : {X : Type 0} (p q r : X → Bool) → ((x : X) → p x ≡ true → q x ≡ true → r x ≡ true) → (xs : List X) → list_all p xs ≡ true → list_all q xs ≡ true → list_all r xs ≡ true
-both_pass p q r step [] h k = refl
-both_pass p q r step (x ∷ xs) h k =
-    let one = and_parts (p x) (list_all p xs) h in
-    let other = and_parts (q x) (list_all q xs) k in
-    and_from (r x) (list_all r xs) (step x one.0 other.0) (both_pass p q r step xs one.1 other.1)
+use Rattle.fws_ipt.proofs.Users.{all_weaker, both_pass}
 
 -- No chain is a user's
 

@@ -5,7 +5,7 @@ use Rattle.fws_num.specs.declared.lines.Line.{Line}
 use Rattle.fws_num.specs.declared.word.Word.{Word}
 use Rattle.fws_num.specs.Words.{is_sound}
 use Rattle.fws_net.specs.declared.cause.Cause.{Cause}
-use Rattle.fws_net.specs.declared.cause.Cause.TheVariants.{Syntax, LeftOut}
+use Rattle.fws_net.specs.declared.cause.Cause.TheVariants.{Syntax, LeftOut, Backward, Shape, Expand}
 use Rattle.fws_net.specs.declared.cause.Checks.{Checks}
 use Rattle.fws_net.specs.Causes.{unless, checked, judged, words_read}
 use Rattle.fws_net.specs.Reading.{and_then, located, lines_read}
@@ -28,7 +28,18 @@ pub either_holds : {A E : Type 0} (P : A → Type 0) (b : Bool) (r s : Result A 
 either_holds P true r s h k = h refl
 either_holds P false r s h k = k refl
 
+-- two facts of the same value
+pub both_hold : {A E : Type 0} (P Q : A → Type 0) (r : Result A E) → IfOk r P → IfOk r Q → IfOk r (λ x. P x × Q x)
+both_hold P Q (Ok x) h k = (h, k)
+both_hold P Q (Err e) h k = tt
+
 -- what was found, or was not
+pub sought_holds : {A B E : Type 0} (P : B → Type 0) (o : Option A) (f : A → Result B E) (r : Result B E) → ((x : A) → o ≡ Some x → IfOk (f x) P) → (o ≡ None → IfOk r P)
+    → IfOk (option_map_or f o r) P
+sought_holds P None f r h k = k refl
+sought_holds P (Some x) f r h k = h x refl
+
+-- the same, where nothing has to be known if it was not
 pub found_holds : {A B E : Type 0} (P : B → Type 0) (o : Option A) (f : A → Result B E) (r : Result B E) → ((x : A) → o ≡ Some x → IfOk (f x) P) → IfOk r P
     → IfOk (option_map_or f o r) P
 found_holds P None f r h k = k
@@ -50,6 +61,18 @@ unless_holds P (Some cause) x h = tt
 left_out_first : {A : Type 0} (P : A → Type 0) (b : Bool) (o : Option Cause) (x : A) → (b ≡ false → P x) → IfOk (unless (cond b (Some LeftOut) o) x) P
 left_out_first P true o x h = tt
 left_out_first P false o x h = unless_holds P o x (h refl)
+
+checks_passed : {A : Type 0} (P : A → Type 0) (left back shape large : Bool) (x : A) → (left ≡ false → shape ≡ false → P x)
+    → IfOk (unless (cond left (Some LeftOut) (cond back (Some Backward) (cond shape (Some Shape) (cond large (Some Expand) None)))) x) P
+checks_passed P true back shape large x h = tt
+checks_passed P false true shape large x h = tt
+checks_passed P false false true large x h = tt
+checks_passed P false false false true x h = tt
+checks_passed P false false false false x h = h refl refl
+
+-- what passes the checks has its shape, and isn't left out
+pub passed_holds : {A : Type 0} (P : A → Type 0) (checks : Checks) (x : A) → (checks.left_out ≡ false → checks.shape ≡ false → P x) → IfOk (checked checks x) P
+passed_holds P checks x h = checks_passed P checks.left_out checks.backward checks.shape checks.expand x h
 
 -- what passes the checks isn't left out
 pub checked_holds : {A : Type 0} (P : A → Type 0) (checks : Checks) (x : A) → (checks.left_out ≡ false → P x) → IfOk (checked checks x) P

@@ -1,5 +1,5 @@
 -- Chains by their numbers: those that rules name, and those that rules are put in.
-use Rattle.std.proofs.Common.{◌≡◌, ℕ, zero, suc, Bool, true, false, cond, ◌&&◌, ◌||◌, Option, Some, None, is_none, option_map, Err, ok_or, List, [], ◌∷◌, ◌++◌, slice_get, bytes_eq, IfOk, IfSome, refl, sym, ◌∙◌, ap, subst}
+use Rattle.std.proofs.Common.{◌≡◌, ℕ, zero, suc, Bool, true, false, cond, ◌&&◌, Option, Some, None, is_some, is_none, option_map, Err, ok_or, List, [], ◌∷◌, ◌++◌, slice_get, bytes_eq, IfOk, IfSome, refl, sym, ◌∙◌, ap, subst}
 use Rattle.std.proofs.lemmas.Bool.{false≢true, and_parts, and_from}
 use Rattle.std.proofs.lemmas.List.Folds.{list_all-append}
 use Rattle.std.proofs.lemmas.Option.{IfSome_then}
@@ -28,6 +28,14 @@ is_at test xs n = option_map_or test (slice_get xs n) false
 pub all_weaker : {X : Type 0} (p q : X → Bool) → ((x : X) → p x ≡ true → q x ≡ true) → (xs : List X) → list_all p xs ≡ true → list_all q xs ≡ true
 all_weaker p q step [] h = refl
 all_weaker p q step (x ∷ xs) h = let both = and_parts (p x) (list_all p xs) h in and_from (q x) (list_all q xs) (step x both.0) (all_weaker p q step xs both.1)
+
+-- what follows for each element from two tests
+pub both_pass : {X : Type 0} (p q r : X → Bool) → ((x : X) → p x ≡ true → q x ≡ true → r x ≡ true) → (xs : List X) → list_all p xs ≡ true → list_all q xs ≡ true → list_all r xs ≡ true
+both_pass p q r step [] h k = refl
+both_pass p q r step (x ∷ xs) h k =
+    let one = and_parts (p x) (list_all p xs) h in
+    let other = and_parts (q x) (list_all q xs) k in
+    and_from (r x) (list_all r xs) (step x one.0 other.0) (both_pass p q r step xs one.1 other.1)
 
 -- what each element passes, and a test at one place
 pub at_both : {X : Type 0} (p q r : X → Bool) → ((x : X) → p x ≡ true → q x ≡ true → r x ≡ true) → (xs : List X) (n : ℕ) → list_all p xs ≡ true → is_at q xs n ≡ true → is_at r xs n ≡ true
@@ -82,13 +90,13 @@ table_same Nat Nat h = refl
 table_same Mangle Mangle h = refl
 table_same _ _ h = absurd (false≢true h)
 
--- a policy has only a chain with the name of a built-in one
+-- a chain has a policy where its name is that of a built-in one, and nowhere else
 abbrev pub is_named : IptChain → Bool
-is_named chain = is_none chain.policy || is_builtin_name chain.table chain.name
+is_named chain = cond (is_builtin_name chain.table chain.name) (is_some chain.policy) (is_none chain.policy)
 
-or_first : (a b : Bool) → (a || b) ≡ true → b ≡ false → a ≡ true
-or_first true b h e = refl
-or_first false b h e = sym e ∙ h
+other_case : (b p q : Bool) → cond b p q ≡ true → b ≡ false → q ≡ true
+other_case true p q h e = absurd (false≢true (sym e))
+other_case false p q h e = h
 
 user_here : (table : IptTable) (name : List ℕ) → is_builtin_name table name ≡ false → (chain : IptChain) → is_named chain ≡ true → is_chain table name chain ≡ true
     → (is_table table chain.table && is_none chain.policy) ≡ true
@@ -97,7 +105,8 @@ user_here table name user chain named found =
     let same_table : table ≡ chain.table = table_same table chain.table both.0 in
     let same_name : chain.name ≡ name = (bytes_eq-Decides chain.name name).0 both.1 in
     let other : is_builtin_name chain.table chain.name ≡ false = subst (λ t. is_builtin_name t chain.name ≡ false) same_table (ap (is_builtin_name table) same_name ∙ user) in
-    and_from (is_table table chain.table) (is_none chain.policy) both.0 (or_first (is_none chain.policy) (is_builtin_name chain.table chain.name) named other)
+    and_from (is_table table chain.table) (is_none chain.policy) both.0
+    (other_case (is_builtin_name chain.table chain.name) (is_some chain.policy) (is_none chain.policy) named other)
 
 pub user_found : (table : IptTable) (chains : List IptChain) (name : List ℕ) → list_all is_named chains ≡ true
     → IfOk (user_chain table chains name) (λ n. is_user_chain table chains n ≡ true)
@@ -153,18 +162,23 @@ user_as_before table zero rule (chain ∷ chains) (suc c) = refl
 user_as_before table (suc n) rule (chain ∷ chains) zero = refl
 user_as_before table (suc n) rule (chain ∷ chains) (suc c) = user_as_before table n rule chains c
 
-rule_put : (all : List IptChain) (n : ℕ) (rule : IptRule) (chains : List IptChain) → list_all (chain_fits all) chains ≡ true
-    → is_at (λ chain. fits chain.table all rule.go) chains n ≡ true → list_all (chain_fits all) (with_rule n rule chains) ≡ true
-rule_put all n rule [] h k = refl
-rule_put all zero rule (chain ∷ chains) h k =
-    let both = and_parts (chain_fits all chain) (list_all (chain_fits all) chains) h in
-    let test : IptRule → Bool = λ r. fits chain.table all r.go in
-    let here : list_all test (chain.rules ++ rule ∷ []) ≡ true =
-    list_all-append test chain.rules (rule ∷ []) ∙ and_from (list_all test chain.rules) (list_all test (rule ∷ [])) both.0 (and_from (test rule) true k refl) in
-    and_from (list_all test (chain.rules ++ rule ∷ [])) (list_all (chain_fits all) chains) here both.1
-rule_put all (suc n) rule (chain ∷ chains) h k =
-    let both = and_parts (chain_fits all chain) (list_all (chain_fits all) chains) h in
-    and_from (chain_fits all chain) (list_all (chain_fits all) (with_rule n rule chains)) both.0 (rule_put all n rule chains both.1 k)
+-- each rule of a chain passes a test that looks at the chain's table and name
+abbrev pub rules_pass : (IptTable → List ℕ → IptRule → Bool) → IptChain → Bool
+rules_pass test chain = list_all (test chain.table chain.name) chain.rules
+
+pub rule_put : (test : IptTable → List ℕ → IptRule → Bool) (n : ℕ) (rule : IptRule) (chains : List IptChain) → list_all (rules_pass test) chains ≡ true
+    → is_at (λ chain. test chain.table chain.name rule) chains n ≡ true → list_all (rules_pass test) (with_rule n rule chains) ≡ true
+rule_put test n rule [] h k = refl
+rule_put test zero rule (chain ∷ chains) h k =
+    let both = and_parts (rules_pass test chain) (list_all (rules_pass test) chains) h in
+    let here_test : IptRule → Bool = test chain.table chain.name in
+    let here : list_all here_test (chain.rules ++ rule ∷ []) ≡ true =
+    list_all-append here_test chain.rules (rule ∷ [])
+    ∙ and_from (list_all here_test chain.rules) (list_all here_test (rule ∷ [])) both.0 (and_from (here_test rule) true k refl) in
+    and_from (list_all here_test (chain.rules ++ rule ∷ [])) (list_all (rules_pass test) chains) here both.1
+rule_put test (suc n) rule (chain ∷ chains) h k =
+    let both = and_parts (rules_pass test chain) (list_all (rules_pass test) chains) h in
+    and_from (rules_pass test chain) (list_all (rules_pass test) (with_rule n rule chains)) both.0 (rule_put test n rule chains both.1 k)
 
 -- a rule that fits its table fits at the end of a chain of that table
 pub ruled_fits : (table : IptTable) (name : List ℕ) (n : ℕ) (rule : IptRule) (chains : List IptChain) → list_all (chain_fits chains) chains ≡ true
@@ -173,9 +187,28 @@ ruled_fits table name n rule chains h found k =
     let all = with_rule n rule chains in
     let users : Users chains all = λ t c e. user_as_before t n rule chains c ∙ e in
     let new : fits table all rule.go ≡ true = fits_others chains all users table rule.go k in
-    rule_put all n rule chains (all_fit_others chains all users chains h)
+    rule_put (λ t name r. fits t all r.go) n rule chains (all_fit_others chains all users chains h)
     (at_weaker (is_chain table name) (λ chain. fits chain.table all rule.go)
     (λ chain e. subst (λ t. fits t all rule.go ≡ true) (table_same table chain.table (and_parts (is_table table chain.table) (bytes_eq chain.name name) e).0) new) chains n found)
+
+-- a rule that passes a test of its chain's table and name passes at the end of that chain
+pub ruled_passes : (test : IptTable → List ℕ → IptRule → Bool) (table : IptTable) (name : List ℕ) (n : ℕ) (rule : IptRule) (chains : List IptChain)
+    → list_all (rules_pass test) chains ≡ true → is_at (is_chain table name) chains n ≡ true → test table name rule ≡ true → list_all (rules_pass test) (with_rule n rule chains) ≡ true
+ruled_passes test table name n rule chains h found k =
+    rule_put test n rule chains h
+    (at_weaker (is_chain table name) (λ chain. test chain.table chain.name rule)
+    (λ chain e.
+    let both = and_parts (is_table table chain.table) (bytes_eq chain.name name) e in
+    let there : test chain.table name rule ≡ true = subst (λ t. test t name rule ≡ true) (table_same table chain.table both.0) k in
+    subst (λ m. test chain.table m rule ≡ true) (sym ((bytes_eq-Decides chain.name name).0 both.1)) there) chains n found)
+
+-- a chain without rules passes behind the others
+pub longer_passes : (test : IptTable → List ℕ → IptRule → Bool) (chains : List IptChain) (chain : IptChain) → chain.rules ≡ [] → list_all (rules_pass test) chains ≡ true
+    → list_all (rules_pass test) (chains ++ chain ∷ []) ≡ true
+longer_passes test chains chain e h =
+    let here : rules_pass test chain ≡ true = ap (list_all (test chain.table chain.name)) e in
+    list_all-append (rules_pass test) chains (chain ∷ [])
+    ∙ and_from (list_all (rules_pass test) chains) (list_all (rules_pass test) (chain ∷ [])) h (and_from (rules_pass test chain) true here refl)
 
 pub ruled_named : (n : ℕ) (rule : IptRule) (chains : List IptChain) → list_all is_named chains ≡ true → list_all is_named (with_rule n rule chains) ≡ true
 ruled_named n rule chains h = with_rule-named n rule chains ∙ h

@@ -179,9 +179,10 @@ with_rule n rule [] = []
 with_rule zero rule (chain ∷ chains) = record chain { rules = chain.rules ++ rule ∷ [] } ∷ chains
 with_rule (suc n) rule (chain ∷ chains) = chain ∷ with_rule n rule chains
 
--- the words of a rule behind its chain, which has this number
-abbrev pub rule_line : Site → IptTable → ℕ → List Word → IptDraft → Result IptDraft Cause
-rule_line site table n ws d = and_then (rule_of site table d.chains ws) (λ rule. Ok (record d { chains = with_rule n rule d.chains }))
+-- the words of a rule behind its chain, which has this number, and this hook if it is built in
+abbrev pub rule_line : Site → IptTable → Option Hook → ℕ → List Word → IptDraft → Result IptDraft Cause
+rule_line site table hook n ws d =
+    and_then (rule_of site table hook d.chains ws) (λ rule. Ok (record d { chains = with_rule n rule d.chains }))
 
 -- the chain of a rule was declared on an earlier line
 abbrev pub chain_of_rule : IptTable → List ℕ → IptDraft → Result ℕ Cause
@@ -191,7 +192,7 @@ chain_of_rule table name d = ok_or (chain_from 0 table name d.chains) NoName
 abbrev pub appended_in : Site → IptTable → List Word → IptDraft → Result IptDraft Cause
 appended_in site table [] d = Err Syntax
 appended_in site table (w ∷ ws) d =
-    judged w (and_then (chain_of_rule table w.text d) (λ n. rule_line site table n ws d))
+    judged w (and_then (chain_of_rule table w.text d) (λ n. rule_line site table (builtin_hook (Met table) w.text) n ws d))
 
 -- rules of raw and security are left out
 abbrev pub appended_to : Site → Section → List Word → IptDraft → Result IptDraft Cause

@@ -3,10 +3,13 @@ pub mod FilterOnly
 pub mod Hooks
 pub mod Levels
 pub mod Loops
+pub mod Networks
 pub mod Options
 pub mod Refusals
+pub mod Regular
 pub mod RuleText
 pub mod Soundness
+pub mod Spelled
 pub mod Steps
 pub mod Values
 pub mod Walk

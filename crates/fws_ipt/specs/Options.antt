@@ -36,7 +36,8 @@ target_options =
     (codes "--log-tcp-sequence", options.LogTcpSequence) ∷ (codes "--log-tcp-options", options.LogTcpOptions) ∷
     (codes "--log-ip-options", options.LogIpOptions) ∷ (codes "--log-uid", options.LogUid) ∷ (codes "--nflog-group", options.NflogGroup) ∷
     (codes "--nflog-prefix", options.NflogPrefix) ∷ (codes "--set-xmark", options.SetXmark) ∷ (codes "--set-mark", options.SetMark) ∷
-    (codes "--to-source", options.ToSource) ∷ (codes "--to-destination", options.ToDestination) ∷ (codes "--to-ports", options.ToPorts) ∷ []
+    (codes "--to-source", options.ToSource) ∷ (codes "--to-destination", options.ToDestination) ∷ (codes "--to-ports", options.ToPorts) ∷
+    (codes "--to", options.ToNetwork) ∷ []
 
 -- an option of a target
 unfoldable pub target_option : List ℕ → Option TargetOption
@@ -79,7 +80,8 @@ abbrev pub target_words : List (List ℕ × TargetWord)
 target_words =
     (codes "ACCEPT", targets.Accept) ∷ (codes "DROP", targets.Drop) ∷ (codes "RETURN", targets.Return) ∷ (codes "REJECT", targets.Reject) ∷
     (codes "LOG", targets.Log) ∷ (codes "NFLOG", targets.Nflog) ∷ (codes "MARK", targets.Mark) ∷ (codes "SNAT", targets.Source) ∷
-    (codes "DNAT", targets.Destination) ∷ (codes "MASQUERADE", targets.Masquerade) ∷ (codes "REDIRECT", targets.Redirect) ∷ []
+    (codes "DNAT", targets.Destination) ∷ (codes "MASQUERADE", targets.Masquerade) ∷ (codes "REDIRECT", targets.Redirect) ∷
+    (codes "NETMAP", targets.Netmap) ∷ []
 
 -- a target that is read
 unfoldable pub target_word : List ℕ → Option TargetWord
@@ -88,7 +90,7 @@ target_word text = named_in target_words text
 -- targets that are left out
 abbrev pub left_out_targets : List (List ℕ)
 left_out_targets =
-    codes "CHECKSUM" ∷ codes "CLASSIFY" ∷ codes "CONNMARK" ∷ codes "CT" ∷ codes "DSCP" ∷ codes "HL" ∷ codes "NETMAP" ∷
+    codes "CHECKSUM" ∷ codes "CLASSIFY" ∷ codes "CONNMARK" ∷ codes "CT" ∷ codes "DSCP" ∷ codes "HL" ∷
     codes "NFQUEUE" ∷ codes "NOTRACK" ∷ codes "QUEUE" ∷ codes "SECMARK" ∷ codes "SET" ∷ codes "TCPMSS" ∷ codes "TEE" ∷
     codes "TOS" ∷ codes "TPROXY" ∷ codes "TRACE" ∷ codes "TTL" ∷ codes "ULOG" ∷ []
 
@@ -112,11 +114,13 @@ belongs options.SetMark targets.Mark = true
 belongs options.ToSource targets.Source = true
 belongs options.ToDestination targets.Destination = true
 belongs options.ToPorts targets.Redirect = true
+belongs options.ToNetwork targets.Netmap = true
 belongs _ _ = false
 
--- SNAT, DNAT and MARK need one of their options
+-- SNAT, DNAT, NETMAP and MARK need one of their options
 abbrev pub needs_option : TargetWord → Bool
 needs_option targets.Mark = true
 needs_option targets.Source = true
 needs_option targets.Destination = true
+needs_option targets.Netmap = true
 needs_option _ = false

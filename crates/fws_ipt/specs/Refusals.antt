@@ -6,7 +6,7 @@ use Rattle.fws_net.specs.declared.site.Site.{Site}
 use Rattle.fws_ipt.specs.declared.config.IptTable.{IptTable}
 use Rattle.fws_ipt.specs.declared.config.IptTable.TheVariants.{Nat}
 use Rattle.fws_ipt.specs.declared.config.IptGo.{IptGo}
-use Rattle.fws_ipt.specs.declared.config.IptGo.TheVariants.{Jump, Goto, Source, Masquerade, Dest, Redirect}
+use Rattle.fws_ipt.specs.declared.config.IptGo.TheVariants.{Jump, Goto, Source, Masquerade, Dest, Redirect, Netmap}
 use Rattle.fws_ipt.specs.declared.config.IptRule.{IptRule}
 use Rattle.fws_ipt.specs.declared.config.IptChain.{IptChain}
 use Rattle.fws_ipt.specs.declared.config.IptConfig.{IptConfig}
@@ -58,6 +58,7 @@ is_builtin chains c = option_map_or (λ chain. is_some chain.policy) (slice_get 
 abbrev pub width_of : ℕ → IptGo → ℕ
 width_of f (Source e) = 4
 width_of f (Dest e) = 4
+width_of f (Netmap net) = 4
 width_of f Masquerade = f + 4
 width_of f (Redirect port) = f + 5
 width_of f _ = 1

@@ -1,9 +1,11 @@
 -- A rule behind its chain's name: options in any order, and at most one target with its options behind it.
-use Rattle.std.specs.Prelude.{ℕ, suc, Bool, true, false, ◌&&◌, ◌||◌, not, nat_eq, Option, Some, None, is_some, Result, Ok, Err, List, [], ◌∷◌, ◌++◌, codes, if◌then◌else◌}
+use Rattle.std.specs.Prelude.{ℕ, suc, Bool, true, false, ◌&&◌, ◌||◌, not, nat_eq, nat_le, Option, Some, None, is_some, option_and_then, Result, Ok, Err, List, [], ◌∷◌, ◌++◌, codes, if◌then◌else◌}
 use Rattle.std.specs.List.{list_any}
 use Rattle.std.specs.Option.{option_map_or, ok_or}
 use Rattle.std.specs.Str.{bytes_eq}
+use Rattle.fws_num.specs.declared.prefix.Prefix.{Prefix}
 use Rattle.fws_num.specs.declared.word.Word.{Word}
+use Rattle.fws_num.specs.Numbers.{prefix_of}
 use Rattle.fws_net.specs.declared.condition.Lit.{Lit}
 use Rattle.fws_net.specs.declared.condition.Test.TheVariants as tests
 use Rattle.fws_net.specs.declared.cause.Cause.{Cause}
@@ -19,9 +21,11 @@ use Rattle.fws_ipt.specs.declared.config.IptGo.{IptGo}
 use Rattle.fws_ipt.specs.declared.config.IptGo.TheVariants as acts
 use Rattle.fws_ipt.specs.declared.config.IptRule.{IptRule}
 use Rattle.fws_ipt.specs.declared.config.IptChain.{IptChain}
+use Rattle.fws_ipt.specs.declared.hook.Hook.{Hook}
 use Rattle.fws_ipt.specs.declared.words.Keyword.{Keyword}
 use Rattle.fws_ipt.specs.declared.words.Keyword.TheVariants.{Not, Match, Jump, Goto, Comment, Limit, Line, Test, Target}
 use Rattle.fws_ipt.specs.declared.words.TestOption.{TestOption}
+use Rattle.fws_ipt.specs.declared.words.TestOption.TheVariants as words
 use Rattle.fws_ipt.specs.declared.words.TestOption.TheVariants.{Protocol, SourcePort, DestinationPort, SourcePorts, DestinationPorts, TcpFlags, Syn, IcmpType}
 use Rattle.fws_ipt.specs.declared.words.TargetOption.{TargetOption}
 use Rattle.fws_ipt.specs.declared.words.TargetOption.TheVariants as options
@@ -31,9 +35,9 @@ use Rattle.fws_ipt.specs.declared.draft.Expects.{Expects}
 use Rattle.fws_ipt.specs.declared.draft.Expects.TheVariants as expect
 use Rattle.fws_ipt.specs.declared.draft.RuleDraft.{RuleDraft}
 use Rattle.fws_ipt.specs.Options.{keyword_of, is_module, target_word, is_left_out_target, belongs, needs_option}
-use Rattle.fws_ipt.specs.Values.{meaning_of, literals, protocol_value, protocol_literal, flags_of, syn_literal, positive, xmark_value, set_mark_value, place_of, to_port}
+use Rattle.fws_ipt.specs.Values.{meaning_of, literals, protocol_value, protocol_literal, flags_of, syn_literal, positive, xmark_value, set_mark_value, place_of, to_port, prefix_literal, network_of}
 use Rattle.fws_ipt.specs.Hooks.{has_hook, hook_named}
-use Rattle.fws_ipt.specs.Walk.{is_table}
+use Rattle.fws_ipt.specs.Walk.{is_table, writes_dst_at, writes_src_at}
 
 -- a rule before its first word
 abbrev pub fresh_rule : RuleDraft
@@ -41,6 +45,8 @@ fresh_rule = record {
   expects = expect.Keyword;
   given = [];
   cond = [];
+  source = None;
+  destination = None;
   protocol = None;
   has_port = false;
   has_flags = false;
@@ -102,6 +108,26 @@ test_begun negated option d = expecting (expect.Value option negated) d
 abbrev pub test_step : Bool → List ℕ → TestOption → RuleDraft → Result RuleDraft Cause
 test_step negated text option d = and_then (once text d) (λ e. Ok (test_begun negated option (noted option (closed e))))
 
+-- the length of the prefix of an unnegated `-s`
+abbrev pub with_source : Bool → Prefix → RuleDraft → RuleDraft
+with_source true net d = d
+with_source false net d = record d { source = Some net.len }
+
+-- the value of `-s`
+abbrev pub from_step : Bool → List ℕ → RuleDraft → Result RuleDraft Cause
+from_step negated text d =
+    and_then (ok_or (prefix_of text) Syntax) (λ net. Ok (with_literals (literals negated (Some (prefix_literal tests.Src net))) (with_source negated net d)))
+
+-- the length of the prefix of an unnegated `-d`
+abbrev pub with_destination : Bool → Prefix → RuleDraft → RuleDraft
+with_destination true net d = d
+with_destination false net d = record d { destination = Some net.len }
+
+-- the value of `-d`
+abbrev pub toward_step : Bool → List ℕ → RuleDraft → Result RuleDraft Cause
+toward_step negated text d =
+    and_then (ok_or (prefix_of text) Syntax) (λ net. Ok (with_literals (literals negated (Some (prefix_literal tests.Dst net))) (with_destination negated net d)))
+
 -- the protocol of an unnegated `-p`
 abbrev pub with_protocol : Bool → Option ℕ → RuleDraft → RuleDraft
 with_protocol true protocol d = d
@@ -126,6 +152,8 @@ plain_step site negated option text d = and_then (meaning_of site option text) (
 
 -- the value of an option
 abbrev pub value_step : Site → TestOption → Bool → List ℕ → RuleDraft → Result RuleDraft Cause
+value_step site words.Source negated text d = from_step negated text d
+value_step site words.Destination negated text d = toward_step negated text d
 value_step site Protocol negated text d = protocol_step negated text d
 value_step site TcpFlags negated text d = mask_step negated text d
 value_step site option negated text d = plain_step site negated option text d
@@ -184,6 +212,7 @@ is_written options.SetMark = true
 is_written options.ToSource = true
 is_written options.ToDestination = true
 is_written options.ToPorts = true
+is_written options.ToNetwork = true
 is_written _ = false
 
 -- an option of LOG that has no value
@@ -223,6 +252,9 @@ destination_step text d = and_then (place_of text) (λ end. Ok (with_end (acts.D
 abbrev pub redirect_step : List ℕ → RuleDraft → Result RuleDraft Cause
 redirect_step text d = and_then (to_port text) (λ port. Ok (with_end (acts.Redirect (Some port)) true d))
 
+abbrev pub network_step : List ℕ → RuleDraft → Result RuleDraft Cause
+network_step text d = and_then (network_of text) (λ net. Ok (with_act (acts.Netmap net) d))
+
 abbrev pub xmark_step : List ℕ → RuleDraft → Result RuleDraft Cause
 xmark_step text d = and_then (xmark_value text) (λ v. Ok (with_act (acts.Mark v) d))
 
@@ -236,6 +268,7 @@ target_value_step options.SetMark text d = set_mark_step text d
 target_value_step options.ToSource text d = source_step text d
 target_value_step options.ToDestination text d = destination_step text d
 target_value_step options.ToPorts text d = redirect_step text d
+target_value_step options.ToNetwork text d = network_step text d
 target_value_step _ text d = Ok (expecting expect.Keyword d)
 
 -- Words
@@ -326,6 +359,8 @@ is_misplaced Filter targets.Masquerade = true
 is_misplaced Mangle targets.Masquerade = true
 is_misplaced Filter targets.Redirect = true
 is_misplaced Mangle targets.Redirect = true
+is_misplaced Filter targets.Netmap = true
+is_misplaced Mangle targets.Netmap = true
 is_misplaced _ _ = false
 
 -- a rate may be limited where packets are logged
@@ -345,17 +380,31 @@ lacks_protocol d =
     || (d.has_flags && not (is_protocol 6 d.protocol))
     || (d.has_icmp && not (is_protocol 1 d.protocol))
 
-abbrev pub is_rule_left_out : IptTable → RuleDraft → Bool
-is_rule_left_out table d = option_map_or (is_misplaced table) d.target false || (d.is_limited && not (option_map_or logs d.target false))
+-- the length of the prefix that names the addresses over which NETMAP writes at a hook
+abbrev pub named_len : RuleDraft → Hook → Option ℕ
+named_len d hook = if writes_dst_at hook then d.destination else if writes_src_at hook then d.source else None
+
+-- in a built-in chain, and its addresses are named by a prefix that is as long as the network or longer
+abbrev pub keeps_network : Option Hook → RuleDraft → Prefix → Bool
+keeps_network hook d net = option_map_or (nat_le net.len) (option_and_then (named_len d) hook) false
+
+-- NETMAP is left out elsewhere; the hook is that of a built-in chain
+abbrev pub is_loose : Option Hook → RuleDraft → IptGo → Bool
+is_loose hook d (acts.Netmap net) = not (keeps_network hook d net)
+is_loose hook d _ = false
+
+abbrev pub is_rule_left_out : IptTable → Option Hook → RuleDraft → Bool
+is_rule_left_out table hook d =
+    option_map_or (is_misplaced table) d.target false || is_loose hook d d.go || (d.is_limited && not (option_map_or logs d.target false))
 
 -- the checks of the whole line
-abbrev pub rule_checks : IptTable → RuleDraft → Checks
-rule_checks table d = record { left_out = is_rule_left_out table d; backward = false; shape = lacks_protocol d; expand = false }
+abbrev pub rule_checks : IptTable → Option Hook → RuleDraft → Checks
+rule_checks table hook d = record { left_out = is_rule_left_out table hook d; backward = false; shape = lacks_protocol d; expand = false }
 
-abbrev pub rule_made : IptTable → RuleDraft → Result IptRule Cause
-rule_made table d =
-    if is_complete d then checked (rule_checks table d) (record { cond = d.cond; go = d.go }) else Err Syntax
+abbrev pub rule_made : IptTable → Option Hook → RuleDraft → Result IptRule Cause
+rule_made table hook d =
+    if is_complete d then checked (rule_checks table hook d) (record { cond = d.cond; go = d.go }) else Err Syntax
 
--- the rule of these words, in a table with these chains
-abbrev pub rule_of : Site → IptTable → List IptChain → List Word → Result IptRule Cause
-rule_of site table chains ws = and_then (words_read (rule_step site table chains) fresh_rule ws) (rule_made table)
+-- the rule of these words, in a table with these chains; the hook is that of its chain, if this is built in
+abbrev pub rule_of : Site → IptTable → Option Hook → List IptChain → List Word → Result IptRule Cause
+rule_of site table hook chains ws = and_then (words_read (rule_step site table chains) fresh_rule ws) (rule_made table hook)

@@ -6,7 +6,7 @@ use Rattle.fws_net.specs.declared.site.Site.{Site}
 use Rattle.fws_ipt.specs.declared.config.IptTable.{IptTable}
 use Rattle.fws_ipt.specs.declared.config.IptTable.TheVariants.{Nat, Mangle}
 use Rattle.fws_ipt.specs.declared.config.IptGo.{IptGo}
-use Rattle.fws_ipt.specs.declared.config.IptGo.TheVariants.{Accept, Drop, Return, Next, Jump, Goto, Mark, Source, Masquerade, Dest, Redirect}
+use Rattle.fws_ipt.specs.declared.config.IptGo.TheVariants.{Accept, Drop, Return, Next, Jump, Goto, Mark, Source, Masquerade, Dest, Redirect, Netmap}
 use Rattle.fws_ipt.specs.declared.config.IptChain.{IptChain}
 use Rattle.fws_ipt.specs.declared.config.IptConfig.{IptConfig}
 use Rattle.fws_ipt.specs.FileText.{spelled}
@@ -30,6 +30,7 @@ fits table chains (Source e) = is_table Nat table
 fits table chains Masquerade = is_table Nat table
 fits table chains (Dest e) = is_table Nat table
 fits table chains (Redirect port) = is_table Nat table
+fits table chains (Netmap net) = is_table Nat table
 
 abbrev pub chain_fits : List IptChain → IptChain → Bool
 chain_fits chains chain = list_all (λ rule. fits chain.table chains rule.go) chain.rules

@@ -4,6 +4,7 @@ use Rattle.std.specs.List.{list_all, list_any}
 use Rattle.std.specs.Option.{option_map, option_map_or, ok_or}
 use Rattle.std.specs.Str.{bytes_eq}
 use Rattle.std.specs.Int.Bits.{bit_or}
+use Rattle.fws_num.specs.declared.prefix.Prefix.{Prefix}
 use Rattle.fws_num.specs.Named.{named_in}
 use Rattle.fws_num.specs.Numbers.{is_digit, dec_of, quad_of, prefix_of, split_once}
 use Rattle.fws_num.specs.Pieces.{pieces_of}
@@ -41,8 +42,9 @@ range_meaning test range = set_meaning test (option_map (λ r. one r.0 r.1) rang
 
 -- Addresses and interfaces
 
-abbrev pub prefix_meaning : (List Iv → Test) → List ℕ → Result (Option Lit) Cause
-prefix_meaning test text = set_meaning test (option_map prefix_parts (prefix_of text))
+-- the literal of a prefix
+abbrev pub prefix_literal : (List Iv → Test) → Prefix → Lit
+prefix_literal test net = positive (test (prefix_parts net))
 
 -- what stands ahead of a `+` at the end of a name
 abbrev pub before_plus : List ℕ → Option (List ℕ)
@@ -267,12 +269,28 @@ place_of text = option_map_or (λ parts. placed_ports parts.0 parts.1) (split_on
 abbrev pub to_port : List ℕ → Result ℕ Cause
 to_port text = option_map_or Ok (port_of text) (if is_some (ports_between 45 text) then Err LeftOut else Err Syntax)
 
+-- an address with a mask behind a slash
+abbrev pub is_masked : List ℕ → Bool
+is_masked text = option_map_or (λ parts. is_some (quad_of parts.1)) (split_once 47 text) false
+
+-- an address with a number behind a slash
+abbrev pub is_numbered : List ℕ → Bool
+is_numbered text = option_map_or (λ parts. is_some (quad_of parts.0) && is_some (dec_of parts.1 (2 ^ 64 - 1))) (split_once 47 text) false
+
+-- a network has a length, which isn't 0
+abbrev pub with_length : List ℕ → Prefix → Result Prefix Cause
+with_length text net = if nat_eq net.len 0 || is_masked text then Err LeftOut else Ok net
+
+-- the value of `--to`: an address, and maybe a length from 1 to 32 behind a slash; any other number, and a mask, are left out
+abbrev pub network_of : List ℕ → Result Prefix Cause
+network_of text = option_map_or (with_length text) (prefix_of text) (if is_numbered text then Err LeftOut else Err Syntax)
+
 -- Options
 
--- the literal of an option with one value; none where it holds of every packet. `-p`, `--tcp-flags` and `--syn` have steps of their own
+-- the literal of an option with one value; none where it holds of every packet. `-s`, `-d`, `-p`, `--tcp-flags` and `--syn` have steps of their own
 abbrev pub meaning_of : Site → TestOption → List ℕ → Result (Option Lit) Cause
-meaning_of site options.Source text = prefix_meaning tests.Src text
-meaning_of site options.Destination text = prefix_meaning tests.Dst text
+meaning_of site options.Source text = Err Syntax
+meaning_of site options.Destination text = Err Syntax
 meaning_of site options.InInterface text = interface_meaning site tests.Recv text
 meaning_of site options.OutInterface text = interface_meaning site tests.Xmit text
 meaning_of site options.Protocol text = Err Syntax

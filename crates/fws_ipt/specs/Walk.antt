@@ -24,10 +24,11 @@ use Rattle.fws_net.specs.Transits.{rewritten, with_rec_dst, with_rec_src, nothin
 use Rattle.fws_ipt.specs.declared.config.IptTable.{IptTable}
 use Rattle.fws_ipt.specs.declared.config.IptTable.TheVariants.{Filter, Nat, Mangle}
 use Rattle.fws_ipt.specs.declared.config.IptGo.{IptGo}
-use Rattle.fws_ipt.specs.declared.config.IptGo.TheVariants.{Accept, Drop, Return, Next, Jump, Goto, Mark, Source, Masquerade, Dest, Redirect}
+use Rattle.fws_ipt.specs.declared.config.IptGo.TheVariants.{Accept, Drop, Return, Next, Jump, Goto, Mark, Source, Masquerade, Dest, Redirect, Netmap}
 use Rattle.fws_ipt.specs.declared.config.IptRule.{IptRule}
 use Rattle.fws_ipt.specs.declared.config.IptChain.{IptChain}
 use Rattle.fws_ipt.specs.declared.config.IptConfig.{IptConfig}
+use Rattle.fws_ipt.specs.Networks.{net_end}
 use Rattle.fws_ipt.specs.declared.hook.Hook.{Hook}
 use Rattle.fws_ipt.specs.declared.hook.Hook.TheVariants.{Prerouting, Input, Forward, Output, Postrouting}
 use Rattle.fws_ipt.specs.declared.passage.Passage.{Passage}
@@ -80,7 +81,7 @@ with_mark v m = record m { mark = v }
 
 -- Acts
 
--- DNAT and REDIRECT act where the destination is still to be routed
+-- DNAT and REDIRECT act where the destination is still to be routed, and NETMAP writes the destination there
 abbrev pub writes_dst_at : Hook → Bool
 writes_dst_at Prerouting = true
 writes_dst_at Input = false
@@ -88,7 +89,7 @@ writes_dst_at Forward = false
 writes_dst_at Output = true
 writes_dst_at Postrouting = false
 
--- SNAT acts where the packet is about to leave or to be delivered
+-- SNAT acts where the packet is about to leave or to be delivered, and NETMAP writes the source there
 abbrev pub writes_src_at : Hook → Bool
 writes_src_at Prerouting = false
 writes_src_at Input = true
@@ -134,6 +135,9 @@ act enter next site p hook Masquerade m = if masquerades_at hook then back next 
 act enter next site p hook (Dest e) m = if writes_dst_at hook then Accepted (with_dst p e m) else next m
 act enter next site p hook (Redirect port) m =
     if writes_dst_at hook then Accepted (with_dst p (host_end (redirect_addr site p) port) m) else next m
+act enter next site p hook (Netmap net) m =
+    if writes_dst_at hook then Accepted (with_dst p (net_end net) m)
+    else if writes_src_at hook then Accepted (with_src p (net_end net) m) else next m
 
 -- Chains
 

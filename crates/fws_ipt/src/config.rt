@@ -1,7 +1,7 @@
 //! What a text says: chains of rules in three tables.
 
 use fws_net::{Cond, End};
-use fws_num::{Items, Text};
+use fws_num::{Items, Prefix, Text};
 
 /// A table whose chains packets meet.
 #[derive(Clone, Copy, Debug, PartialEq, Eq, Hash)]
@@ -40,6 +40,9 @@ pub enum IptGo {
     /// Writes the address of the receiving interface as the destination, with this port, and ends the
     /// table. `REDIRECT`
     Redirect(Option<u16>),
+    /// Writes the first bits of this network over the destination, or over the source behind routing,
+    /// and ends the table. `NETMAP`
+    Netmap(Prefix),
 }
 
 /// A rule.

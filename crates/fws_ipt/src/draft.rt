@@ -38,6 +38,10 @@ pub struct RuleDraft {
     pub given: Items<Text>,
     /// The literals so far.
     pub cond: Cond,
+    /// The length of the prefix of `-s`, unless it is negated.
+    pub source: Option<u8>,
+    /// The length of the prefix of `-d`, unless it is negated.
+    pub destination: Option<u8>,
     /// The protocol of `-p`, unless it is negated or every one.
     pub protocol: Option<u8>,
     /// A test or a target has a port.

@@ -1,11 +1,25 @@
 //! Laws over configurations and their texts: functions with nothing to do.
 
 ghost use Rattle.fws_ipt.specs.Loops.{FittingNamesChains, LoopsAreFound, LoopsAreReal, RefusedLoopsAreReal, SizesStandStill, SizesUnfold, UnrefusedHaveNoLoop, WalksStandStill, WalksUnfold};
+ghost use Rattle.fws_ipt.specs.Regular.{AskedWalksAreRegular, SpelledWalksAreRegular};
 ghost use Rattle.fws_ipt.specs.Soundness.{FilterOnlyRules, SpelledFits};
+ghost use Rattle.fws_ipt.specs.Spelled.{SpelledConditions, SpelledNetworks};
 
 /// Every configuration that a text spells is fitting: a law, with nothing to do.
 pub fn spelled_fits()
     ensures { SpelledFits }
+{}
+
+/// In each rule that a text spells stand only tests that options mean, with ports, flags and ICMP types
+/// under their protocols: a law, with nothing to do.
+pub fn spelled_conditions()
+    ensures { SpelledConditions }
+{}
+
+/// Each NETMAP that a text spells stands in a built-in chain of nat, and its rule names the addresses over
+/// which it writes by a prefix that is as long or longer: a law, with nothing to do.
+pub fn spelled_networks()
+    ensures { SpelledNetworks }
 {}
 
 /// Where a configuration is fitting and only filters, each of its rules accepts, drops, returns or
@@ -62,4 +76,15 @@ pub fn walks_stand_still()
 /// entered likewise: a law, with nothing to do.
 pub fn walks_unfold()
     ensures { WalksUnfold }
+{}
+
+/// Where each rule that writes a port asks for TCP or for UDP, the walk is regular: a law, with
+/// nothing to do.
+pub fn asked_walks_are_regular()
+    ensures { AskedWalksAreRegular }
+{}
+
+/// The walk of every configuration that a text spells is regular: a law, with nothing to do.
+pub fn spelled_walks_are_regular()
+    ensures { SpelledWalksAreRegular }
 {}

@@ -74,6 +74,8 @@ pub enum TargetOption {
     ToDestination,
     /// `--to-ports`
     ToPorts,
+    /// `--to`
+    ToNetwork,
 }
 
 /// A word that has a place of its own in a rule.
@@ -124,6 +126,8 @@ pub enum TargetWord {
     Masquerade,
     /// `REDIRECT`
     Redirect,
+    /// `NETMAP`
+    Netmap,
     /// A chain of the user's.
     Chain,
 }

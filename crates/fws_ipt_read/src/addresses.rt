@@ -1,25 +1,17 @@
-//! Addresses as `-s`, `-d`, `--src-range`, `--dst-range`, `--src-type` and `--dst-type` have them.
+//! Addresses as `--src-range`, `--dst-range`, `--src-type` and `--dst-type` have them.
 
 ghost use Rattle.std.specs.Prelude.{◌≡◌};
 ghost use Rattle.std.specs.List.{list_all};
 ghost use Rattle.fws_net.specs.Ports.{address_range};
-ghost use Rattle.fws_ipt.specs.Values.{prefix_meaning, range_meaning, is_address_type, type_meaning};
+ghost use Rattle.fws_ipt.specs.Values.{range_meaning, is_address_type, type_meaning};
 ghost use Rattle.fws_ipt_read.specs.Sets.{SetGiven};
 
 use crate::compared::{is, is_one_of};
 use crate::literals::demand;
 use fws_iv::{Ivs, one};
-use fws_net::{Cause, ReadFault, Site, local_set, prefix_set, read_address_range};
-use fws_num::{Text, pieces, read_prefix};
+use fws_net::{Cause, ReadFault, Site, local_set, read_address_range};
+use fws_num::{Text, pieces};
 use std::alloc::Global;
-
-/// The addresses of a prefix.
-pub(crate) fn read_prefix_set(alloc: Global, text: &[u8]) -> Result<Ivs, ReadFault>
-    ensures { SetGiven result (λ test. prefix_meaning test text.now) }
-{
-    let prefix = demand(read_prefix(text))?;
-    Ok(prefix_set(alloc, &prefix)?)
-}
 
 /// The addresses of a range with a dash.
 pub(crate) fn read_range_set(alloc: Global, text: &[u8]) -> Result<Ivs, ReadFault>

@@ -31,7 +31,7 @@ const TEST_OPTIONS: [(&[u8], TestOption); 19] = [
 ];
 
 /// Options of targets.
-const TARGET_OPTIONS: [(&[u8], TargetOption); 14] = [
+const TARGET_OPTIONS: [(&[u8], TargetOption); 15] = [
     (b"--reject-with", TargetOption::RejectWith),
     (b"--log-prefix", TargetOption::LogPrefix),
     (b"--log-level", TargetOption::LogLevel),
@@ -46,6 +46,7 @@ const TARGET_OPTIONS: [(&[u8], TargetOption); 14] = [
     (b"--to-source", TargetOption::ToSource),
     (b"--to-destination", TargetOption::ToDestination),
     (b"--to-ports", TargetOption::ToPorts),
+    (b"--to", TargetOption::ToNetwork),
 ];
 
 /// Keywords that are no options of tests or targets.
@@ -77,7 +78,7 @@ const MODULES: [&[u8]; 11] = [
 ];
 
 /// Targets that are read.
-const TARGET_WORDS: [(&[u8], TargetWord); 11] = [
+const TARGET_WORDS: [(&[u8], TargetWord); 12] = [
     (b"ACCEPT", TargetWord::Accept),
     (b"DROP", TargetWord::Drop),
     (b"RETURN", TargetWord::Return),
@@ -89,17 +90,17 @@ const TARGET_WORDS: [(&[u8], TargetWord); 11] = [
     (b"DNAT", TargetWord::Destination),
     (b"MASQUERADE", TargetWord::Masquerade),
     (b"REDIRECT", TargetWord::Redirect),
+    (b"NETMAP", TargetWord::Netmap),
 ];
 
 /// Targets that are left out.
-const LEFT_OUT_TARGETS: [&[u8]; 19] = [
+const LEFT_OUT_TARGETS: [&[u8]; 18] = [
     b"CHECKSUM",
     b"CLASSIFY",
     b"CONNMARK",
     b"CT",
     b"DSCP",
     b"HL",
-    b"NETMAP",
     b"NFQUEUE",
     b"NOTRACK",
     b"QUEUE",
@@ -195,16 +196,17 @@ pub(crate) fn belongs(option: TargetOption, target: TargetWord) -> bool
         (TargetOption::ToSource, TargetWord::Source) => true,
         (TargetOption::ToDestination, TargetWord::Destination) => true,
         (TargetOption::ToPorts, TargetWord::Redirect) => true,
+        (TargetOption::ToNetwork, TargetWord::Netmap) => true,
         _ => false,
     }
 }
 
-/// Whether the target needs one of its options, as SNAT, DNAT and MARK do.
+/// Whether the target needs one of its options, as SNAT, DNAT, NETMAP and MARK do.
 pub(crate) fn needs_option(target: TargetWord) -> bool
     ensures { result ≡ needs_option target }
 {
     matches!(
         target,
-        TargetWord::Mark | TargetWord::Source | TargetWord::Destination
+        TargetWord::Mark | TargetWord::Source | TargetWord::Destination | TargetWord::Netmap
     )
 }

@@ -8,11 +8,11 @@ ghost use Rattle.fws_ipt.specs.FileText.{opens, table_line, commit_line, rule_li
 use crate::compared::is;
 use crate::counters::is_counters;
 use crate::declarations::{alone, chain_line};
-use crate::hooks::section_named;
+use crate::hooks::{builtin_hook, section_named};
 use crate::keywords::read_keyword;
 use crate::progress::Progress;
 use crate::rule::read_rule;
-use fws_ipt::{IptTable, Section};
+use fws_ipt::{Hook, IptTable, Section};
 use fws_net::{Cause, ReadFault, Site};
 use fws_num::Word;
 use std::alloc::Global;
@@ -49,19 +49,20 @@ fn commit_line(reader: &mut Progress, words: &[Word]) -> Result<(), ReadFault>
     alone(words)
 }
 
-/// Takes the words of a rule behind its chain, which has this number.
+/// Takes the words of a rule behind its chain, which has this number, and this hook if it is built in.
 fn rule_line(
     alloc: Global,
     site: &Site,
     reader: &mut Progress,
     table: IptTable,
+    hook: Option<Hook>,
     number: u32,
     words: &[Word],
 ) -> Result<(), ReadFault>
     requires { IsSound site.now }
-    ensures { StepGiven result reader.new (rule_line site.now table number words.now reader.old) }
+    ensures { StepGiven result reader.new (rule_line site.now table hook number words.now reader.old) }
 {
-    let rule = read_rule(alloc, site, reader, table, words)?;
+    let rule = read_rule(alloc, site, reader, table, hook, words)?;
     reader.append(alloc, number, rule)?;
     Ok(())
 }
@@ -98,8 +99,10 @@ fn appended_in(
     if !word.is_sound() {
         return Err(ReadFault::Bad(Cause::Syntax));
     }
-    let number = chain_of_rule(alloc, reader, table, word.text.as_slice())?;
-    rule_line(alloc, site, reader, table, number, rest)
+    let name = word.text.as_slice();
+    let number = chain_of_rule(alloc, reader, table, name)?;
+    let hook = builtin_hook(Section::Met(table), name);
+    rule_line(alloc, site, reader, table, hook, number, rest)
 }
 
 /// Takes what stands behind `-A` in the table that is open. Rules of raw and security are left out.

@@ -6,7 +6,7 @@ ghost use Rattle.std.specs.Str.{bytes_eq};
 ghost use Rattle.fws_net.specs.Reading.{StepGiven};
 ghost use Rattle.fws_net.specs.Routes.{IsSound};
 ghost use Rattle.fws_ipt.specs.Values.{literals};
-ghost use Rattle.fws_ipt.specs.RuleText.{closed, once, asks_port, asks_flags, asks_icmp, noted, with_literals, test_begun, test_step, with_protocol, protocol_step, mask_step, compared_step, plain_step, value_step};
+ghost use Rattle.fws_ipt.specs.RuleText.{closed, once, asks_port, asks_flags, asks_icmp, noted, with_literals, test_begun, test_step, from_step, toward_step, with_protocol, protocol_step, mask_step, compared_step, plain_step, value_step};
 
 use crate::compared::is;
 use crate::flags::{read_flags, syn_literal};
@@ -14,8 +14,8 @@ use crate::literals::{demand, positive, put_literals};
 use crate::protocols::{protocol_literal, read_protocol_value};
 use crate::values::read_meaning;
 use fws_ipt::{Expects, RuleDraft, TestOption};
-use fws_net::{Cause, Lit, ReadFault, Site, Test};
-use fws_num::{Memory, Text};
+use fws_net::{Cause, Lit, ReadFault, Site, Test, prefix_set};
+use fws_num::{Memory, Text, read_prefix};
 use std::alloc::Global;
 
 /// Whether the option was given.
@@ -97,6 +97,37 @@ pub(crate) fn test_step(
     Ok(())
 }
 
+/// Takes the value of `-s`.
+fn from_step(alloc: Global, d: &mut RuleDraft, negated: bool, text: &[u8]) -> Result<(), ReadFault>
+    ensures { StepGiven result d.new (from_step negated text.now d.old) }
+{
+    let prefix = demand(read_prefix(text))?;
+    let set = prefix_set(alloc, &prefix)?;
+    if !negated {
+        d.source = Some(prefix.len);
+    }
+    with_literals(d, negated, Some(positive(Test::Src(set))))?;
+    Ok(())
+}
+
+/// Takes the value of `-d`.
+fn toward_step(
+    alloc: Global,
+    d: &mut RuleDraft,
+    negated: bool,
+    text: &[u8],
+) -> Result<(), ReadFault>
+    ensures { StepGiven result d.new (toward_step negated text.now d.old) }
+{
+    let prefix = demand(read_prefix(text))?;
+    let set = prefix_set(alloc, &prefix)?;
+    if !negated {
+        d.destination = Some(prefix.len);
+    }
+    with_literals(d, negated, Some(positive(Test::Dst(set))))?;
+    Ok(())
+}
+
 /// Takes the value of `-p`.
 fn protocol_step(
     alloc: Global,
@@ -169,6 +200,8 @@ pub(crate) fn value_step(
     ensures { StepGiven result d.new (value_step site.now option negated text.now d.old) }
 {
     match option {
+        TestOption::Source => from_step(alloc, d, negated, text),
+        TestOption::Destination => toward_step(alloc, d, negated, text),
         TestOption::Protocol => protocol_step(alloc, d, negated, text),
         TestOption::TcpFlags => mask_step(alloc, d, negated, text),
         _ => plain_step(alloc, site, d, negated, option, text),

@@ -1,11 +1,13 @@
-//! Ends that a translation writes: addresses and ports.
+//! Ends that a translation writes: addresses, ports and networks.
 
 ghost use Rattle.std.specs.Prelude.{◌≡◌};
 ghost use Rattle.fws_net.specs.Reading.{CauseGiven};
-ghost use Rattle.fws_ipt.specs.Values.{is_ports, is_place, address_and_port, placed_ports, placed_alone, place_of, to_port};
+ghost use Rattle.fws_ipt.specs.Values.{is_ports, is_place, address_and_port, placed_ports, placed_alone, place_of, to_port, is_masked, is_numbered, with_length, network_of};
 
 use fws_net::{Cause, ReadFault, read_addresses_between};
-use fws_num::{read_port, read_ports_between, read_quad, split_once};
+use fws_num::{
+    Prefix, read_dec, read_port, read_ports_between, read_prefix, read_quad, split_once,
+};
 
 /// Whether it is a port or a range of ports.
 fn is_ports(text: &[u8]) -> bool
@@ -81,6 +83,56 @@ pub(crate) fn read_to_port(text: &[u8]) -> Result<u16, ReadFault>
         Some(port) => Ok(port),
         None => {
             if read_ports_between(b'-', text).is_some() {
+                Err(ReadFault::Bad(Cause::LeftOut))
+            } else {
+                Err(ReadFault::Bad(Cause::Syntax))
+            }
+        }
+    }
+}
+
+/// Whether a mask stands behind a slash.
+fn is_masked(text: &[u8]) -> bool
+    ensures { result ≡ is_masked text.now }
+{
+    match split_once(text, b'/') {
+        Some((_, mask)) => read_quad(mask).is_some(),
+        None => false,
+    }
+}
+
+/// Whether it is an address with a number behind a slash.
+fn is_numbered(text: &[u8]) -> bool
+    ensures { result ≡ is_numbered text.now }
+{
+    match split_once(text, b'/') {
+        Some((address, number)) => {
+            read_quad(address).is_some() && read_dec(number, u64::MAX).is_some()
+        }
+        None => false,
+    }
+}
+
+/// The network that the text spells, which has a length that isn't 0.
+fn with_length(text: &[u8], network: Prefix) -> Result<Prefix, ReadFault>
+    ensures { CauseGiven result (with_length text.now network) }
+{
+    if network.len == 0 || is_masked(text) {
+        Err(ReadFault::Bad(Cause::LeftOut))
+    } else {
+        Ok(network)
+    }
+}
+
+/// The value of `--to`: an address, and maybe a length from 1 to 32 behind a slash. Any other number, and
+/// a mask, are left out.
+pub(crate) fn read_network(text: &[u8]) -> Result<Prefix, ReadFault>
+    ensures { CauseGiven result (network_of text.now) }
+{
+    match read_prefix(text) {
+        Some(network) => with_length(text, network),
+        None => {
+            if is_numbered(text) {
                 Err(ReadFault::Bad(Cause::LeftOut))
             } else {
                 Err(ReadFault::Bad(Cause::Syntax))

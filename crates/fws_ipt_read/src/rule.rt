@@ -5,16 +5,16 @@ ghost use Rattle.std.specs.Option.{option_map_or};
 ghost use Rattle.fws_net.specs.Causes.{judged, words_read};
 ghost use Rattle.fws_net.specs.Reading.{CauseGiven, StepGiven};
 ghost use Rattle.fws_net.specs.Routes.{IsSound};
-ghost use Rattle.fws_ipt.specs.RuleText.{fresh_rule, target_begun, keyword_step, is_target_option, known_step, any_step, negated_keyword, negated_step, module_step, expected_step, rule_step, is_keyword_next, is_complete, is_misplaced, logs, is_protocol, lacks_protocol, is_rule_left_out, rule_checks, rule_made, rule_of};
+ghost use Rattle.fws_ipt.specs.RuleText.{fresh_rule, target_begun, keyword_step, is_target_option, known_step, any_step, negated_keyword, negated_step, module_step, expected_step, rule_step, is_keyword_next, is_complete, is_misplaced, logs, is_protocol, lacks_protocol, named_len, keeps_network, is_loose, is_rule_left_out, rule_checks, rule_made, rule_of};
 
 use crate::compared::is;
 use crate::keywords::{is_module, read_keyword};
 use crate::options::{compared_step, once, test_step, value_step};
 use crate::progress::Progress;
 use crate::targets::{goto_step, option_step, target_step, target_value_step};
-use fws_ipt::{Expects, IptGo, IptRule, IptTable, Keyword, RuleDraft, TargetWord};
+use fws_ipt::{Expects, Hook, IptGo, IptRule, IptTable, Keyword, RuleDraft, TargetWord};
 use fws_net::{Cause, Checks, Cond, ReadFault, Site};
-use fws_num::{Items, Word};
+use fws_num::{Items, Prefix, Word};
 use std::alloc::Global;
 
 /// A rule ahead of its first word.
@@ -25,6 +25,8 @@ fn fresh_rule(alloc: Global) -> RuleDraft
         expects: Expects::Keyword,
         given: Items::new(alloc),
         cond: Cond::new(alloc),
+        source: None,
+        destination: None,
         protocol: None,
         has_port: false,
         has_flags: false,
@@ -218,7 +220,8 @@ fn is_misplaced(table: IptTable, target: TargetWord) -> bool
         TargetWord::Source
         | TargetWord::Destination
         | TargetWord::Masquerade
-        | TargetWord::Redirect => !matches!(table, IptTable::Nat),
+        | TargetWord::Redirect
+        | TargetWord::Netmap => !matches!(table, IptTable::Nat),
         _ => false,
     }
 }
@@ -230,15 +233,52 @@ fn logs(target: Option<TargetWord>) -> bool
     matches!(target, Some(TargetWord::Log | TargetWord::Nflog))
 }
 
-/// Whether the rule has a target or a limit that is left out in this table.
-fn is_rule_left_out(table: IptTable, d: &RuleDraft) -> bool
-    ensures { result ≡ is_rule_left_out table d.now }
+/// The length of the prefix that names the addresses over which NETMAP writes at the hook.
+fn named_len(d: &RuleDraft, hook: Hook) -> Option<u8>
+    ensures { result ≡ named_len d.now hook }
+{
+    if hook.writes_dst() {
+        d.destination
+    } else if hook.writes_src() {
+        d.source
+    } else {
+        None
+    }
+}
+
+/// Whether a rule of a built-in chain names the addresses by a prefix that is as long as the network or
+/// longer.
+fn keeps_network(hook: Option<Hook>, d: &RuleDraft, network: Prefix) -> bool
+    ensures { result ≡ keeps_network hook d.now network }
+{
+    let Some(hook) = hook else {
+        return false;
+    };
+    match named_len(d, hook) {
+        Some(len) => network.len <= len,
+        None => false,
+    }
+}
+
+/// Whether the rule writes a network elsewhere, or over addresses that it doesn't name.
+fn is_loose(hook: Option<Hook>, d: &RuleDraft, go: IptGo) -> bool
+    ensures { result ≡ is_loose hook d.now go }
+{
+    match go {
+        IptGo::Netmap(network) => !keeps_network(hook, d, network),
+        _ => false,
+    }
+}
+
+/// Whether the rule has a target or a limit that is left out in this table and chain.
+fn is_rule_left_out(table: IptTable, hook: Option<Hook>, d: &RuleDraft) -> bool
+    ensures { result ≡ is_rule_left_out table hook d.now }
 {
     let misplaced = match d.target {
         Some(target) => is_misplaced(table, target),
         None => false,
     };
-    misplaced || (d.is_limited && !logs(d.target))
+    misplaced || is_loose(hook, d, d.go) || (d.is_limited && !logs(d.target))
 }
 
 /// Whether the protocol is this one.
@@ -262,14 +302,14 @@ fn lacks_protocol(d: &RuleDraft) -> bool
 }
 
 /// The rule of what was read of it.
-fn make_rule(table: IptTable, d: RuleDraft) -> Result<IptRule, ReadFault>
-    ensures { CauseGiven result (rule_made table d) }
+fn make_rule(table: IptTable, hook: Option<Hook>, d: RuleDraft) -> Result<IptRule, ReadFault>
+    ensures { CauseGiven result (rule_made table hook d) }
 {
     if !is_complete(&d) {
         return Err(ReadFault::Bad(Cause::Syntax));
     }
     let checks = Checks {
-        left_out: is_rule_left_out(table, &d),
+        left_out: is_rule_left_out(table, hook, &d),
         backward: false,
         shape: lacks_protocol(&d),
         expand: false,
@@ -283,18 +323,20 @@ fn make_rule(table: IptTable, d: RuleDraft) -> Result<IptRule, ReadFault>
     }
 }
 
-/// The rule of these words, in a table with the chains that were read.
+/// The rule of these words, in a table with the chains that were read. The hook is that of its chain, if
+/// this is built in.
 pub(crate) fn read_rule(
     alloc: Global,
     site: &Site,
     reader: &Progress,
     table: IptTable,
+    hook: Option<Hook>,
     words: &[Word],
 ) -> Result<IptRule, ReadFault>
     requires { IsSound site.now }
-    ensures { CauseGiven result (rule_of site.now table reader.now.chains words.now) }
+    ensures { CauseGiven result (rule_of site.now table hook reader.now.chains words.now) }
 {
     let mut d = fresh_rule(alloc);
     take_words(alloc, site, reader, table, &mut d, words)?;
-    make_rule(table, d)
+    make_rule(table, hook, d)
 }

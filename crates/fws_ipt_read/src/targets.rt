@@ -2,13 +2,13 @@
 
 ghost use Rattle.std.specs.Prelude.{◌≡◌};
 ghost use Rattle.fws_net.specs.Reading.{CauseGiven, StepGiven};
-ghost use Rattle.fws_ipt.specs.RuleText.{first_act, with_target, user_chain, other_target, target_step, goto_step, is_written, is_bare, behind_option, fits_target, option_step, with_act, with_end, source_step, destination_step, redirect_step, xmark_step, set_mark_step, target_value_step};
+ghost use Rattle.fws_ipt.specs.RuleText.{first_act, with_target, user_chain, other_target, target_step, goto_step, is_written, is_bare, behind_option, fits_target, option_step, with_act, with_end, source_step, destination_step, redirect_step, network_step, xmark_step, set_mark_step, target_value_step};
 
 use crate::hooks::is_builtin_name;
 use crate::keywords::{belongs, is_left_out_target, needs_option, read_target_word};
 use crate::marks::{read_set_mark, read_xmark};
 use crate::options::once;
-use crate::places::{read_place, read_to_port};
+use crate::places::{read_network, read_place, read_to_port};
 use crate::progress::Progress;
 use fws_ipt::{Expects, IptGo, IptTable, RuleDraft, TargetOption, TargetWord};
 use fws_net::{Cause, End, ReadFault};
@@ -120,6 +120,7 @@ fn is_written(option: TargetOption) -> bool
             | TargetOption::ToSource
             | TargetOption::ToDestination
             | TargetOption::ToPorts
+            | TargetOption::ToNetwork
     )
 }
 
@@ -222,6 +223,15 @@ fn redirect_step(d: &mut RuleDraft, text: &[u8]) -> Result<(), ReadFault>
     Ok(())
 }
 
+/// Takes the value of `--to`.
+fn network_step(d: &mut RuleDraft, text: &[u8]) -> Result<(), ReadFault>
+    ensures { StepGiven result d.new (network_step text.now d.old) }
+{
+    let network = read_network(text)?;
+    with_act(d, IptGo::Netmap(network));
+    Ok(())
+}
+
 /// Takes the value of `--set-xmark`.
 fn xmark_step(d: &mut RuleDraft, text: &[u8]) -> Result<(), ReadFault>
     ensures { StepGiven result d.new (xmark_step text.now d.old) }
@@ -254,6 +264,7 @@ pub(crate) fn target_value_step(
         TargetOption::ToSource => source_step(d, text),
         TargetOption::ToDestination => destination_step(d, text),
         TargetOption::ToPorts => redirect_step(d, text),
+        TargetOption::ToNetwork => network_step(d, text),
         _ => {
             d.expects = Expects::Keyword;
             Ok(())

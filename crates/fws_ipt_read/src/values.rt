@@ -4,7 +4,7 @@ ghost use Rattle.fws_net.specs.Reading.{CauseGiven};
 ghost use Rattle.fws_net.specs.Routes.{IsSound};
 ghost use Rattle.fws_ipt.specs.Values.{meaning_of};
 
-use crate::addresses::{read_prefix_set, read_range_set, read_type_set};
+use crate::addresses::{read_range_set, read_type_set};
 use crate::icmp_types::read_icmp_type;
 use crate::interfaces::read_interfaces;
 use crate::literals::positive;
@@ -15,8 +15,8 @@ use fws_ipt::TestOption;
 use fws_net::{Cause, Lit, ReadFault, Site, Test};
 use std::alloc::Global;
 
-/// The literal of an option with one value; none where it holds of every packet. `-p`, `--tcp-flags` and
-/// `--syn` have steps of their own.
+/// The literal of an option with one value; none where it holds of every packet. `-s`, `-d`, `-p`,
+/// `--tcp-flags` and `--syn` have steps of their own.
 pub(crate) fn read_meaning(
     alloc: Global,
     site: &Site,
@@ -27,8 +27,6 @@ pub(crate) fn read_meaning(
     ensures { CauseGiven result (meaning_of site.now option text.now) }
 {
     match option {
-        TestOption::Source => Ok(Some(positive(Test::Src(read_prefix_set(alloc, text)?)))),
-        TestOption::Destination => Ok(Some(positive(Test::Dst(read_prefix_set(alloc, text)?)))),
         TestOption::InInterface => {
             Ok(Some(positive(Test::Recv(read_interfaces(alloc, site, text)?))))
         }
@@ -41,9 +39,11 @@ pub(crate) fn read_meaning(
         TestOption::DestinationPorts => Ok(Some(positive(Test::Dport(read_port_list(
             alloc, text,
         )?)))),
-        TestOption::Protocol | TestOption::TcpFlags | TestOption::Syn => {
-            Err(ReadFault::Bad(Cause::Syntax))
-        }
+        TestOption::Source
+        | TestOption::Destination
+        | TestOption::Protocol
+        | TestOption::TcpFlags
+        | TestOption::Syn => Err(ReadFault::Bad(Cause::Syntax)),
         TestOption::IcmpType => read_icmp_type(alloc, text),
         TestOption::State | TestOption::ConnectionState => read_states(alloc, text),
         TestOption::Mark => Ok(Some(positive(Test::Tag(read_mark(text)?)))),

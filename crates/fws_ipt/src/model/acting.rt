@@ -7,16 +7,14 @@ ghost use Rattle.fws_ipt.specs.declared.passage.ChainEnd.{ChainEnd};
 ghost use Rattle.fws_ipt.specs.declared.passage.ChainEnd.TheVariants.{Accepted};
 ghost use Rattle.fws_ipt.specs.declared.config.IptRule.{IptRule};
 ghost use Rattle.fws_ipt.specs.declared.config.IptGo.TheVariants.{Masquerade};
-ghost use Rattle.fws_ipt.specs.Walk.{act, rules_walk};
+ghost use Rattle.fws_ipt.specs.Walk.{act, rules_walk, with_dst, with_src, writes_dst_at, writes_src_at};
 ghost use Rattle.fws_ipt.specs.Steps.{stepped};
 
 use crate::config::{IptChain, IptGo, IptRule};
 use crate::hook::Hook;
 use crate::model::seeing::view_at;
-use crate::model::writing::{
-    masqueraded, masquerades_at, redirect_addr, with_dst, with_mark, with_src, writes_dst_at,
-    writes_src_at,
-};
+use crate::model::writing::{masqueraded, redirect_addr, with_dst, with_mark, with_src};
+use crate::networks::net_end;
 use crate::passage::{ChainEnd, Passage};
 use fws_net::{End, Packet, Site, holds, sending_entry};
 use fws_num::Memory;
@@ -66,13 +64,29 @@ fn masquerade(scene: &Scene, m: Passage) -> Step
     requires { IsSound scene.now.site.now }
     ensures { (enter : ℕ → Passage → ChainEnd) (next : Passage → ChainEnd) → stepped enter next result ≡ act enter next scene.now.site.now scene.now.entered scene.now.hook Masquerade m }
 {
-    if !masquerades_at(scene.hook) {
+    if !scene.hook.masquerades() {
         return Step::Onwards(m);
     }
     let xmit = sending_entry(scene.site, &m.packet);
     match masqueraded(scene.site, &scene.entered, xmit, &m) {
         ChainEnd::Through(m) => Step::Onwards(m),
         end => Step::Leave(end),
+    }
+}
+
+/// How the walk goes on behind `NETMAP` with this end.
+fn netmap(scene: &Scene, end: End, m: Passage) -> Step
+    ensures { (enter : ℕ → Passage → ChainEnd) (next : Passage → ChainEnd) → stepped enter next result ≡
+        if writes_dst_at scene.now.hook then Accepted (with_dst scene.now.entered end m)
+        else if writes_src_at scene.now.hook then Accepted (with_src scene.now.entered end m) else next m }
+{
+    let p = &scene.entered;
+    if scene.hook.writes_dst() {
+        Step::Leave(ChainEnd::Accepted(with_dst(p, end, &m)))
+    } else if scene.hook.writes_src() {
+        Step::Leave(ChainEnd::Accepted(with_src(p, end, &m)))
+    } else {
+        Step::Onwards(m)
     }
 }
 
@@ -90,13 +104,14 @@ fn step_of(scene: &Scene, go: IptGo, m: Passage) -> Step
         IptGo::Jump(c) => Step::Call(c, m),
         IptGo::Goto(c) => Step::Switch(c, m),
         IptGo::Mark(mark) => Step::Onwards(with_mark(mark, &m)),
-        IptGo::Source(end) => accepted_where(writes_src_at(scene.hook), with_src(p, end, &m), m),
+        IptGo::Source(end) => accepted_where(scene.hook.writes_src(), with_src(p, end, &m), m),
         IptGo::Masquerade => masquerade(scene, m),
-        IptGo::Dest(end) => accepted_where(writes_dst_at(scene.hook), with_dst(p, end, &m), m),
+        IptGo::Dest(end) => accepted_where(scene.hook.writes_dst(), with_dst(p, end, &m), m),
         IptGo::Redirect(port) => {
             let end = End::host(redirect_addr(scene.site, p), port);
-            accepted_where(writes_dst_at(scene.hook), with_dst(p, end, &m), m)
+            accepted_where(scene.hook.writes_dst(), with_dst(p, end, &m), m)
         }
+        IptGo::Netmap(net) => netmap(scene, net_end(net), m),
     }
 }
 

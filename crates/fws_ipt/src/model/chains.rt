@@ -3,10 +3,9 @@
 ghost use Rattle.std.specs.Prelude.{◌≡◌, nat_eq, IfOk};
 ghost use Rattle.std.specs.List.{list_any};
 ghost use Rattle.fws_net.specs.Routes.{IsSound};
-ghost use Rattle.fws_ipt.specs.Walk.{chain_walk, rules_at, hook_name, stands_at, builtin_from, policy_at, by_policy, builtin_walk};
+ghost use Rattle.fws_ipt.specs.Walk.{chain_walk, rules_at, policy_at, by_policy, builtin_walk};
 
-use crate::config::{IptChain, IptRule, IptTable};
-use crate::hook::Hook;
+use crate::config::{IptChain, IptRule};
 use crate::model::acting::{Scene, Step, rule_step};
 use crate::passage::{ChainEnd, Passage};
 use fws_num::Memory;
@@ -68,38 +67,6 @@ fn chain_walk(
         }
     }
     Ok(ChainEnd::Through(now))
-}
-
-/// The name of the built-in chains at a hook.
-fn hook_name(hook: Hook) -> &'static [u8]
-    ensures { result.now ≡ hook_name hook }
-{
-    match hook {
-        Hook::Prerouting => b"PREROUTING",
-        Hook::Input => b"INPUT",
-        Hook::Forward => b"FORWARD",
-        Hook::Output => b"OUTPUT",
-        Hook::Postrouting => b"POSTROUTING",
-    }
-}
-
-/// Whether it is the built-in chain of this table at the hook.
-fn stands_at(table: IptTable, hook: Hook, chain: &IptChain) -> bool
-    ensures { result ≡ stands_at table hook chain.now }
-{
-    table == chain.table && chain.name.as_slice() == hook_name(hook) && chain.policy.is_some()
-}
-
-/// The number of the built-in chain of a table at a hook, if the file has one.
-pub(crate) fn builtin_at(table: IptTable, hook: Hook, chains: &[IptChain]) -> Option<usize>
-    ensures { result ≡ builtin_from 0 table hook chains.now }
-{
-    for (n, chain) in chains.iter().enumerate() {
-        if stands_at(table, hook, chain) {
-            return Some(n);
-        }
-    }
-    None
 }
 
 /// Whether the chain with this number accepts at its end.

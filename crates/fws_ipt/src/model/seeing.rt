@@ -2,33 +2,13 @@
 
 ghost use Rattle.std.specs.Prelude.{◌≡◌, IfOk};
 ghost use Rattle.fws_net.specs.Routes.{IsSound};
-ghost use Rattle.fws_ipt.specs.Walk.{shows_recv, shows_xmit, view_at};
+ghost use Rattle.fws_ipt.specs.Walk.{view_at};
 
 use crate::hook::Hook;
 use crate::passage::Passage;
 use fws_net::{Site, View, sending_entry};
 use fws_num::{Items, Memory};
 use std::alloc::Global;
-
-/// Whether rules at the hook see the receiving interface.
-fn shows_recv(hook: Hook) -> bool
-    ensures { result ≡ shows_recv hook }
-{
-    match hook {
-        Hook::Prerouting | Hook::Input | Hook::Forward => true,
-        Hook::Output | Hook::Postrouting => false,
-    }
-}
-
-/// Whether rules at the hook see the sending interface.
-fn shows_xmit(hook: Hook) -> bool
-    ensures { result ≡ shows_xmit hook }
-{
-    match hook {
-        Hook::Prerouting | Hook::Input => false,
-        Hook::Forward | Hook::Output | Hook::Postrouting => true,
-    }
-}
 
 /// What a rule at the hook sees of a packet on its way.
 pub(crate) fn view_at(
@@ -45,12 +25,12 @@ pub(crate) fn view_at(
     tags.put(m.mark)?;
     Ok(View {
         packet: m.packet,
-        recv: if shows_recv(hook) {
+        recv: if hook.shows_recv() {
             m.packet.receiving()
         } else {
             None
         },
-        xmit: if shows_xmit(hook) {
+        xmit: if hook.shows_xmit() {
             sending_entry(site, &m.packet)
         } else {
             None

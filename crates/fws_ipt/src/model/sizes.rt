@@ -25,7 +25,7 @@ fn width_of(faces: u64, go: IptGo) -> u64
     ensures { result ≡ capped (width_of faces go) }
 {
     match go {
-        IptGo::Source(_) | IptGo::Dest(_) => 4,
+        IptGo::Source(_) | IptGo::Dest(_) | IptGo::Netmap(_) => 4,
         IptGo::Masquerade => capped_sum(faces, 4),
         IptGo::Redirect(_) => capped_sum(faces, 5),
         _ => 1,

@@ -4,10 +4,11 @@ ghost use Rattle.std.specs.Prelude.{◌≡◌, IfOk};
 ghost use Rattle.fws_net.specs.Routes.{IsSound};
 ghost use Rattle.fws_ipt.specs.Walk.{builtin_from, builtin_walk, visit, visits, arriving, delivered, forwarded, sent_out, go_to, routed, entering, way_of, outcome_of, walk};
 
+use crate::builtin::builtin_at;
 use crate::config::{IptConfig, IptTable};
 use crate::hook::Hook;
 use crate::model::acting::Scene;
-use crate::model::chains::{builtin_at, builtin_walk};
+use crate::model::chains::builtin_walk;
 use crate::model::writing::tracked_at;
 use crate::passage::Passage;
 use fws_net::{Exit, Kind, Outcome, Packet, Rewrite, Site, exit_of};

@@ -1,7 +1,7 @@
 //! What a rule writes over a packet, and what becomes of an established one (iptables-extensions(8)).
 
 ghost use Rattle.std.specs.Prelude.{◌≡◌};
-ghost use Rattle.fws_ipt.specs.Walk.{with_wrote, with_src, with_dst, with_mark, writes_dst_at, writes_src_at, masquerades_at, redirect_addr, masqueraded, tracked_at};
+ghost use Rattle.fws_ipt.specs.Walk.{with_wrote, with_src, with_dst, with_mark, redirect_addr, masqueraded, tracked_at};
 
 use crate::hook::Hook;
 use crate::passage::{ChainEnd, Passage};
@@ -45,36 +45,6 @@ pub(crate) fn with_mark(mark: u32, m: &Passage) -> Passage
     ensures { result ≡ with_mark mark m.now }
 {
     Passage { mark, ..*m }
-}
-
-/// Whether DNAT and REDIRECT act at the hook.
-pub(crate) fn writes_dst_at(hook: Hook) -> bool
-    ensures { result ≡ writes_dst_at hook }
-{
-    match hook {
-        Hook::Prerouting | Hook::Output => true,
-        Hook::Input | Hook::Forward | Hook::Postrouting => false,
-    }
-}
-
-/// Whether SNAT acts at the hook.
-pub(crate) fn writes_src_at(hook: Hook) -> bool
-    ensures { result ≡ writes_src_at hook }
-{
-    match hook {
-        Hook::Input | Hook::Postrouting => true,
-        Hook::Prerouting | Hook::Forward | Hook::Output => false,
-    }
-}
-
-/// Whether MASQUERADE acts at the hook.
-pub(crate) fn masquerades_at(hook: Hook) -> bool
-    ensures { result ≡ masquerades_at hook }
-{
-    match hook {
-        Hook::Postrouting => true,
-        Hook::Prerouting | Hook::Input | Hook::Forward | Hook::Output => false,
-    }
 }
 
 /// The address that REDIRECT writes for the packet that entered as `p`.
