@@ -5,6 +5,7 @@ ghost use Rattle.fws_net.specs.Routes.{IsSound};
 
 use crate::boxes::judge_boxes;
 use crate::cases::{judge_lines, judge_texts};
+use crate::forms::Forms;
 use crate::judging::{judge_refusal, judge_table};
 use crate::keeping::judge_keeping;
 use crate::packets::judge_packets;
@@ -65,7 +66,8 @@ fn do_walk<S: Shelf>(
         [kind, file, expected] if kind.as_slice() == b"table".as_slice() => {
             let config = read_file(alloc, shelf, site, file)?;
             let expected = shelf.read(alloc, expected.as_slice(), LIMIT)?;
-            judge_table(alloc, site, &config, expected.as_slice())
+            let forms = Forms::of(alloc, site, config)?;
+            judge_table(alloc, site, &forms, expected.as_slice())
         }
         [kind, file, what, chain] if kind.as_slice() == b"refusal".as_slice() => {
             let config = read_file(alloc, shelf, site, file)?;
@@ -76,10 +78,11 @@ fn do_walk<S: Shelf>(
             let connections = shelf.read(alloc, connections.as_slice(), LIMIT)?;
             let packets = shelf.read(alloc, packets.as_slice(), LIMIT)?;
             let expected = shelf.read(alloc, expected.as_slice(), LIMIT)?;
+            let forms = Forms::of(alloc, site, config)?;
             judge_trace(
                 alloc,
                 site,
-                &config,
+                &forms,
                 connections.as_slice(),
                 packets.as_slice(),
                 expected.as_slice(),

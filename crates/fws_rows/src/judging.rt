@@ -2,36 +2,25 @@
 
 ghost use Rattle.fws_net.specs.Routes.{IsSound};
 
+use crate::forms::{Forms, is_diagram_refused_so};
 use crate::sampling::{count, kind_of, packet_of, point_at};
 use crate::stop::Stop;
 use crate::table::{Row, read_table};
-use fws_ipt::model::{refusal, walk_packet};
+use fws_ipt::model::refusal;
 use fws_ipt::{IptConfig, UnfoldRefusal};
 use fws_net::Site;
 use fws_num::{Text, put_dec};
 use std::alloc::Global;
 
-/// How many of the packets of a row have another outcome than the row says.
-fn differing(
-    alloc: Global,
-    site: &Site,
-    config: &IptConfig,
-    est: bool,
-    row: &Row,
-) -> Result<u64, Stop>
+/// How many of the packets of a row have another outcome in some form than the row says.
+fn differing(alloc: Global, site: &Site, forms: &Forms, est: bool, row: &Row) -> Result<u64, Stop>
     requires { IsSound site.now }
 {
     let mut differ: u64 = 0;
     for index in 0..count(row) {
         let point = point_at(row, index);
-        let outcome = walk_packet(
-            alloc,
-            config,
-            site,
-            &packet_of(&point),
-            &kind_of(est, &point),
-        )?;
-        if outcome != row.outcome {
+        let found = forms.walk(alloc, site, &packet_of(&point), &kind_of(est, &point))?;
+        if found != Some(row.outcome) {
             differ = differ.saturating_add(1);
         }
     }
@@ -39,12 +28,7 @@ fn differing(
 }
 
 /// Walks the packets at the ends of each row of an expected table, and says how many rows agree.
-pub fn judge_table(
-    alloc: Global,
-    site: &Site,
-    config: &IptConfig,
-    expected: &[u8],
-) -> Result<Text, Stop>
+pub fn judge_table(alloc: Global, site: &Site, forms: &Forms, expected: &[u8]) -> Result<Text, Stop>
     requires { IsSound site.now }
 {
     let table = read_table(alloc, site, expected)?;
@@ -54,7 +38,7 @@ pub fn judge_table(
     }
     let mut agreeing: u64 = 0;
     for row in rows {
-        if differing(alloc, site, config, table.est, row)? == 0 {
+        if differing(alloc, site, forms, table.est, row)? == 0 {
             agreeing = agreeing.saturating_add(1);
         }
     }
@@ -92,16 +76,19 @@ fn is_refused_so(
     }
 }
 
-/// Says whether a configuration is refused for this reason at this chain.
+/// Says whether a configuration and its diagram are refused for this reason at this chain.
 pub fn judge_refusal(
     alloc: Global,
     site: &Site,
     config: &IptConfig,
     what: &[u8],
     chain: &[u8],
-) -> Result<Text, Stop> {
+) -> Result<Text, Stop>
+    requires { IsSound site.now }
+{
     let found = refusal(alloc, site, config)?;
-    let said: &[u8] = if is_refused_so(config, found, what, chain) {
+    let drawn = is_diagram_refused_so(alloc, site, config, what, chain)?;
+    let said: &[u8] = if drawn && is_refused_so(config, found, what, chain) {
         b"agrees"
     } else {
         b"differs"

@@ -8,6 +8,7 @@ mod boxes;
 mod cases;
 mod conditions;
 mod edits;
+mod forms;
 mod found;
 mod jobs;
 mod judging;

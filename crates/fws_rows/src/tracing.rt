@@ -2,10 +2,9 @@
 
 ghost use Rattle.fws_net.specs.Routes.{IsSound};
 
+use crate::forms::Forms;
 use crate::numbers::{address, byte, decimal, entry, short};
 use crate::stop::Stop;
-use fws_ipt::IptConfig;
-use fws_ipt::model::walk_packet;
 use fws_net::{Conn, Fate, Kind, Packet, Site, Tuple, class};
 use fws_num::{Comments, Items, Memory, Text, Word, put_dec, put_quad, read_lines};
 use std::alloc::Global;
@@ -99,7 +98,7 @@ fn put_fate(text: &mut Text, packet: &Packet, kind: &Kind, fate: &Fate) -> Resul
 pub fn judge_trace(
     alloc: Global,
     site: &Site,
-    config: &IptConfig,
+    forms: &Forms,
     connections: &[u8],
     packets: &[u8],
     expected: &[u8],
@@ -114,7 +113,9 @@ pub fn judge_trace(
     {
         let packet = read_packet(site, line.words.as_slice())?;
         let kind = class(connections.as_slice(), &packet);
-        let outcome = walk_packet(alloc, config, site, &packet, &kind)?;
+        let Some(outcome) = forms.walk(alloc, site, &packet, &kind)? else {
+            return Ok(Text::of(alloc, b"the forms differ")?);
+        };
         put_fate(&mut trace, &packet, &kind, &outcome.fate(&packet, &kind))?;
     }
     let said: &[u8] = if trace.as_slice() == expected {

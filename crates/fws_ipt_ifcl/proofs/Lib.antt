@@ -1,0 +1,15 @@
+mod Widths
+mod Guarding
+mod Writes
+mod Standing
+mod Scenes
+mod Ends
+mod Alike
+mod Files
+mod Entered
+mod Ways
+mod Lists
+mod Named
+mod Staged
+mod Turned
+mod Keeping
