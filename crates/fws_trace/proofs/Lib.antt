@@ -1,0 +1,4 @@
+mod Keys
+mod Listing
+mod OfSite
+mod Walked
