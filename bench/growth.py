@@ -1,7 +1,9 @@
 """python3 growth.py FAMILY TIMES PROGRAM SITE
+python3 growth.py FAMILY TIMES PROGRAM SMALL LARGE
 
-Makes the tables of 400 and of 4,000 rules of a family of make.py, three times each in turn, and prints a line
-`FAMILY takes N times as long for 4000 rules as for 400` of the best times. Exit status 1 where that is more than TIMES.
+The first form makes the tables of 400 and of 4,000 rules of a family of make.py, the second runs the program with the words
+FAMILY SMALL and FAMILY LARGE; three times each in turn. Prints a line `FAMILY takes N times as long for LARGE as for SMALL` of
+the best times. Exit status 1 where that is more than TIMES.
 """
 
 import os
@@ -13,25 +15,39 @@ import time
 MAKE = os.path.join(os.path.dirname(os.path.abspath(__file__)), 'make.py')
 
 
-def seconds(program, site, name):
+def seconds(command):
     begun = time.monotonic()
-    subprocess.run([program, 'synth', 'iptables', site, name, 'new'], stdout=subprocess.DEVNULL, check=True, timeout=120)
+    subprocess.run(command, stdout=subprocess.DEVNULL, check=True, timeout=120)
     return time.monotonic() - begun
 
 
-def main(family, most, program, site):
+def table(work, program, site, family, rules):
+    """The command that makes the table of so many rules."""
+    name = os.path.join(work, str(rules))
+    with open(name, 'w') as f:
+        subprocess.run([sys.executable, MAKE, str(rules), family], stdout=f, check=True)
+    return [program, 'synth', 'iptables', site, name, 'new']
+
+
+def compare(family, most, commands):
+    """Runs a command for each of two sizes."""
     best = {}
-    with tempfile.TemporaryDirectory() as work:
-        for rules in (400, 4000):
-            with open(os.path.join(work, str(rules)), 'w') as f:
-                subprocess.run([sys.executable, MAKE, str(rules), family], stdout=f, check=True)
-        for _ in range(3):
-            for rules in (400, 4000):
-                taken = seconds(program, site, os.path.join(work, str(rules)))
-                best[rules] = min(taken, best.get(rules, taken))
-    times = best[4000] / best[400]
-    print(family, 'takes %.1f times as long for 4000 rules as for 400' % times)
+    for _ in range(3):
+        for size, command in commands.items():
+            taken = seconds(command)
+            best[size] = min(taken, best.get(size, taken))
+    small, large = commands
+    times = best[large] / best[small]
+    print(family, 'takes %.1f times as long for %d as for %d' % (times, large, small))
     return 0 if times <= most else 1
 
 
-sys.exit(main(sys.argv[1], float(sys.argv[2]), sys.argv[3], sys.argv[4]))
+def main(family, most, program, *given):
+    if len(given) == 2:
+        sizes = [int(size) for size in given]
+        return compare(family, most, {size: [program, family, str(size)] for size in sizes})
+    with tempfile.TemporaryDirectory() as work:
+        return compare(family, most, {rules: table(work, program, given[0], family, rules) for rules in (400, 4000)})
+
+
+sys.exit(main(sys.argv[1], float(sys.argv[2]), *sys.argv[3:]))

@@ -1,8 +1,8 @@
 #!/usr/bin/env bash
 # Runs the built programs over growing inputs, and prints a line `family size seconds megabytes counts` for each:
 # filter files of growing length, 400 rules at sites of growing size, the writing of these sites by the command site2,
-# texts of up to 4 MiB that are read and not executed, and trees that are made of rows or recoloured. Exit status 1 where
-# a bound is passed. Build first: ./fws --build
+# texts of up to 4 MiB that are read and not executed, trees that are made of rows or recoloured, and diagrams that are
+# unfolded or refused. Exit status 1 where a bound is passed. Build first: ./fws --build
 set -u
 top=$(cd "$(dirname "$0")/.." && pwd)
 program=$top/crates/fws/out/fws
@@ -63,4 +63,14 @@ measure product 600 1 2048 "$trees" product 600
 
 echo 'family marks seconds megabytes values nodes'
 measure recolour 4000 1 2048 "$trees" recolour 4000
+
+echo 'family calls seconds megabytes instructions'
+measure unfold 998 10 2048 "$trees" unfold 998
+python3 "$top/bench/growth.py" unfold 15 "$trees" 99 990 || status=1
+
+echo 'family chains seconds megabytes refusal'
+measure chains 100000 0.5 1024 "$trees" chains 100000
+measure ring 100000 0.5 1024 "$trees" ring 100000
+python3 "$top/bench/growth.py" chains 15 "$trees" 20000 200000 || status=1
+python3 "$top/bench/growth.py" ring 15 "$trees" 20000 200000 || status=1
 exit "$status"

@@ -1,21 +1,27 @@
-//! Makes trees of growing size, and prints how large they are. `fields N` makes the tree of N rows that each have cuts of
-//! their own in four fields, and prints N and the number of its paths; `product N` makes the tree of N rows that each test
-//! one of four fields, and prints N and the number of its nodes; `recolour N` recolours a canvas N times, and prints N, the
-//! number of its values and that of its tree's nodes. A run may have several of these, one behind the other.
+//! Makes trees of growing size and unfolds growing diagrams, and prints how large they are. `fields N` makes the tree of N
+//! rows that each have cuts of their own in four fields, and prints N and the number of its paths; `product N` makes the
+//! tree of N rows that each test one of four fields, and prints N and the number of its nodes; `recolour N` recolours a
+//! canvas N times, and prints N, the number of its values and that of its tree's nodes. `unfold N` unfolds N calls of a
+//! chain of 1,000 rules, `chains N` a diagram of N chains of which each calls the next, `ring N` the same with a last one
+//! that calls the one in the middle; they print N and the number of instructions, or why the diagram is refused. A run may
+//! have several of these, one behind the other.
 #![tactic(auto)]
 
 ghost use Rattle.std.specs.Prelude.{◌≤◌, IfSome};
 
+mod diagrams;
 mod fields;
 mod product;
 mod recolour;
 mod tops;
 
+use crate::diagrams::{Shape, count_unfolded};
 use crate::fields::count_paths;
 use crate::product::count_nodes;
 use crate::recolour::count_recoloured;
 use fws_io::{StdSink, write_all};
 use fws_num::{Items, Memory, Text, put_dec, read_dec};
+use fws_unfold::UnfoldAnswer;
 use std::alloc::Global;
 use std::env;
 use std::process::ExitCode;
@@ -24,9 +30,12 @@ use std::rt::Env;
 /// The most rows and recolourings.
 const MOST: u64 = 4000;
 
+/// The most chains and calls of a diagram.
+const MOST_CHAINS: u64 = 200_000;
+
 /// Why nothing is printed.
 #[derive(Clone, Copy, Debug, PartialEq, Eq)]
-enum Stop {
+pub enum Stop {
     /// The words ask for nothing that there is.
     Words,
     /// Memory was wanting.
@@ -57,8 +66,36 @@ fn put_line(out: &mut Text, n: u32, counts: &[usize]) -> Result<(), Memory> {
     out.put(b"\n")
 }
 
-/// Does one job, and appends what it says.
-fn do_job(alloc: Global, out: &mut Text, kind: &Text, count: &Text) -> Result<(), Stop> {
+/// Appends why a diagram is refused, and the chain at which it is.
+fn put_refusal(out: &mut Text, refusal: UnfoldAnswer) -> Result<(), Stop> {
+    let (reason, chain): (&[u8], u32) = match refusal {
+        UnfoldAnswer::Loop(c) => (b" loop ", c),
+        UnfoldAnswer::Deep(c) => (b" deep ", c),
+        UnfoldAnswer::Long(c) => (b" long ", c),
+        UnfoldAnswer::Memory => return Err(Stop::Memory),
+    };
+    out.put(reason)?;
+    put_dec(out, u64::from(chain))?;
+    out.put(b"\n")?;
+    Ok(())
+}
+
+/// Unfolds a diagram, and appends the number that was asked for and what came of it.
+fn do_unfolding(alloc: Global, out: &mut Text, shape: Shape, count: &Text) -> Result<(), Stop> {
+    let Some(n) = read_dec(count.as_slice(), MOST_CHAINS) else {
+        return Err(Stop::Words);
+    };
+    match count_unfolded(alloc, shape, n as u32)? {
+        Ok(instructions) => Ok(put_line(out, n as u32, &[instructions])?),
+        Err(refusal) => {
+            put_dec(out, n)?;
+            put_refusal(out, refusal)
+        }
+    }
+}
+
+/// Does one job on trees, and appends what it says.
+fn do_tree(alloc: Global, out: &mut Text, kind: &Text, count: &Text) -> Result<(), Stop> {
     let Some(n) = read_count(count) else {
         return Err(Stop::Words);
     };
@@ -69,6 +106,16 @@ fn do_job(alloc: Global, out: &mut Text, kind: &Text, count: &Text) -> Result<()
         _ => return Err(Stop::Words),
     }
     Ok(())
+}
+
+/// Does one job, and appends what it says.
+fn do_job(alloc: Global, out: &mut Text, kind: &Text, count: &Text) -> Result<(), Stop> {
+    match kind.as_slice() {
+        b"unfold" => do_unfolding(alloc, out, Shape::Calls, count),
+        b"chains" => do_unfolding(alloc, out, Shape::Ladder, count),
+        b"ring" => do_unfolding(alloc, out, Shape::Ring, count),
+        _ => do_tree(alloc, out, kind, count),
+    }
 }
 
 /// Does the jobs of the words, two for each.
