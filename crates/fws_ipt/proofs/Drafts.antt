@@ -33,10 +33,10 @@ use Rattle.fws_ipt.specs.declared.draft.RuleDraft.{RuleDraft}
 use Rattle.fws_ipt.specs.Options.{keyword_of, is_module, target_word, is_left_out_target, belongs, needs_option}
 use Rattle.fws_ipt.specs.RuleText.{fresh_rule, closed, limited, once, noted, with_literals, test_begun, test_step, with_source, with_destination, with_protocol, compared_step, value_step, first_act, with_target, user_chain, other_target, target_step, goto_step, is_written, is_bare, behind_option, fits_target, option_step, target_value_step, target_begun, keyword_step, is_target_option, known_step, any_step, negated_keyword, module_step, expected_step, rule_step, is_complete, is_misplaced, logs, is_loose, rule_checks, rule_made, rule_of}
 use Rattle.fws_ipt.specs.Values.{meaning_of, literals, protocol_value, flags_of, xmark_value, set_mark_value, place_of, to_port, network_of}
-use Rattle.fws_ipt.specs.Soundness.{is_user_chain, fits}
+use Rattle.fws_ipt.specs.Soundness.{is_user_chain, fits, is_named}
 use Rattle.fws_ipt.specs.Walk.{is_table}
 use Rattle.fws_ipt.proofs.Outcomes.{then_holds, then_known, either_holds, found_holds, checked_holds, words_hold}
-use Rattle.fws_ipt.proofs.Users.{is_named, user_found}
+use Rattle.fws_ipt.proofs.Users.{user_found}
 
 -- What holds of a rule so far
 

@@ -1,5 +1,6 @@
 pub mod Alike
 pub mod AlikeWalks
+pub mod Apart
 pub mod Drafts
 pub mod Filtering
 pub mod Heights

@@ -1,6 +1,6 @@
 -- What holds of a text, line by line.
 use Rattle.std.proofs.Common.{◌≡◌, ℕ, Bool, true, false, ◌&&◌, ◌||◌, cond, Option, Some, None, is_some, is_none, Ok, Err, List, [], ◌∷◌, codes, bytes_eq, if◌then◌else◌, IfOk, refl, ap}
-use Rattle.std.proofs.lemmas.Bool.{false≢true, and_parts, and_from}
+use Rattle.std.proofs.lemmas.Bool.{false≢true, and_parts, and_from, or_parts}
 use Rattle.std.proofs.lemmas.Result.{IfOk-at_ok}
 use Rattle.std.specs.List.{list_all}
 use Rattle.std.specs.Option.{option_map_or}
@@ -25,13 +25,14 @@ use Rattle.fws_ipt.specs.declared.draft.IptDraft.{IptDraft}
 use Rattle.fws_ipt.specs.FileText.{section_named, alone, opened_at, opens, table_line, commit_line, is_counters, ends_declaration, with_chain, with_builtin, policy_of, builtin_line, user_line, is_declared, builtin_declared, user_declared, builtin_hook, declared_in, chain_line, with_rule, rule_line, chain_of_rule, appended_in, appended_to, append_line, out_of_place, counted_line, counters_line, behind, word_line, first_step, words_step, line_step, fresh_text, ended, spelled}
 use Rattle.fws_ipt.specs.Hooks.{hook_named, has_hook}
 use Rattle.fws_ipt.specs.RuleText.{is_chain, chain_from, rule_of}
-use Rattle.fws_ipt.specs.Soundness.{fits, chain_fits, is_fitting, SpelledFits}
+use Rattle.fws_ipt.specs.Soundness.{fits, chain_fits, is_fitting, SpelledFits, is_named, are_apart, SpelledChains}
 use Rattle.fws_ipt.specs.Spelled.{is_spelled_rule, SpelledConditions, names_block, is_network, maps_named, SpelledNetworks}
 use Rattle.fws_ipt.specs.Walk.{is_table}
+use Rattle.fws_ipt.proofs.Apart.{unseen, longer_apart, ruled_apart}
 use Rattle.fws_ipt.proofs.Drafts.{rule_fits}
 use Rattle.fws_ipt.proofs.Outcomes.{then_holds, then_known, either_holds, both_hold, sought_holds, found_holds, ok_or_holds, judged_holds, located_holds, lines_hold}
 use Rattle.fws_ipt.proofs.Told.{is_told, maps_at, rule_is_told}
-use Rattle.fws_ipt.proofs.Users.{is_at, all_weaker, both_pass, is_named, chain_found, longer_fits, longer_named, longer_passes, rules_pass, ruled_fits, ruled_named, ruled_passes}
+use Rattle.fws_ipt.proofs.Users.{is_at, all_weaker, both_pass, chain_found, longer_fits, longer_named, longer_passes, rules_pass, ruled_fits, ruled_named, ruled_passes}
 
 -- what is known of a rule by its chain's table and name
 abbrev tells : IptTable → List ℕ → IptRule → Bool
@@ -40,12 +41,14 @@ tells table name rule = is_told (builtin_hook (Met table) name) rule
 -- what holds of a text so far
 record Standing (d : IptDraft) : Type 0 where
   named : list_all is_named d.chains ≡ true
+  apart : are_apart d.chains ≡ true
   fitting : list_all (chain_fits d.chains) d.chains ≡ true
   told : list_all (rules_pass tells) d.chains ≡ true
 
 -- what holds of a text that was read
 record Stood (c : IptConfig) : Type 0 where
   all_named : list_all is_named c.chains ≡ true
+  all_apart : are_apart c.chains ≡ true
   all_fit : is_fitting c ≡ true
   all_told : list_all (rules_pass tells) c.chains ≡ true
 
@@ -59,12 +62,12 @@ table_stands : (name : List ℕ) (ws : List Word) (d : IptDraft) → Standing d 
 table_stands name ws d h =
     found_holds Standing (section_named name) (λ section. opens section ws d) (Err LeftOut)
     (λ section e. either_holds Standing _ (Err Syntax) (alone ws (opened_at section d)) (λ k. tt)
-    (λ k. alone_stands ws (opened_at section d) (record { named = h.named; fitting = h.fitting; told = h.told }))) tt
+    (λ k. alone_stands ws (opened_at section d) (record { named = h.named; apart = h.apart; fitting = h.fitting; told = h.told }))) tt
 
 commit_stands : (ws : List Word) (d : IptDraft) → Standing d → IfOk (commit_line ws d) Standing
 commit_stands ws d h =
     let after : IptDraft = record d { within = None } in
-    either_holds Standing (is_some d.within) (alone ws after) (Err Syntax) (λ e. alone_stands ws after (record { named = h.named; fitting = h.fitting; told = h.told })) (λ e. tt)
+    either_holds Standing (is_some d.within) (alone ws after) (Err Syntax) (λ e. alone_stands ws after (record { named = h.named; apart = h.apart; fitting = h.fitting; told = h.told })) (λ e. tt)
 
 -- Declarations
 
@@ -74,10 +77,15 @@ ends_stands (w ∷ ws) d h =
     judged_holds Standing w _ (either_holds Standing (is_counters w.text) (alone ws d) (Err Syntax) (λ e. alone_stands ws d h) (λ e. tt))
 
 with_chain_stands : (table : IptTable) (name : List ℕ) (policy : Option Bool) (d : IptDraft) → is_named (record { table = table; name = name; policy = policy; rules = [] }) ≡ true
-    → Standing d → Standing (with_chain table name policy d)
-with_chain_stands table name policy d here h =
+    → is_some (chain_from 0 table name d.chains) ≡ false → Standing d → Standing (with_chain table name policy d)
+with_chain_stands table name policy d here new h =
     let chain : IptChain = record { table = table; name = name; policy = policy; rules = [] } in
-    record { named = longer_named d.chains chain here h.named; fitting = longer_fits d.chains chain refl h.fitting; told = longer_passes tells d.chains chain refl h.told }
+    record {
+      named = longer_named d.chains chain here h.named;
+      apart = longer_apart d.chains chain (unseen 0 table name d.chains new) h.apart;
+      fitting = longer_fits d.chains chain refl h.fitting;
+      told = longer_passes tells d.chains chain refl h.told;
+    }
 
 -- a hook that was found names a built-in chain
 taken : (b : Bool) (x y : Hook) → (if b then Some x else None) ≡ Some y → b ≡ true
@@ -98,31 +106,32 @@ no_hook : (table : IptTable) (o : Option Hook) → option_map_or (λ x. if has_h
 no_hook table None h = refl
 no_hook table (Some found) h = untaken (has_hook table found) found h
 
-with_builtin_stands : (section : Section) (hook : Hook) (name : List ℕ) (accepts : Bool) (d : IptDraft) → builtin_hook section name ≡ Some hook → Standing d
-    → Standing (with_builtin section hook name accepts d)
-with_builtin_stands (Met table) hook name accepts d e h =
-    with_chain_stands table name (Some accepts) d (ap (λ b. cond b true false) (hook_found table (hook_named name) hook e)) h
-with_builtin_stands Raw hook name accepts d e h = record { named = h.named; fitting = h.fitting; told = h.told }
-with_builtin_stands Security hook name accepts d e h = record { named = h.named; fitting = h.fitting; told = h.told }
+with_builtin_stands : (section : Section) (hook : Hook) (name : List ℕ) (accepts : Bool) (d : IptDraft) → builtin_hook section name ≡ Some hook
+    → is_declared section hook name d ≡ false → Standing d → Standing (with_builtin section hook name accepts d)
+with_builtin_stands (Met table) hook name accepts d e new h =
+    with_chain_stands table name (Some accepts) d (ap (λ b. cond b true false) (hook_found table (hook_named name) hook e)) new h
+with_builtin_stands Raw hook name accepts d e new h = record { named = h.named; apart = h.apart; fitting = h.fitting; told = h.told }
+with_builtin_stands Security hook name accepts d e new h = record { named = h.named; apart = h.apart; fitting = h.fitting; told = h.told }
 
-builtin_stands : (section : Section) (hook : Hook) (name : List ℕ) (ws : List Word) (d : IptDraft) → builtin_hook section name ≡ Some hook → Standing d
-    → IfOk (builtin_line section hook name ws d) Standing
-builtin_stands section hook name [] d e h = tt
-builtin_stands section hook name (w ∷ ws) d e h =
+builtin_stands : (section : Section) (hook : Hook) (name : List ℕ) (ws : List Word) (d : IptDraft) → builtin_hook section name ≡ Some hook
+    → is_declared section hook name d ≡ false → Standing d → IfOk (builtin_line section hook name ws d) Standing
+builtin_stands section hook name [] d e new h = tt
+builtin_stands section hook name (w ∷ ws) d e new h =
     judged_holds Standing w _ (then_holds Standing (policy_of section w.text) (λ accepts. ends_declaration ws (with_builtin section hook name accepts d))
-    (λ accepts. ends_stands ws (with_builtin section hook name accepts d) (with_builtin_stands section hook name accepts d e h)))
+    (λ accepts. ends_stands ws (with_builtin section hook name accepts d) (with_builtin_stands section hook name accepts d e new h)))
 
-user_stands : (table : IptTable) (name : List ℕ) (ws : List Word) (d : IptDraft) → builtin_hook (Met table) name ≡ None → Standing d → IfOk (user_line table name ws d) Standing
-user_stands table name [] d e h = tt
-user_stands table name (w ∷ ws) d e h =
+user_stands : (table : IptTable) (name : List ℕ) (ws : List Word) (d : IptDraft) → builtin_hook (Met table) name ≡ None → is_some (chain_from 0 table name d.chains) ≡ false → Standing d
+    → IfOk (user_line table name ws d) Standing
+user_stands table name [] d e new h = tt
+user_stands table name (w ∷ ws) d e new h =
     judged_holds Standing w _ (either_holds Standing (bytes_eq w.text (codes "-")) (ends_declaration ws (with_chain table name None d)) (Err Syntax)
-    (λ k. ends_stands ws (with_chain table name None d) (with_chain_stands table name None d (ap (λ b. cond b false true) (no_hook table (hook_named name) e)) h)) (λ k. tt))
+    (λ k. ends_stands ws (with_chain table name None d) (with_chain_stands table name None d (ap (λ b. cond b false true) (no_hook table (hook_named name) e)) new h)) (λ k. tt))
 
 user_declared_stands : (section : Section) (name : List ℕ) (ws : List Word) (d : IptDraft) → builtin_hook section name ≡ None → Standing d
     → IfOk (user_declared section name ws d) Standing
 user_declared_stands (Met table) name ws d e h =
     either_holds Standing (bytes_eq name [] || is_some (chain_from 0 table name d.chains)) (Err Syntax) (user_line table name ws d) (λ k. tt)
-    (λ k. user_stands table name ws d e h)
+    (λ k. user_stands table name ws d e (or_parts (bytes_eq name []) (is_some (chain_from 0 table name d.chains)) k).1 h)
 user_declared_stands Raw name ws d e h = either_holds Standing (bytes_eq name []) (Err Syntax) (Err LeftOut) (λ k. tt) (λ k. tt)
 user_declared_stands Security name ws d e h = either_holds Standing (bytes_eq name []) (Err Syntax) (Err LeftOut) (λ k. tt) (λ k. tt)
 
@@ -130,7 +139,7 @@ declared_stands : (section : Section) (name : List ℕ) (ws : List Word) (d : Ip
 declared_stands section name ws d h =
     sought_holds Standing (builtin_hook section name) (λ hook. builtin_declared section hook name ws d) (user_declared section name ws d)
     (λ hook e. either_holds Standing (is_declared section hook name d) (Err Syntax) (builtin_line section hook name ws d) (λ k. tt)
-    (λ k. builtin_stands section hook name ws d e h))
+    (λ k. builtin_stands section hook name ws d e k h))
     (λ e. user_declared_stands section name ws d e h)
 
 chain_stands : (name : List ℕ) (ws : List Word) (d : IptDraft) → Standing d → IfOk (chain_line name ws d) Standing
@@ -150,6 +159,7 @@ rule_stands site table name n ws d found h =
     (λ rule k.
     record {
       named = ruled_named n rule d.chains h.named;
+      apart = ruled_apart n rule d.chains h.apart;
       fitting = ruled_fits table name n rule d.chains h.fitting found k.0;
       told = ruled_passes tells table name n rule d.chains h.told found k.1;
     })
@@ -200,17 +210,20 @@ words_stand site (w ∷ ws) d h = judged_holds Standing w (first_step site w.tex
 ended_stands : (d : IptDraft) → Standing d → IfOk (ended d) Stood
 ended_stands d h =
     either_holds Stood (is_some d.within) (Err Syntax) (Ok (record { chains = d.chains })) (λ e. tt)
-    (λ e. record { all_named = h.named; all_fit = h.fitting; all_told = h.told })
+    (λ e. record { all_named = h.named; all_apart = h.apart; all_fit = h.fitting; all_told = h.told })
 
 spelled_stands : (site : Site) (text : List ℕ) → IfOk (spelled site text) Stood
 spelled_stands site text =
     let lines = read_of HashLine text in
     then_known Standing Stood (lines_read (line_step site) fresh_text lines.lines) (λ d. located lines.past (ended d))
-    (lines_hold Standing (line_step site) (λ d l h. words_stand site l.words d h) fresh_text lines.lines (record { named = refl; fitting = refl; told = refl }))
+    (lines_hold Standing (line_step site) (λ d l h. words_stand site l.words d h) fresh_text lines.lines (record { named = refl; apart = refl; fitting = refl; told = refl }))
     (λ d h. located_holds Stood lines.past (ended d) (ended_stands d h))
 
 pub spelled_is_fitting : SpelledFits
 spelled_is_fitting site text c e = (IfOk-at_ok Stood e (spelled_stands site text)).all_fit
+
+pub chains_are_named : SpelledChains
+chains_are_named site text c e = let all = IfOk-at_ok Stood e (spelled_stands site text) in (all.all_named, all.all_apart)
 
 -- Conditions
 

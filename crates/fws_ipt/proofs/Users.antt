@@ -15,7 +15,7 @@ use Rattle.fws_ipt.specs.declared.config.IptRule.{IptRule}
 use Rattle.fws_ipt.specs.declared.config.IptChain.{IptChain}
 use Rattle.fws_ipt.specs.FileText.{with_rule}
 use Rattle.fws_ipt.specs.RuleText.{is_chain, chain_from, is_builtin_name, user_chain}
-use Rattle.fws_ipt.specs.Soundness.{is_user_chain, fits, chain_fits}
+use Rattle.fws_ipt.specs.Soundness.{is_user_chain, fits, chain_fits, is_named}
 use Rattle.fws_ipt.specs.Walk.{is_table}
 use Rattle.fws_ipt.proofs.Outcomes.{either_holds, ok_or_holds}
 
@@ -90,10 +90,6 @@ table_same Nat Nat h = refl
 table_same Mangle Mangle h = refl
 table_same _ _ h = absurd (false≢true h)
 
--- a chain has a policy where its name is that of a built-in one, and nowhere else
-abbrev pub is_named : IptChain → Bool
-is_named chain = cond (is_builtin_name chain.table chain.name) (is_some chain.policy) (is_none chain.policy)
-
 other_case : (b p q : Bool) → cond b p q ≡ true → b ≡ false → q ≡ true
 other_case true p q h e = absurd (false≢true (sym e))
 other_case false p q h e = h
@@ -150,10 +146,12 @@ longer_named chains chain here h =
 
 -- A rule more
 
-with_rule-named : (n : ℕ) (rule : IptRule) (chains : List IptChain) → list_all is_named (with_rule n rule chains) ≡ list_all is_named chains
-with_rule-named n rule [] = refl
-with_rule-named zero rule (chain ∷ chains) = refl
-with_rule-named (suc n) rule (chain ∷ chains) = ap (λ b. is_named chain && b) (with_rule-named n rule chains)
+-- a test that doesn't look at rules
+pub ruled_alike : (test : IptChain → Bool) → ((chain : IptChain) (rules : List IptRule) → test (record chain { rules = rules }) ≡ test chain) → (n : ℕ) (rule : IptRule) (chains : List IptChain)
+    → list_all test (with_rule n rule chains) ≡ list_all test chains
+ruled_alike test blind n rule [] = refl
+ruled_alike test blind zero rule (chain ∷ chains) = ap (λ b. b && list_all test chains) (blind chain (chain.rules ++ rule ∷ []))
+ruled_alike test blind (suc n) rule (chain ∷ chains) = ap (λ b. test chain && b) (ruled_alike test blind n rule chains)
 
 user_as_before : (table : IptTable) (n : ℕ) (rule : IptRule) (chains : List IptChain) (c : ℕ) → is_user_chain table (with_rule n rule chains) c ≡ is_user_chain table chains c
 user_as_before table n rule [] c = refl
@@ -211,4 +209,4 @@ longer_passes test chains chain e h =
     ∙ and_from (list_all (rules_pass test) chains) (list_all (rules_pass test) (chain ∷ [])) h (and_from (rules_pass test chain) true here refl)
 
 pub ruled_named : (n : ℕ) (rule : IptRule) (chains : List IptChain) → list_all is_named chains ≡ true → list_all is_named (with_rule n rule chains) ≡ true
-ruled_named n rule chains h = with_rule-named n rule chains ∙ h
+ruled_named n rule chains h = ruled_alike is_named (λ chain rules. refl) n rule chains ∙ h

@@ -1,5 +1,5 @@
 -- What holds of every configuration that a text spells.
-use Rattle.std.specs.Prelude.{◌≡◌, ℕ, Bool, true, false, ◌&&◌, not, slice_get, is_none, Ok, List}
+use Rattle.std.specs.Prelude.{◌≡◌, ℕ, Bool, true, false, ◌&&◌, not, slice_get, is_some, is_none, Ok, List, [], ◌∷◌, if◌then◌else◌}
 use Rattle.std.specs.List.{list_all}
 use Rattle.std.specs.Option.{option_map_or}
 use Rattle.fws_net.specs.declared.site.Site.{Site}
@@ -11,6 +11,7 @@ use Rattle.fws_ipt.specs.declared.config.IptChain.{IptChain}
 use Rattle.fws_ipt.specs.declared.config.IptConfig.{IptConfig}
 use Rattle.fws_ipt.specs.FileText.{spelled}
 use Rattle.fws_ipt.specs.FilterOnly.{is_filter_only}
+use Rattle.fws_ipt.specs.RuleText.{is_chain, is_builtin_name}
 use Rattle.fws_ipt.specs.Walk.{is_table}
 
 -- the chain with this number is one of the user's in the table
@@ -42,6 +43,19 @@ is_fitting c = list_all (chain_fits c.chains) c.chains
 -- what a text spells is fitting
 abbrev pub SpelledFits : Type 0
 SpelledFits = (site : Site) (text : List ℕ) (c : IptConfig) → spelled site text ≡ Ok c → is_fitting c ≡ true
+
+-- a chain has a policy where its name is that of a built-in one of its table, and nowhere else
+abbrev pub is_named : IptChain → Bool
+is_named chain = if is_builtin_name chain.table chain.name then is_some chain.policy else is_none chain.policy
+
+-- no two chains have the same table and name
+abbrev pub are_apart : List IptChain → Bool
+are_apart [] = true
+are_apart (chain ∷ chains) = list_all (λ later. not (is_chain later.table later.name chain)) chains && are_apart chains
+
+-- what a text spells has such chains
+abbrev pub SpelledChains : Type 0
+SpelledChains = (site : Site) (text : List ℕ) (c : IptConfig) → spelled site text ≡ Ok c → (list_all is_named c.chains ≡ true) × (are_apart c.chains ≡ true)
 
 -- a rule that only filters
 abbrev pub decides_only : IptGo → Bool

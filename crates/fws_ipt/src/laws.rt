@@ -2,12 +2,18 @@
 
 ghost use Rattle.fws_ipt.specs.Loops.{FittingNamesChains, LoopsAreFound, LoopsAreReal, RefusedLoopsAreReal, SizesStandStill, SizesUnfold, UnrefusedHaveNoLoop, WalksStandStill, WalksUnfold};
 ghost use Rattle.fws_ipt.specs.Regular.{AskedWalksAreRegular, SpelledWalksAreRegular};
-ghost use Rattle.fws_ipt.specs.Soundness.{FilterOnlyRules, SpelledFits};
+ghost use Rattle.fws_ipt.specs.Soundness.{FilterOnlyRules, SpelledChains, SpelledFits};
 ghost use Rattle.fws_ipt.specs.Spelled.{SpelledConditions, SpelledNetworks};
 
 /// Every configuration that a text spells is fitting: a law, with nothing to do.
 pub fn spelled_fits()
     ensures { SpelledFits }
+{}
+
+/// Among the chains that a text spells those with the name of a built-in chain of their table have a
+/// policy, and no others, and no two have the same table and name: a law, with nothing to do.
+pub fn spelled_chains()
+    ensures { SpelledChains }
 {}
 
 /// In each rule that a text spells stand only tests that options mean, with ports, flags and ICMP types
