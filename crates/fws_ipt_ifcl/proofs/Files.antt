@@ -22,10 +22,10 @@ use Rattle.fws_ipt_ifcl.specs.Diagram.{own_chains, chain_for, is_on_source}
 
 -- Lists
 
-same_item : {X : Type 0} (x y : X) → Some x ≡ Some y → x ≡ y
+pub same_item : {X : Type 0} (x y : X) → Some x ≡ Some y → x ≡ y
 same_item x y is = ap (λ o. option_map_or (λ z. z) o x) is
 
-no_item : {X : Type 0} (x : X) → None ≡ Some x → ⊥
+pub no_item : {X : Type 0} (x : X) → None ≡ Some x → ⊥
 no_item x is = false≢true (ap is_some is)
 
 -- what each item passes, at a place

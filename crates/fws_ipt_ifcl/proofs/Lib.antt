@@ -13,3 +13,5 @@ mod Named
 mod Staged
 mod Turned
 mod Keeping
+mod Placed
+mod Drawable

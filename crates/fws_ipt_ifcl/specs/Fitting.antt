@@ -1,15 +1,18 @@
 -- Configurations whose diagrams keep their walks, which hold of every configuration that a text spells.
-use Rattle.std.specs.Prelude.{◌≡◌, ℕ, Bool, true, false, ◌||◌, not, nat_eq, is_some, List, ◌++◌}
+use Rattle.std.specs.Prelude.{◌≡◌, ℕ, Bool, true, false, ◌||◌, not, nat_eq, is_some, Ok, List, ◌++◌}
 use Rattle.std.specs.List.{list_all, list_any}
 use Rattle.std.specs.Option.{option_map_or}
 use Rattle.fws_net.specs.declared.condition.Test.{Test}
 use Rattle.fws_net.specs.declared.condition.Test.TheVariants.{Via, Outward}
+use Rattle.fws_net.specs.declared.site.Site.{Site}
 use Rattle.fws_ipt.specs.declared.config.IptGo.{IptGo}
 use Rattle.fws_ipt.specs.declared.config.IptGo.TheVariants.{Netmap}
 use Rattle.fws_ipt.specs.declared.config.IptRule.{IptRule}
 use Rattle.fws_ipt.specs.declared.config.IptChain.{IptChain}
 use Rattle.fws_ipt.specs.declared.config.IptConfig.{IptConfig}
+use Rattle.fws_ipt.specs.FileText.{spelled}
 use Rattle.fws_ipt.specs.Refusals.{is_builtin}
+use Rattle.fws_ipt.specs.Soundness.{is_fitting}
 use Rattle.fws_ipt.specs.Walk.{builtin_from, arriving, delivered, forwarded, sent_out}
 
 -- a test that doesn't ask on which side of routing a rule stands
@@ -44,3 +47,14 @@ is_met chains n =
 -- each built-in chain is met
 abbrev pub AreMet : List IptChain → Type 0
 AreMet chains = (n : ℕ) → is_builtin chains n ≡ true → is_met chains n ≡ true
+
+-- what the laws of a diagram ask of its configuration, besides that no chain reaches itself
+pub record IsDrawable (c : IptConfig) : Type 0 where
+  pub fitting : is_fitting c ≡ true
+  pub sideless : is_sideless_config c ≡ true
+  pub netmaps_placed : are_netmaps_placed c ≡ true
+  pub met : AreMet c.chains
+
+-- what a text spells is such
+abbrev pub SpelledDiagrams : Type 0
+SpelledDiagrams = (site : Site) (text : List ℕ) (c : IptConfig) → spelled site text ≡ Ok c → IsDrawable c

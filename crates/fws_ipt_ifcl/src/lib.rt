@@ -5,7 +5,9 @@ mod blocks;
 mod chains;
 mod diagram;
 mod guards;
+mod laws;
 mod places;
 mod stages;
 
 pub use diagram::to_ifcl;
+pub use laws::spelled_diagrams;
