@@ -1,9 +1,9 @@
 -- Chains put together from their ends.
-use Rattle.std.proofs.Common.{◌≡◌, ℕ, zero, suc, ◌+◌, ◌-◌, ◌<◌, ◌≤◌, Bool, true, false, cond, List, [], ◌∷◌, ◌++◌, reverse, length, length-append, drop, get_or, drop-cons, arith, refl, sym, ap, ◌∙◌, subst, ⊎_elim, eq-or-lt_of_le, Option, Some, None, nat_lt, Contains, ltb-true, leb-true}
+use Rattle.std.proofs.Common.{◌≡◌, ℕ, zero, suc, ◌+◌, ◌-◌, ◌<◌, ◌≤◌, true, false, cond, List, [], ◌∷◌, ◌++◌, reverse, length, length-append, drop, get_or, drop-cons, arith, refl, sym, ap, ◌∙◌, subst, ⊎_elim, eq-or-lt_of_le, Option, Some, None, nat_lt, Contains, ltb-true, leb-true}
 use Rattle.std.specs.Prelude.{nat_le}
-use Rattle.std.specs.List.{list_any, list_all}
+use Rattle.std.specs.List.{list_all}
 use Rattle.std.specs.Option.{option_map_or}
-use Rattle.std.proofs.lemmas.Bool.{false≢true, and_parts, or_parts, lt-ltb, le-ltb}
+use Rattle.std.proofs.lemmas.Bool.{and_parts, lt-ltb, le-ltb}
 use Rattle.std.proofs.lemmas.List.{length-reverse}
 use Rattle.std.proofs.lemmas.List.Elements.{Contains-append_left, Contains-append_right}
 use Rattle.fws_net.specs.declared.transit.Transit.{Transit}
@@ -15,7 +15,7 @@ use Rattle.fws_ifcl.specs.declared.diagram.Place.{Place}
 use Rattle.fws_ifcl.specs.declared.step.ChainEnd.{ChainEnd}
 use Rattle.fws_ifcl.specs.Walk.{rules_walk, rules_at}
 use Rattle.fws_ifcl.specs.Loops.{NoLoop, NamesChains, WalksUnfold}
-use Rattle.fws_ifcl.specs.Refusals.{named_by, all_named, named_in, begins_path}
+use Rattle.fws_ifcl.specs.Refusals.{named_by, all_named, named_in}
 use Rattle.fws_ifcl.specs.Soundness.{act_ok, rules_ok, chain_ok}
 use Rattle.fws_unfold.specs.declared.draft.Draft.{Draft}
 use Rattle.fws_unfold.specs.declared.draft.DraftAct.TheVariants.{Go}
@@ -97,21 +97,6 @@ far_within acts.RecDst next back e far is low = absurd (cc)
 far_within (acts.AddTag n) next back e far is low = absurd (cc)
 far_within (acts.OnlyTag n) next back e far is low = absurd (cc)
 far_within (acts.DelTag n) next back e far is low = absurd (cc)
-
-not_any_at : (test : ℕ → Bool) (xs : List ℕ) (x : ℕ) → list_any test xs ≡ false → Contains xs x → test x ≡ false
-not_any_at test [] x none on = let lt : on.0 < 0 = on.1 in absurd (omega arith)
-not_any_at test (y ∷ xs) x none (zero, lt, is) = ap test (sym is) ∙ (or_parts (test y) (list_any test xs) none).0
-not_any_at test (y ∷ xs) x none (suc k, lt, is) =
-    let less : k < length xs = omega arith in
-    not_any_at test xs x (or_parts (test y) (list_any test xs) none).1 (k, less, is)
-
--- paths from it are shorter
-pub short_below : (chains : List Chain) (left c e : ℕ) → begins_path chains left c ≡ false → Contains (named_in chains c) e → (0 < left) × (begins_path chains (left - 1) e ≡ false)
-short_below chains zero c e short on = absurd (false≢true (sym short))
-short_below chains (suc n) c e short on =
-    let same : suc n - 1 ≡ n = omega arith in
-    let some : 0 < suc n = omega arith in
-    (some, ap (λ k. begins_path chains k e) same ∙ not_any_at (begins_path chains n) (named_in chains c) e short on)
 
 -- Skips
 

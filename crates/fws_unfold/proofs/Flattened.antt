@@ -1,7 +1,7 @@
 -- The code of all chains of stages, and the parts of the stages.
 use Rattle.std.proofs.Common.{◌≡◌, ℕ, zero, suc, ◌+◌, ◌<◌, ◌≤◌, Bool, true, false, ◌&&◌, ◌||◌, List, [], ◌∷◌, ◌++◌, length, length-append, append-nil, arith, refl, sym, ap, ◌∙◌, subst, ⊎_elim, eq-or-lt_of_le, Option, Some, None, nat_eq, eq-eqb, ltb-true}
 use Rattle.std.proofs.Math.Path.{fun_ext}
-use Rattle.std.specs.Prelude.{option_and_then, option_map}
+use Rattle.std.specs.Prelude.{option_and_then}
 use Rattle.std.specs.List.{list_any, list_all}
 use Rattle.std.proofs.lemmas.Bool.{and_parts, and_from, or_left, or_right}
 use Rattle.fws_net.specs.declared.packet.Packet.{Packet}
@@ -11,9 +11,7 @@ use Rattle.fws_net.specs.declared.transit.Transit.{Transit}
 use Rattle.fws_net.specs.Transits.{with_verdict, way_by, outcome_of}
 use Rattle.fws_ifcl.specs.declared.diagram.Stage.{Stage}
 use Rattle.fws_ifcl.specs.declared.diagram.Ifcl.{Ifcl}
-use Rattle.fws_ifcl.specs.declared.refusal.UnfoldRefusal.{UnfoldRefusal}
-use Rattle.fws_ifcl.specs.declared.refusal.UnfoldRefusal.TheVariants.{Loop, Deep}
-use Rattle.fws_ifcl.specs.Refusals.{is_staged, refusal_of, loop_of, deep_of, or_else}
+use Rattle.fws_ifcl.specs.Refusals.{is_staged}
 use Rattle.fws_ifcl.specs.Soundness.{stage_ok, chain_ok, ifcl_ok}
 use Rattle.fws_ifcl.specs.Walk.{stages_walk, stage_walk, means}
 use Rattle.fws_flat.specs.declared.code.Ins.{Ins}
@@ -23,9 +21,8 @@ use Rattle.fws_flat.specs.Soundness.{part_ok, flat_ok}
 use Rattle.fws_flat.specs.Walk.{parts_walk, means as flat_means}
 use Rattle.fws_unfold.specs.declared.placing.Span.{Span}
 use Rattle.fws_unfold.specs.Blocks.{part_of, parts_of, span_at, IsLonger, IsBlock, AreBlocks}
-use Rattle.fws_unfold.specs.Short.{IsShort}
 use Rattle.fws_unfold.proofs.Placed.{block_stays}
-use Rattle.fws_unfold.proofs.Refused.{staged_in, none_deep}
+use Rattle.fws_unfold.proofs.Refused.{staged_in}
 
 pub longer_same : (code : List Ins) → IsLonger code code
 longer_same code = record { more = []; is = sym (append-nil code) }
@@ -197,16 +194,6 @@ module _ (f : Ifcl) (code : List Ins) (spans : List Span) (ok : ifcl_ok f ≡ tr
       ∙ ap (λ d. outcome_of k (way_by (stages_walk f.chains site p k f.arrive) d (walk f.forward) (walk f.send) site p)) delivering
       ∙ ap (λ w. outcome_of k (way_by (stages_walk f.chains site p k f.arrive) (stages_walk f.chains site p k f.deliver) w (walk f.send) site p)) forwarding
       ∙ ap (λ s. outcome_of k (way_by (stages_walk f.chains site p k f.arrive) (stages_walk f.chains site p k f.deliver) (stages_walk f.chains site p k f.forward) s site p)) sending
-
--- What isn't refused is short
-
-not_deep : (loop deep : Option ℕ) (rest : Option UnfoldRefusal) → or_else (option_map Loop loop) (or_else (option_map Deep deep) rest) ≡ None → deep ≡ None
-not_deep None None rest e = refl
-not_deep None (Some n) rest e = absurd (cc)
-not_deep (Some n) deep rest e = absurd (cc)
-
-pub unrefused_short : (f : Ifcl) → refusal_of f ≡ None → IsShort f 64
-unrefused_short f e = none_deep f 64 (omega arith) (not_deep (loop_of f) (deep_of f) _ e)
 
 abbrev flat_with : List Ins → List Part → List Part → List Part → List Part → Flat
 flat_with c a d w s = record { code = c; arrive = a; deliver = d; forward = w; send = s }

@@ -4,10 +4,12 @@ mod Drafts
 mod DraftsUsed
 mod Flattened
 mod FlattenedUsed
+mod Frames
 mod Levels
 mod Numbers
 mod Placed
 mod Refused
 mod Searching
 mod Shapes
+mod Stacks
 mod Told

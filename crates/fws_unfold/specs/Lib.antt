@@ -2,9 +2,11 @@ pub mod Blocks
 pub mod Calls
 pub mod Drafts
 pub mod Finding
+pub mod Frames
 pub mod Levels
 pub mod Numbers
 pub mod Refused
 pub mod Short
+pub mod Stacks
 pub mod Told
 pub mod Used

@@ -3,15 +3,14 @@
 ghost use Rattle.std.specs.Prelude.{◌≡◌, ◌<◌, true, false, [], length, map, IfOk, OnOk};
 ghost use Rattle.std.specs.List.{list_all};
 ghost use Rattle.fws_ifcl.specs.Loops.{NoLoop, NamesChains};
-ghost use Rattle.fws_ifcl.specs.Refusals.{begins_path, is_staged};
+ghost use Rattle.fws_ifcl.specs.Refusals.{is_staged};
 ghost use Rattle.fws_ifcl.specs.Soundness.{chain_ok};
 ghost use Rattle.fws_unfold.specs.Blocks.{IsBlock, IsLonger, AreBlocks, part_of, parts_of, span_at};
 ghost use Rattle.fws_unfold.specs.Told.{AreMore, IsToldBlock, AreToldBlocks};
-ghost use Rattle.fws_unfold.specs.Short.{IsShort};
 
-use crate::emitting::put_chain;
 use crate::placing::{Span, place_all};
 use crate::refusing::is_staged;
+use crate::stacking::put_chain;
 use fws_flat::{Ins, Part};
 use fws_ifcl::{Chain, Ifcl, Place, Stage};
 use fws_num::{Items, Memory};
@@ -24,12 +23,10 @@ fn place(n: usize) -> Result<u32, Memory>
     u32::try_from(n).map_err(|_| Memory)
 }
 
-/// Appends the code of chain `c`, and the rules that its instructions stand for. No path from the chain
-/// has more than `left` chains.
+/// Appends the code of chain `c`, and the rules that its instructions stand for.
 fn put_block(
     alloc: Global,
     chains: &[Chain],
-    left: usize,
     c: u32,
     code: &mut Vec<Ins>,
     rules: &mut Vec<Option<Place>>,
@@ -38,7 +35,6 @@ fn put_block(
     requires acyclic { NoLoop chains.now }
     requires sound { list_all (chain_ok (length chains.now)) chains.now ≡ true }
     requires chain { c < length chains.now }
-    requires short { begins_path chains.now left c ≡ false }
     requires even { length rules.old.items ≡ length code.old.items }
     ensures block { IfOk result (λ span. IsBlock chains.now code.new.items c span) }
     ensures tells { IfOk result (λ span. IsToldBlock chains.now code.new.items rules.new.items c span) }
@@ -47,7 +43,7 @@ fn put_block(
     ensures even { OnOk result (length rules.new.items ≡ length code.new.items) }
 {
     let mut drafts = Vec::new(alloc);
-    put_chain(alloc, chains, &mut drafts, left, c, 0)?;
+    put_chain(alloc, chains, &mut drafts, c, 0)?;
     let first = place(code.len())?;
     let size = place(drafts.len())?;
     let Some(past) = first.checked_add(size) else {
@@ -62,7 +58,6 @@ fn put_block(
 fn put_staged(
     alloc: Global,
     f: &Ifcl,
-    left: usize,
     c: usize,
     code: &mut Vec<Ins>,
     rules: &mut Vec<Option<Place>>,
@@ -71,7 +66,6 @@ fn put_staged(
     requires acyclic { NoLoop f.now.chains }
     requires sound { list_all (chain_ok (length f.now.chains)) f.now.chains ≡ true }
     requires chain { c < length f.now.chains }
-    requires short { IsShort f.now left }
     requires even { length rules.old.items ≡ length code.old.items }
     ensures block { IfOk result (λ span. is_staged f.now c ≡ true → IsBlock f.now.chains code.new.items c span) }
     ensures tells { IfOk result (λ span. is_staged f.now c ≡ true → IsToldBlock f.now.chains code.new.items rules.new.items c span) }
@@ -83,7 +77,7 @@ fn put_staged(
         return Ok(Span { first: 0, past: 0 });
     }
     let chain = place(c)?;
-    let span = put_block(alloc, f.chains.as_slice(), left, chain, code, rules)?;
+    let span = put_block(alloc, f.chains.as_slice(), chain, code, rules)?;
     Ok(span)
 }
 
@@ -91,14 +85,12 @@ fn put_staged(
 pub(crate) fn put_blocks(
     alloc: Global,
     f: &Ifcl,
-    left: usize,
     code: &mut Vec<Ins>,
     rules: &mut Vec<Option<Place>>,
 ) -> Result<Vec<Span>, Memory>
     requires named { NamesChains f.now.chains }
     requires acyclic { NoLoop f.now.chains }
     requires sound { list_all (chain_ok (length f.now.chains)) f.now.chains ≡ true }
-    requires short { IsShort f.now left }
     requires none { code.old.items ≡ [] }
     requires none_told { rules.old.items ≡ [] }
     ensures tells { IfOk result (λ spans. AreToldBlocks f.now code.new.items rules.new.items spans.items) }
@@ -108,7 +100,7 @@ pub(crate) fn put_blocks(
 {
     let mut spans = Vec::new(alloc);
     for c in 0..f.chains.len() {
-        let span = put_staged(alloc, f, left, c, code, rules)?;
+        let span = put_staged(alloc, f, c, code, rules)?;
         spans.push(span)?;
     }
     Ok(spans)

@@ -1,25 +1,21 @@
-//! The code of chains, put together from its end.
+//! The instructions of rules and of the ends of chains, put before the code that is there.
 
-ghost use Rattle.std.specs.Prelude.{◌≡◌, ◌<◌, ◌≤◌, ◌+◌, ℕ, List, [], ◌∷◌, ◌++◌, Some, None, true, false, reverse, length, slice_get, vec_len, IfOk, OnOk};
-ghost use Rattle.std.specs.List.{list_all};
+ghost use Rattle.std.specs.Prelude.{◌≡◌, ◌≤◌, ℕ, List, [], ◌∷◌, Some, None, reverse, vec_len, IfOk, OnOk};
 ghost use Rattle.fws_ifcl.specs.declared.diagram.Chain.{Chain};
-ghost use Rattle.fws_ifcl.specs.Loops.{NoLoop, NamesChains};
-ghost use Rattle.fws_ifcl.specs.Refusals.{begins_path};
-ghost use Rattle.fws_ifcl.specs.Soundness.{chain_ok};
 ghost use Rattle.fws_ifcl.specs.Walk.{rules_at};
-ghost use Rattle.fws_unfold.specs.Drafts.{Does, call_of, plain_act, start_of, walk_of, walk_from};
-ghost use Rattle.fws_unfold.specs.Used.{Uses, used_of, used_from};
+ghost use Rattle.fws_unfold.specs.Drafts.{Does, call_of, plain_act, start_of, walk_from};
+ghost use Rattle.fws_unfold.specs.Used.{Uses, used_from};
 ghost use Rattle.fws_unfold.specs.declared.draft.DraftAct.TheVariants as drafts;
 
 use crate::draft::{Draft, DraftAct};
 use fws_flat::FlatAct;
-use fws_ifcl::{Act, Chain, Place, Rule, uses_unfold, walks_unfold};
+use fws_ifcl::{Act, Chain, Place, Rule};
 use fws_net::Cond;
 use fws_num::Memory;
 use std::alloc::Global;
 
 /// The rules of the chain with this number; none past the end.
-fn rules_at(chains: &[Chain], c: usize) -> &[Rule]
+pub(crate) fn rules_at(chains: &[Chain], c: usize) -> &[Rule]
     ensures { result.now ≡ rules_at chains.now c }
 {
     match chains.get(c) {
@@ -29,7 +25,7 @@ fn rules_at(chains: &[Chain], c: usize) -> &[Rule]
 }
 
 /// The place of a rule.
-fn place_of(chain: u32, rule: usize) -> Result<Place, Memory>
+pub(crate) fn place_of(chain: u32, rule: usize) -> Result<Place, Memory>
     ensures { IfOk result (λ place. place ≡ record { chain = chain; rule = rule }) }
 {
     let rule = u32::try_from(rule).map_err(|_| Memory)?;
@@ -38,7 +34,7 @@ fn place_of(chain: u32, rule: usize) -> Result<Place, Memory>
 
 /// The chain that a rule enters, and how many instructions stand where the walk goes on behind it: the
 /// next ones for a call, those behind the end of the chain for a goto.
-fn call_of(act: Act, next: usize, back: usize) -> Option<(u32, usize)>
+pub(crate) fn call_of(act: Act, next: usize, back: usize) -> Option<(u32, usize)>
     ensures { result ≡ call_of act next back }
 {
     match act {
@@ -50,7 +46,7 @@ fn call_of(act: Act, next: usize, back: usize) -> Option<(u32, usize)>
 
 /// What a rule that enters no chain does: a return goes on behind the end of the chain, a skip where its
 /// rule begins.
-fn plain_act(act: Act, back: usize, skip: usize) -> DraftAct
+pub(crate) fn plain_act(act: Act, back: usize, skip: usize) -> DraftAct
     ensures { result ≡ plain_act act back skip }
 {
     match act {
@@ -82,7 +78,7 @@ fn put_jump(alloc: Global, out: &mut Vec<Draft>, to: usize) -> Result<(), Memory
 }
 
 /// Puts an instruction that stands for a rule before the code.
-fn put_rule(
+pub(crate) fn put_rule(
     alloc: Global,
     out: &mut Vec<Draft>,
     rule: &Rule,
@@ -101,7 +97,7 @@ fn put_rule(
 
 /// Puts the instructions of a rule before the code of the chain that it enters: into that code where its
 /// condition holds, else past it, to where so many instructions stand.
-fn put_guard(
+pub(crate) fn put_guard(
     alloc: Global,
     out: &mut Vec<Draft>,
     rule: &Rule,
@@ -116,7 +112,7 @@ fn put_guard(
 }
 
 /// Where the rule begins to which a rule of so many skips; 0 where it doesn't skip.
-fn start_of(starts: &[usize], rules: usize, act: Act) -> usize
+pub(crate) fn start_of(starts: &[usize], rules: usize, act: Act) -> usize
     ensures { result ≡ start_of starts.now rules act }
 {
     match act {
@@ -130,7 +126,7 @@ fn start_of(starts: &[usize], rules: usize, act: Act) -> usize
 
 /// Puts the end of a chain before the code: a jump to where the walk goes on, if that isn't next.
 #[tactic(auto, using(crate::proofs::Bodies::put_nothing, crate::proofs::Bodies::put_end_jump, crate::proofs::BodiesUsed::put_nothing_used))]
-fn put_end(alloc: Global, out: &mut Vec<Draft>, back: usize) -> Result<(), Memory>
+pub(crate) fn put_end(alloc: Global, out: &mut Vec<Draft>, back: usize) -> Result<(), Memory>
     requires { back ≤ vec_len out.old }
     ensures does { OnOk result ((chains : List Chain) (at : ℕ) → Does (λ s. walk_from chains s at []) back (reverse out.old.items) (reverse out.new.items)) }
     ensures uses { OnOk result ((chains : List Chain) (c at : ℕ) → Uses (λ s. used_from chains c s at []) (λ s. walk_from chains s at []) back (reverse out.old.items) (reverse out.new.items)) }
@@ -139,49 +135,5 @@ fn put_end(alloc: Global, out: &mut Vec<Draft>, back: usize) -> Result<(), Memor
         return Ok(());
     }
     put_jump(alloc, out, back)?;
-    Ok(())
-}
-
-/// Puts the code of chain `c` before what is there. Behind its end the walk goes on where `back`
-/// instructions stand. No path from the chain has more than `left` chains.
-pub(crate) fn put_chain(
-    alloc: Global,
-    chains: &[Chain],
-    out: &mut Vec<Draft>,
-    left: usize,
-    c: u32,
-    back: usize,
-) -> Result<(), Memory>
-    requires named { NamesChains chains.now }
-    requires acyclic { NoLoop chains.now }
-    requires sound { list_all (chain_ok (length chains.now)) chains.now ≡ true }
-    requires chain { c < length chains.now }
-    requires short { begins_path chains.now left c ≡ false }
-    requires low { back ≤ vec_len out.old }
-    ensures does { OnOk result (Does (λ s. walk_of chains.now s c) back (reverse out.old.items) (reverse out.new.items)) }
-    ensures uses { OnOk result (Uses (λ s. used_of chains.now s c) (λ s. walk_of chains.now s c) back (reverse out.old.items) (reverse out.new.items)) }
-{
-    walks_unfold();
-    uses_unfold();
-    let rules = rules_at(chains, c as usize);
-    put_end(alloc, out, back)?;
-    let mut starts = Vec::new(alloc);
-    for i in (0..rules.len()).rev() {
-        let rule = &rules[i];
-        let at = place_of(c, i)?;
-        let next = out.len();
-        starts.push(next)?;
-        let called = call_of(rule.act, next, back);
-        match called {
-            None => {
-                let skip = start_of(starts.as_slice(), rules.len(), rule.act);
-                put_rule(alloc, out, rule, at, plain_act(rule.act, back, skip))?;
-            }
-            Some((d, far)) => {
-                put_chain(alloc, chains, out, left - 1, d, far)?;
-                put_guard(alloc, out, rule, at, next)?;
-            }
-        }
-    }
     Ok(())
 }

@@ -7,6 +7,7 @@ mod calls;
 mod depth;
 mod draft;
 mod emitting;
+mod frame;
 mod laws;
 mod loops;
 mod numbering;
@@ -14,6 +15,8 @@ mod placing;
 mod reaching;
 mod refusing;
 mod sizes;
+mod stack;
+mod stacking;
 mod unfolding;
 
 pub use answer::UnfoldAnswer;

@@ -22,9 +22,6 @@ use fws_ifcl::{Ifcl, Place, UnfoldRefusal, ok_diagrams_name_chains, unrefused_ha
 use fws_num::{Items, Memory};
 use std::alloc::Global;
 
-/// The most chains that a path may have.
-const DEPTH: usize = 64;
-
 /// The code of a diagram that can be unfolded, and the rules that its instructions stand for.
 fn code_of(alloc: Global, f: &Ifcl) -> Result<(Flat, Vec<Option<Place>>), Memory>
     requires ok { ifcl_ok f.now ≡ true }
@@ -38,7 +35,7 @@ fn code_of(alloc: Global, f: &Ifcl) -> Result<(Flat, Vec<Option<Place>>), Memory
     unrefused_have_no_loop();
     let mut code = Vec::new(alloc);
     let mut rules = Vec::new(alloc);
-    let made = put_blocks(alloc, f, DEPTH, &mut code, &mut rules)?;
+    let made = put_blocks(alloc, f, &mut code, &mut rules)?;
     let spans = made.as_slice();
     let flat = Flat {
         code: Items::from_vec(code),

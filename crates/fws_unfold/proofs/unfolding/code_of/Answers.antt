@@ -8,7 +8,7 @@ use Rattle.fws_unfold.specs.Blocks.{AreBlocks, parts_of}
 use Rattle.fws_flat.specs.Uses.{used_places}
 use Rattle.fws_unfold.specs.Told.{told, AreToldBlocks}
 use Rattle.fws_unfold.proofs.FlattenedUsed.{flat_told}
-use Rattle.fws_unfold.proofs.Flattened.{chains_right, unrefused_short, flat_right, flat_same, same_flat}
+use Rattle.fws_unfold.proofs.Flattened.{chains_right, flat_right, flat_same, same_flat}
 use Rattle.fws_unfold.proofs.unfolding.code_of.Goals as goal
 
 pub put_blocks-requires-clause-named : goal.put_blocks-requires-clause-named
@@ -19,9 +19,6 @@ put_blocks-requires-clause-acyclic c = c.unrefused_have_no_loop.ensures c.args.f
 
 pub put_blocks-requires-clause-sound : goal.put_blocks-requires-clause-sound
 put_blocks-requires-clause-sound c = chains_right c.args.f.now c.requires.ok
-
-pub put_blocks-requires-clause-short : goal.put_blocks-requires-clause-short
-put_blocks-requires-clause-short c = unrefused_short c.args.f.now c.requires.unrefused
 
 pub returns-clause-ok : goal.returns-clause-ok
 returns-clause-ok c =
