@@ -8,6 +8,7 @@ use crate::cases::{judge_lines, judge_texts};
 use crate::forms::Forms;
 use crate::judging::{judge_refusal, judge_table};
 use crate::keeping::judge_keeping;
+use crate::listing::judge_listing;
 use crate::packets::judge_packets;
 use crate::ranges::judge_ranges;
 use crate::saying::judge_saying;
@@ -15,7 +16,7 @@ use crate::sets::judge_sets;
 use crate::sites::{judge_sites, judge_spelled_site};
 use crate::spellings::judge_spellings;
 use crate::stop::Stop;
-use crate::tracing::judge_trace;
+use crate::tracing::{judge_looked_up, judge_trace};
 use fws_io::Shelf;
 use fws_ipt::IptConfig;
 use fws_ipt_read::read;
@@ -30,9 +31,10 @@ pub const LIMIT: usize = 4_194_304;
 pub fn job_length(kind: &Text) -> usize {
     match kind.as_slice() {
         b"lists" | b"boxes" => 1,
-        b"texts" | b"spellings" | b"sets" | b"ranges" | b"packets" => 2,
+        b"texts" | b"spellings" | b"sets" | b"ranges" | b"packets" | b"listing" => 2,
         b"refusal" => 4,
         b"trace" => 5,
+        b"looked-up" => 6,
         _ => 3,
     }
 }
@@ -53,7 +55,58 @@ fn read_file<S: Shelf>(
     }
 }
 
-/// Does a job about configurations.
+/// Says whether the trace of packets through a configuration is the expected one.
+fn do_trace<S: Shelf>(
+    alloc: Global,
+    shelf: &mut S,
+    site: &Site,
+    forms: &Forms,
+    names: [&Text; 3],
+) -> Result<Text, Stop>
+    requires { IsSound site.now }
+{
+    let [connections, packets, expected] = names;
+    let connections = shelf.read(alloc, connections.as_slice(), LIMIT)?;
+    let packets = shelf.read(alloc, packets.as_slice(), LIMIT)?;
+    let expected = shelf.read(alloc, expected.as_slice(), LIMIT)?;
+    judge_trace(
+        alloc,
+        site,
+        forms,
+        connections.as_slice(),
+        packets.as_slice(),
+        expected.as_slice(),
+    )
+}
+
+/// Says whether the trace of packets by tables is the expected one.
+fn do_look_up<S: Shelf>(
+    alloc: Global,
+    shelf: &mut S,
+    site: &Site,
+    tables: [&Text; 2],
+    names: [&Text; 3],
+) -> Result<Text, Stop>
+    requires { IsSound site.now }
+{
+    let [fresh, est] = tables;
+    let [connections, packets, expected] = names;
+    let fresh = shelf.read(alloc, fresh.as_slice(), LIMIT)?;
+    let est = shelf.read(alloc, est.as_slice(), LIMIT)?;
+    let connections = shelf.read(alloc, connections.as_slice(), LIMIT)?;
+    let packets = shelf.read(alloc, packets.as_slice(), LIMIT)?;
+    let expected = shelf.read(alloc, expected.as_slice(), LIMIT)?;
+    judge_looked_up(
+        alloc,
+        site,
+        [fresh.as_slice(), est.as_slice()],
+        connections.as_slice(),
+        packets.as_slice(),
+        expected.as_slice(),
+    )
+}
+
+/// Does a job about configurations or tables.
 fn do_walk<S: Shelf>(
     alloc: Global,
     shelf: &mut S,
@@ -75,17 +128,17 @@ fn do_walk<S: Shelf>(
         }
         [kind, file, connections, packets, expected] if kind.as_slice() == b"trace".as_slice() => {
             let config = read_file(alloc, shelf, site, file)?;
-            let connections = shelf.read(alloc, connections.as_slice(), LIMIT)?;
-            let packets = shelf.read(alloc, packets.as_slice(), LIMIT)?;
-            let expected = shelf.read(alloc, expected.as_slice(), LIMIT)?;
             let forms = Forms::of(alloc, site, config)?;
-            judge_trace(
+            do_trace(alloc, shelf, site, &forms, [connections, packets, expected])
+        }
+        [kind, fresh, est, connections, packets, expected]
+            if kind.as_slice() == b"looked-up".as_slice() => {
+            do_look_up(
                 alloc,
+                shelf,
                 site,
-                &forms,
-                connections.as_slice(),
-                packets.as_slice(),
-                expected.as_slice(),
+                [fresh, est],
+                [connections, packets, expected],
             )
         }
         _ => Err(Stop::Malformed),
@@ -115,6 +168,7 @@ fn do_cases(alloc: Global, site: &Site, kind: &[u8], cases: &[u8]) -> Result<Tex
         b"sets" => judge_sets(alloc, cases),
         b"ranges" => judge_ranges(alloc, cases),
         b"packets" => judge_packets(alloc, site, cases),
+        b"listing" => judge_listing(alloc, site, cases),
         _ => Err(Stop::Malformed),
     }
 }

@@ -13,6 +13,7 @@ mod found;
 mod jobs;
 mod judging;
 mod keeping;
+mod listing;
 mod numbers;
 mod packets;
 mod ranges;
@@ -25,6 +26,7 @@ mod stop;
 mod table;
 mod tally;
 mod tracing;
+mod trees;
 
 use crate::jobs::{LIMIT, do_job, job_length};
 use crate::stop::Stop;

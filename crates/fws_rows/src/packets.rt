@@ -1,14 +1,16 @@
 //! What becomes of packets by their connections, outcomes and conditions, against cases.
 
+ghost use Rattle.fws_net.specs.Routes.{IsSound};
+
 use crate::conditions::judge_holds;
 use crate::found::{Found, fields_of};
 use crate::numbers::{address, decimal, short};
 use crate::stop::Stop;
 use crate::table::read_outcome;
 use crate::tally::Tally;
-use crate::tracing::{read_connections, read_packet};
 use fws_net::{Fate, Kind, Outcome, Packet, Rec, Site, class};
 use fws_num::{Text, Word, split_once, words};
+use fws_trace::{read_conns, read_packets};
 use std::alloc::Global;
 
 /// The ends of an established packet: destination, its port, source and its port.
@@ -88,7 +90,7 @@ fn call_packet(
     let alloc = found.alloc;
     match call {
         b"class" => {
-            let connections = read_connections(alloc, text)?;
+            let connections = read_conns(alloc, text)?;
             put_kind(found, &class(connections.as_slice(), packet))
         }
         b"leave" => {
@@ -105,22 +107,36 @@ fn call_packet(
     }
 }
 
+/// The one packet of a text.
+fn read_packet(alloc: Global, site: &Site, text: &[u8]) -> Result<Packet, Stop>
+    requires { IsSound site.now }
+{
+    match read_packets(alloc, text, site)?.as_slice() {
+        [packet] => Ok(*packet),
+        _ => Err(Stop::Malformed),
+    }
+}
+
 /// Whether a case `CALL|TEXT|PACKET|VALUE|..` is so: what the call gives of the text and the packet are
 /// these values. Behind a blank the first field may have what the call is given besides.
-fn agrees(alloc: Global, site: &Site, case: &[u8]) -> Result<bool, Stop> {
+fn agrees(alloc: Global, site: &Site, case: &[u8]) -> Result<bool, Stop>
+    requires { IsSound site.now }
+{
     let fields = fields_of(alloc, case)?;
     let [call, text, packet, wanted @ ..] = fields.as_slice() else {
         return Err(Stop::Malformed);
     };
     let (call, with) = split_once(call.as_slice(), b' ').unwrap_or((call.as_slice(), b""));
-    let packet = read_packet(site, words(alloc, packet.as_slice(), 1)?.as_slice())?;
+    let packet = read_packet(alloc, site, packet.as_slice())?;
     let mut found = Found::new(alloc);
     call_packet(&mut found, call, with, text.as_slice(), &packet)?;
     Ok(found.values.as_slice() == wanted)
 }
 
 /// Tries each case of a text, a line each, and says how many agree.
-pub fn judge_packets(alloc: Global, site: &Site, cases: &[u8]) -> Result<Text, Stop> {
+pub fn judge_packets(alloc: Global, site: &Site, cases: &[u8]) -> Result<Text, Stop>
+    requires { IsSound site.now }
+{
     let mut tally = Tally::new(alloc);
     for case in cases.split(|c: &u8| *c == b'\n') {
         if !case.is_empty() {

@@ -2,6 +2,7 @@
 
 use fws_io::ShelfAnswer;
 use fws_num::Memory;
+use fws_trace::LineAnswer;
 
 /// Why a job can't be done.
 #[derive(Clone, Copy, Debug, PartialEq, Eq)]
@@ -25,6 +26,15 @@ impl From<ShelfAnswer> for Stop {
         match answer {
             ShelfAnswer::Memory => Stop::Memory,
             ShelfAnswer::Failed | ShelfAnswer::TooLong(_) => Stop::Unread,
+        }
+    }
+}
+
+impl From<LineAnswer> for Stop {
+    fn from(answer: LineAnswer) -> Stop {
+        match answer {
+            LineAnswer::Memory => Stop::Memory,
+            LineAnswer::Refused { .. } => Stop::Malformed,
         }
     }
 }

@@ -28,14 +28,20 @@ pub struct Table {
 
 /// What a field's values are.
 #[derive(Clone, Copy)]
-enum Field {
+pub enum Field {
+    /// Names of entries.
     Entry,
+    /// Addresses.
     Address,
-    Number { top: u32 },
+    /// Numbers up to a greatest one.
+    Number {
+        /// The greatest one.
+        top: u32,
+    },
 }
 
 /// The field at this place.
-fn field_at(place: usize) -> Field {
+pub fn field_at(place: usize) -> Field {
     match place {
         0 => Field::Entry,
         2 | 4 | 8 | 10 => Field::Address,
@@ -45,7 +51,8 @@ fn field_at(place: usize) -> Field {
     }
 }
 
-fn value(site: &Site, field: Field, text: &[u8]) -> Result<u32, Stop> {
+/// The value of a field that a text spells.
+pub fn value(site: &Site, field: Field, text: &[u8]) -> Result<u32, Stop> {
     match field {
         Field::Entry => entry(site, text),
         Field::Address => address(text),

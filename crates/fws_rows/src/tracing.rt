@@ -1,65 +1,15 @@
-//! Traces against the slow model.
+//! Traces by the slow model and by tables.
 
 ghost use Rattle.fws_net.specs.Routes.{IsSound};
 
 use crate::forms::Forms;
-use crate::numbers::{address, byte, decimal, entry, short};
 use crate::stop::Stop;
-use fws_net::{Conn, Fate, Kind, Packet, Site, Tuple, class};
-use fws_num::{Comments, Items, Memory, Text, Word, put_dec, put_quad, read_lines};
+use crate::trees::read_tree;
+use fws_net::{Fate, Kind, Packet, Site, State, class};
+use fws_num::{Memory, Text, put_dec, put_quad};
+use fws_trace::{read_conns, read_packets, trace};
+use fws_tree::Tables;
 use std::alloc::Global;
-
-/// The tuple of destination, its port, source and its port.
-fn read_tuple(
-    proto: &Word,
-    dst: &Word,
-    dport: &Word,
-    src: &Word,
-    sport: &Word,
-) -> Result<Tuple, Stop> {
-    Ok(Tuple {
-        proto: byte(decimal(proto.text.as_slice())?),
-        dst: address(dst.text.as_slice())?,
-        dport: short(decimal(dport.text.as_slice())?),
-        src: address(src.text.as_slice())?,
-        sport: short(decimal(sport.text.as_slice())?),
-    })
-}
-
-/// The connections of a text.
-pub fn read_connections(alloc: Global, text: &[u8]) -> Result<Items<Conn>, Stop> {
-    let mut connections = Items::new(alloc);
-    for line in read_lines(alloc, Comments::HashLine, text)?
-        .lines
-        .as_slice()
-    {
-        let [proto, a, b, c, d, e, f, g, h] = line.words.as_slice() else {
-            return Err(Stop::Malformed);
-        };
-        connections.put(Conn {
-            orig: read_tuple(proto, a, b, c, d)?,
-            reply: read_tuple(proto, e, f, g, h)?,
-        })?;
-    }
-    Ok(connections)
-}
-
-/// The packet of eight words.
-pub fn read_packet(site: &Site, words: &[Word]) -> Result<Packet, Stop> {
-    let [from, proto, dst, dport, src, sport, flags, icmp] = words else {
-        return Err(Stop::Malformed);
-    };
-    Ok(Packet {
-        entry: byte(entry(site, from.text.as_slice())?),
-        proto: byte(decimal(proto.text.as_slice())?),
-        dst: address(dst.text.as_slice())?,
-        dport: short(decimal(dport.text.as_slice())?),
-        src: address(src.text.as_slice())?,
-        sport: short(decimal(sport.text.as_slice())?),
-        flags: byte(decimal(flags.text.as_slice())?),
-        icmp: byte(decimal(icmp.text.as_slice())?),
-    })
-}
 
 /// Adds an address, and for TCP and UDP a port.
 fn put_end(text: &mut Text, proto: u8, a: u32, port: u16) -> Result<(), Memory> {
@@ -94,6 +44,16 @@ fn put_fate(text: &mut Text, packet: &Packet, kind: &Kind, fate: &Fate) -> Resul
     text.put(b"\n")
 }
 
+/// Says whether a trace is the expected one.
+fn judge(alloc: Global, trace: &Text, expected: &[u8]) -> Result<Text, Stop> {
+    let said: &[u8] = if trace.as_slice() == expected {
+        b"agrees"
+    } else {
+        b"differs"
+    };
+    Ok(Text::of(alloc, said)?)
+}
+
 /// Walks the packets of a text against the connections of another, and says whether the trace is the expected one.
 pub fn judge_trace(
     alloc: Global,
@@ -105,23 +65,42 @@ pub fn judge_trace(
 ) -> Result<Text, Stop>
     requires { IsSound site.now }
 {
-    let connections = read_connections(alloc, connections)?;
+    let connections = read_conns(alloc, connections)?;
     let mut trace = Text::new(alloc);
-    for line in read_lines(alloc, Comments::HashLine, packets)?
-        .lines
-        .as_slice()
-    {
-        let packet = read_packet(site, line.words.as_slice())?;
-        let kind = class(connections.as_slice(), &packet);
-        let Some(outcome) = forms.walk(alloc, site, &packet, &kind)? else {
+    for packet in &read_packets(alloc, packets, site)? {
+        let kind = class(connections.as_slice(), packet);
+        let Some(outcome) = forms.walk(alloc, site, packet, &kind)? else {
             return Ok(Text::of(alloc, b"the forms differ")?);
         };
-        put_fate(&mut trace, &packet, &kind, &outcome.fate(&packet, &kind))?;
+        put_fate(&mut trace, packet, &kind, &outcome.fate(packet, &kind))?;
     }
-    let said: &[u8] = if trace.as_slice() == expected {
-        b"agrees"
-    } else {
-        b"differs"
+    judge(alloc, &trace, expected)
+}
+
+/// Looks the packets of a text up in the trees of two tables, and says whether the trace is the expected one.
+pub fn judge_looked_up(
+    alloc: Global,
+    site: &Site,
+    tables: [&[u8]; 2],
+    connections: &[u8],
+    packets: &[u8],
+    expected: &[u8],
+) -> Result<Text, Stop>
+    requires { IsSound site.now }
+{
+    let [fresh, est] = tables;
+    let tables = Tables {
+        fresh: read_tree(alloc, site, State::Fresh, fresh)?,
+        est: read_tree(alloc, site, State::Est, est)?,
     };
-    Ok(Text::of(alloc, said)?)
+    let connections = read_conns(alloc, connections)?;
+    let packets = read_packets(alloc, packets, site)?;
+    let found = trace(
+        alloc,
+        site,
+        &tables,
+        connections.as_slice(),
+        packets.as_slice(),
+    )?;
+    judge(alloc, &found, expected)
 }
