@@ -2,10 +2,9 @@
 
 ghost use Rattle.std.specs.Prelude.{◌≡◌};
 ghost use Rattle.fws_ipt.specs.declared.config.IptTable.TheVariants.{Filter};
-ghost use Rattle.fws_ipt.specs.Walk.{hook_name, stands_at};
 ghost use Rattle.fws_filter.specs.Verdicts.{verdict, chain_at, rules_of, policy_of, decision};
 
-use fws_ipt::{Hook, IptChain, IptGo, IptRule, IptTable};
+use fws_ipt::{Hook, IptChain, IptGo, IptRule, IptTable, stands_at};
 use fws_net::{Outcome, Rewrite};
 
 /// Accepted as it is, or dropped.
@@ -35,28 +34,6 @@ pub(crate) fn decision(policy: bool, go: IptGo) -> Option<bool>
     }
 }
 
-/// The name of the built-in chains at a hook.
-fn hook_name(hook: Hook) -> &'static [u8]
-    ensures { result.now ≡ hook_name hook }
-{
-    match hook {
-        Hook::Prerouting => b"PREROUTING",
-        Hook::Input => b"INPUT",
-        Hook::Forward => b"FORWARD",
-        Hook::Output => b"OUTPUT",
-        Hook::Postrouting => b"POSTROUTING",
-    }
-}
-
-/// Whether it is the built-in chain of filter at the hook.
-fn stands_at(hook: Hook, chain: &IptChain) -> bool
-    ensures { result ≡ stands_at Filter hook chain.now }
-{
-    chain.table == IptTable::Filter
-        && chain.name.as_slice() == hook_name(hook)
-        && chain.policy.is_some()
-}
-
 /// The rules of the chain of filter at the hook, and whether its end accepts. A chain that isn't there
 /// has no rules and accepts.
 pub(crate) fn chain_at(chains: &[IptChain], hook: Hook) -> (&[IptRule], bool)
@@ -64,7 +41,7 @@ pub(crate) fn chain_at(chains: &[IptChain], hook: Hook) -> (&[IptRule], bool)
     ensures policy { result.1 ≡ policy_of (chain_at Filter hook chains.now) }
 {
     for chain in chains {
-        if stands_at(hook, chain) {
+        if stands_at(IptTable::Filter, hook, chain) {
             return (chain.rules.as_slice(), chain.policy.unwrap_or(true));
         }
     }
