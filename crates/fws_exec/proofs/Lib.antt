@@ -1,0 +1,11 @@
+pub mod Coursing
+pub mod Dividing
+pub mod Entering
+pub mod Marking
+pub mod Meaning
+pub mod Merging
+pub mod Nexts
+pub mod Putting
+pub mod Recoloured
+pub mod Running
+pub mod Turning

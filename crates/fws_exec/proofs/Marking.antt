@@ -1,0 +1,66 @@
+-- Labels of points by marks of boxes.
+use Rattle.std.proofs.Common.{◌≡◌, ℕ, ◌+◌, Bool, true, false, cond, not, nat_eq, List, [], ◌∷◌, ◌++◌, refl, sym, ◌∙◌, ap, arith, zero-add, ◌&&◌}
+use Rattle.std.proofs.lemmas.Bool.{false≢true}
+use Rattle.std.proofs.lemmas.Bool.Decides.{nat_tests}
+use Rattle.fws_box.specs.declared.pbox.PBox.{PBox}
+use Rattle.fws_box.specs.Boxes.{box_hits, sides_of}
+use Rattle.fws_box.specs.Sides.{sides_have}
+use Rattle.fws_net.specs.declared.view.View.{View}
+use Rattle.fws_net.specs.Conditions.{holds}
+use Rattle.fws_flat.specs.declared.code.Ins.{Ins}
+use Rattle.fws_tree.specs.declared.mark.Mark.{Mark}
+use Rattle.fws_tree.specs.Marks.{mark_at}
+use Rattle.fws_tree.specs.Marks as marks
+use Rattle.fws_exec.specs.Moving.{boxed, picked}
+
+-- a mark behind others
+pub mark_behind : (ms : List Mark) (m : Mark) (rest : ℕ) (p : List ℕ) → mark_at (ms ++ m ∷ []) rest p ≡ mark_at ms (cond (sides_have (marks.sides_of m) p) m.label rest) p
+mark_behind [] m rest p = refl
+mark_behind (x ∷ ms) m rest p = ap (λ k. cond (sides_have (marks.sides_of x) p) x.label k) (mark_behind ms m rest p)
+
+-- the label by one more box
+pub boxed_cons : (b : PBox) (bs : List PBox) (label rest : ℕ) (p : List ℕ) → boxed (b ∷ bs) label rest p ≡ cond (sides_have (sides_of b) p) label (boxed bs label rest p)
+boxed_cons b bs label rest p = hits (sides_have (sides_of b) p) (box_hits bs p)
+  where
+    hits : (h : Bool) (n : ℕ) → cond (nat_eq (cond h 1 0 + n) 0) rest label ≡ cond h label (cond (nat_eq n 0) rest label)
+    hits true n = let some : nat_eq (1 + n) 0 ≡ false = grind (arith, nat_tests) in ap (λ b. cond b rest label) some
+    hits false n = ap (λ k. cond (nat_eq k 0) rest label) (zero-add n)
+
+-- one more mark, for the first of the boxes that are left
+pub boxed_step : (ms new : List Mark) (m : Mark) (b : PBox) (bs left : List PBox) (label rest : ℕ) (p : List ℕ) → new ≡ ms ++ m ∷ [] → marks.sides_of m ≡ sides_of b → m.label ≡ label → left ≡ b ∷ bs
+    → mark_at new (boxed bs label rest p) p ≡ mark_at ms (boxed left label rest p) p
+boxed_step ms new m b bs left label rest p n s l e =
+    ap (λ ks. mark_at ks (boxed bs label rest p) p) n
+    ∙ mark_behind ms m (boxed bs label rest p) p
+    ∙ ap (λ c. mark_at ms (cond (sides_have c p) m.label (boxed bs label rest p)) p) s
+    ∙ ap (λ k. mark_at ms (cond (sides_have (sides_of b) p) k (boxed bs label rest p)) p) l
+    ∙ sym (ap (λ k. mark_at ms k p) (ap (λ all. boxed all label rest p) e ∙ boxed_cons b bs label rest p))
+
+-- the label by boxes that hold a point just where a test holds
+pub boxed_by : (boxes : List PBox) (label rest : ℕ) (p : List ℕ) (h : Bool) → box_hits boxes p ≡ cond h 1 0 → boxed boxes label rest p ≡ cond h label rest
+boxed_by boxes label rest p h e = ap (λ n. cond (nat_eq n 0) rest label) e ∙ by h
+  where
+    by : (h : Bool) → cond (nat_eq (cond h 1 0) 0) rest label ≡ cond h label rest
+    by true = refl
+    by false = refl
+
+-- one more instruction, the first of those that are left, where an area has the point
+pub picked_step : (b : Bool) (v : View) (ins : Ins) (number : ℕ) (code left : List Ins) (numbers left_numbers : List ℕ) (rest : ℕ) → left ≡ ins ∷ code → left_numbers ≡ number ∷ numbers
+    → cond (b && holds ins.cond v) (number + 1) (cond b (picked v code numbers rest) rest) ≡ cond b (picked v left left_numbers rest) rest
+picked_step b v ins number code left numbers left_numbers rest e f =
+    inside b (holds ins.cond v) ∙ sym (ap (λ k. cond b k rest) (ap (λ xs. picked v xs left_numbers rest) e ∙ ap (λ ns. picked v (ins ∷ code) ns rest) f))
+  where
+    inside : (b h : Bool) → cond (b && h) (number + 1) (cond b (picked v code numbers rest) rest) ≡ cond b (cond h (number + 1) (picked v code numbers rest)) rest
+    inside true true = refl
+    inside true false = refl
+    inside false true = refl
+    inside false false = refl
+
+-- a label where an area has the point
+pub label_inside : (b : Bool) (k rest : ℕ) → b ≡ true → cond b k rest ≡ k
+label_inside true k rest e = refl
+label_inside false k rest e = absurd (false≢true e)
+
+pub same_both : (b : Bool) (k : ℕ) → cond b k k ≡ k
+same_both true k = refl
+same_both false k = refl

@@ -1,0 +1,11 @@
+use Rattle.std.proofs.Common.{◌≡◌, ℕ, ◌<◌, ◌≤◌, length, slice_get, option_map}
+use Rattle.fws_exec.specs.Stages.{turned}
+use Rattle.fws_exec.proofs.sheet.Sheet.turn.Given as goal
+
+abbrev pub invariant-loop-number : goal.invariant-loop-number
+invariant-loop-number l = record {
+  canvas : l.self.canvas ≡ l.initial.self.canvas;
+  count : length l.self.classes.items ≡ length l.initial.self.classes.items;
+  done : (n : ℕ) → n < l.number → slice_get l.self.classes.items n ≡ option_map (turned l.turn) (slice_get l.initial.self.classes.items n);
+  left : (n : ℕ) → l.number ≤ n → slice_get l.self.classes.items n ≡ slice_get l.initial.self.classes.items n;
+}

@@ -1,0 +1,124 @@
+//! Execution along the whole way.
+
+ghost use Rattle.std.specs.Prelude.{◌≡◌, ℕ, List, true, Some, map, IfOk};
+ghost use Rattle.fws_box.specs.Sides.{IsWithin};
+ghost use Rattle.fws_net.specs.Points.{packet_of, tops_of};
+ghost use Rattle.fws_net.specs.Routes.{IsSound};
+ghost use Rattle.fws_flat.specs.Soundness.{flat_ok};
+ghost use Rattle.fws_flat.specs.Walk.{means};
+ghost use Rattle.fws_scene.specs.Ways.{AreWaysOf};
+ghost use Rattle.fws_tree.specs.Plain.{IsReduced, value};
+ghost use Rattle.fws_exec.specs.Classes.{kind_of, future};
+ghost use Rattle.fws_exec.specs.Sheets.{tops_in, class_at, IsSheet};
+ghost use Rattle.fws_exec.specs.Stages.{nowhere, passed, class_outcome};
+
+use crate::errand::Ground;
+use crate::sheet::Sheet;
+use crate::spot::{Class, Spot, Stage};
+use crate::stages::Purpose;
+use bumpalo::Bump;
+use fws_flat::{Flat, Part};
+use fws_net::{Outcome, Site, State};
+use fws_num::Memory;
+use fws_scene::{Ways, whole_site};
+use fws_tree::Tree;
+use std::alloc::Global;
+
+impl Class {
+    /// The outcome of packets that have their whole way behind them.
+    fn outcome(&self, state: State) -> Outcome
+        ensures { result ≡ class_outcome state self.now }
+    {
+        match self.spot {
+            Spot::Unused => Outcome::Drop,
+            Spot::Dropped => Outcome::Drop,
+            Spot::At(_) => Outcome::Drop,
+            Spot::Before(_) => self.progress.outcome(state),
+        }
+    }
+}
+
+impl Sheet {
+    /// The outcome of each class, by number.
+    fn outcomes(&self, alloc: Global, state: State) -> Result<Vec<Outcome>, Memory>
+        ensures { IfOk result (λ all. all.items ≡ map (class_outcome state) self.now.classes.items) }
+    {
+        let mut all = Vec::new(alloc);
+        for class in self.classes.as_slice() {
+            all.push(class.outcome(state))?;
+        }
+        Ok(all)
+    }
+}
+
+/// The classes of all packets behind their whole way along these parts.
+fn executed(
+    alloc: Global,
+    purpose: &Purpose<'_>,
+    arrive: &[Part],
+    deliver: &[Part],
+    forward: &[Part],
+    send: &[Part],
+) -> Result<Sheet, Memory>
+    requires sound { IsSound purpose.now.site.now }
+    requires ways { AreWaysOf purpose.now.site.now purpose.now.ways.now }
+    requires ok { flat_ok (record { code = purpose.now.code.now; arrive = arrive.now; deliver = deliver.now; forward = forward.now; send = send.now }) ≡ true }
+    ensures sheet { IfOk result (λ s. IsSheet s) }
+    ensures tops { IfOk result (λ s. tops_in s ≡ tops_of purpose.now.site.now) }
+    ensures meant { IfOk result (λ s. (p : List ℕ) → IsWithin (tops_of purpose.now.site.now) p → future nowhere (passed purpose.now.state p) s.classes.items (class_at s p) p ≡ means (record { code = purpose.now.code.now; arrive = arrive.now; deliver = deliver.now; forward = forward.now; send = send.now }) purpose.now.site.now (packet_of p) (kind_of purpose.now.state p)) }
+{
+    let bump = Bump::new(alloc);
+    let arena = &bump;
+    let area = whole_site(arena, purpose.site)?;
+    let ground = Ground {
+        bump: arena,
+        area,
+        site: purpose.site,
+        ways: purpose.ways,
+        state: purpose.state,
+    };
+    let mut sheet = Sheet::entered(alloc, &ground, purpose.code.len())?;
+    sheet.run(alloc, purpose, Stage::Arrive, arrive)?;
+    sheet.route(alloc, &ground)?;
+    sheet.run(alloc, purpose, Stage::Deliver, deliver)?;
+    sheet.run(alloc, purpose, Stage::Forward, forward)?;
+    sheet.run(alloc, purpose, Stage::Send, send)?;
+    Ok(sheet)
+}
+
+/// The tree of what becomes of each packet of the site: of new ones, or of those of tracked connections,
+/// each with the ends with which its connection sends it. An error is want of memory.
+///
+/// The work grows with the number of instructions and the pieces into which they cut each other's packets,
+/// and not with the number of packets.
+pub fn execute_tree(
+    alloc: Global,
+    f: &Flat,
+    site: &Site,
+    state: State,
+) -> Result<Tree<Outcome>, Memory>
+    requires sound { IsSound site.now }
+    requires ok { flat_ok f.now ≡ true }
+    ensures tops { IfOk result (λ t. t.0 ≡ tops_of site.now) }
+    ensures reduced { IfOk result (λ t. IsReduced t.0 t.1) }
+    ensures value { IfOk result (λ t. (p : List ℕ) → IsWithin (tops_of site.now) p → value t.1 p ≡ Some (means f.now site.now (packet_of p) (kind_of state p))) }
+{
+    let ways = Ways::of_site(alloc, site)?;
+    let purpose = Purpose {
+        site,
+        ways: &ways,
+        state,
+        code: f.code.as_slice(),
+    };
+    let sheet = executed(
+        alloc,
+        &purpose,
+        f.arrive.as_slice(),
+        f.deliver.as_slice(),
+        f.forward.as_slice(),
+        f.send.as_slice(),
+    )?;
+    let leaves = sheet.outcomes(alloc, state)?;
+    let tree = sheet.canvas.tree(alloc, leaves.as_slice())?;
+    Ok(tree)
+}

@@ -1,0 +1,126 @@
+//! Where the points of a class lie.
+
+ghost use Rattle.std.specs.Prelude.{◌≡◌, ◌<◌, ℕ, List, true, length, IfOk};
+ghost use Rattle.fws_iv.specs.Ivs.{has};
+ghost use Rattle.fws_box.specs.Boxes.{sides_of};
+ghost use Rattle.fws_box.specs.Fields.{value_of};
+ghost use Rattle.fws_box.specs.Sides.{sides_have, IsWithin};
+ghost use Rattle.fws_net.specs.Points.{tops_of};
+ghost use Rattle.fws_scene.specs.Areas.{IsOfSite};
+ghost use Rattle.fws_exec.specs.Grounds.{IsGround};
+ghost use Rattle.fws_exec.specs.Sheets.{tops_in, class_at, IsSheet};
+
+use crate::errand::Ground;
+use crate::sheet::Sheet;
+use bumpalo::Bump;
+use fws_box::{Field, PBox, narrow};
+use fws_iv::{Ivs, one};
+use fws_net::End;
+use fws_num::Memory;
+use std::alloc::Global;
+
+/// Whether the end is that of a network: its later bits are kept, so that a set of addresses under it is one of each
+/// network of its length.
+fn is_of_network(end: Option<End>) -> bool {
+    match end {
+        Some(end) => end.len < 32,
+        None => false,
+    }
+}
+
+/// The part of the area in which the field has values of the set; where there is none, one in which it has the value 0.
+fn part_of<'b>(
+    alloc: Global,
+    bump: &'b Bump,
+    area: &PBox<'b>,
+    field: Field,
+    set: &Ivs,
+) -> Result<PBox<'b>, Memory>
+    ensures within { IfOk result (λ part. (p : List ℕ) → length p ≡ 12 → sides_have (sides_of part) p ≡ true → sides_have (sides_of area.now) p ≡ true) }
+    ensures covers { IfOk result (λ part. (p : List ℕ) → length p ≡ 12 → sides_have (sides_of area.now) p ≡ true → has set.now (value_of p field) ≡ true → sides_have (sides_of part) p ≡ true) }
+{
+    if let Some(part) = narrow(bump, area, field, set)? {
+        return Ok(part);
+    }
+    match narrow(bump, area, field, &one(alloc, 0, 0)?)? {
+        Some(part) => Ok(part),
+        None => Ok(*area),
+    }
+}
+
+impl Sheet {
+    /// The values of the field at the points of the class with this number, and few others.
+    fn reach(&mut self, alloc: Global, number: u32, field: Field) -> Result<Ivs, Memory>
+        requires sheet { IsSheet self.old }
+        requires number { number < length self.old.classes.items }
+        ensures sheet { IsSheet self.new }
+        ensures covers { IfOk result (λ set. (p : List ℕ) → IsWithin (tops_in self.old) p → class_at self.old p ≡ number → has set (value_of p field) ≡ true) }
+        ensures tops { tops_in self.new ≡ tops_in self.old }
+        ensures same { (p : List ℕ) → class_at self.new p ≡ class_at self.old p }
+        ensures classes { self.new.classes ≡ self.old.classes }
+    {
+        let wanted = self.canvas.values().bits_of(number);
+        let set = self.canvas.spread(alloc, field, wanted)?;
+        Ok(set)
+    }
+
+    /// The part of the area with the points of the class with this number, where an end is written over the field: the
+    /// area itself, unless the end is that of a network.
+    fn narrowed<'b>(
+        &mut self,
+        alloc: Global,
+        bump: &'b Bump,
+        number: u32,
+        area: &PBox<'b>,
+        field: Field,
+        end: Option<End>,
+    ) -> Result<PBox<'b>, Memory>
+        requires sheet { IsSheet self.old }
+        requires number { number < length self.old.classes.items }
+        ensures sheet { IsSheet self.new }
+        ensures within { IfOk result (λ part. (p : List ℕ) → length p ≡ 12 → sides_have (sides_of part) p ≡ true → sides_have (sides_of area.now) p ≡ true) }
+        ensures covers { IfOk result (λ part. (p : List ℕ) → length p ≡ 12 → IsWithin (tops_in self.old) p → class_at self.old p ≡ number → sides_have (sides_of area.now) p ≡ true → sides_have (sides_of part) p ≡ true) }
+        ensures tops { tops_in self.new ≡ tops_in self.old }
+        ensures same { (p : List ℕ) → class_at self.new p ≡ class_at self.old p }
+        ensures classes { self.new.classes ≡ self.old.classes }
+    {
+        if !is_of_network(end) {
+            return Ok(*area);
+        }
+        let set = self.reach(alloc, number, field)?;
+        let part = part_of(alloc, bump, area, field, &set)?;
+        Ok(part)
+    }
+
+    /// An area with the points of the class with this number, in which sets of addresses under the ends that rules wrote
+    /// have few parts.
+    pub(crate) fn region<'b>(
+        &mut self,
+        alloc: Global,
+        ground: &Ground<'_, 'b>,
+        number: u32,
+    ) -> Result<PBox<'b>, Memory>
+        requires sheet { IsSheet self.old }
+        requires ground { IsGround ground.now }
+        requires tops { tops_in self.old ≡ tops_of ground.now.site.now }
+        requires number { number < length self.old.classes.items }
+        ensures sheet { IsSheet self.new }
+        ensures within { IfOk result (λ area. IsOfSite ground.now.site.now (sides_of area)) }
+        ensures covers { IfOk result (λ area. (p : List ℕ) → IsWithin (tops_of ground.now.site.now) p → class_at self.old p ≡ number → sides_have (sides_of area) p ≡ true) }
+        ensures tops { tops_in self.new ≡ tops_in self.old }
+        ensures same { (p : List ℕ) → class_at self.new p ≡ class_at self.old p }
+        ensures classes { self.new.classes ≡ self.old.classes }
+    {
+        let wrote = self.classes[number as usize].progress.wrote;
+        let area = self.narrowed(
+            alloc,
+            ground.bump,
+            number,
+            &ground.area,
+            Field::Src,
+            wrote.src,
+        )?;
+        let part = self.narrowed(alloc, ground.bump, number, &area, Field::Dst, wrote.dst)?;
+        Ok(part)
+    }
+}

@@ -1,0 +1,143 @@
+//! Where packets stand on their way.
+
+ghost use Rattle.std.specs.Prelude.{◌≡◌, ◌↔◌, true, IsTrue, IfOk};
+ghost use Rattle.fws_exec.specs.Classes.{same_stage, is_at_stage, is_unused};
+
+use crate::progress::Progress;
+use fws_net::Outcome;
+use fws_num::Memory;
+use fws_tree::Leaf;
+use std::alloc::Global;
+
+/// A stage of the way. It ends where the next one begins, or the way does.
+#[derive(Clone, Copy, Debug, PartialEq, Eq)]
+pub(crate) enum Stage {
+    /// What an arriving packet meets before it is routed.
+    Arrive,
+    /// What a packet meets then that is delivered.
+    Deliver,
+    /// What a packet meets then that is forwarded.
+    Forward,
+    /// What a packet of the host itself meets.
+    Send,
+}
+
+/// Where the packets of a class stand.
+#[derive(Clone, Copy, Debug, PartialEq, Eq)]
+pub(crate) enum Spot {
+    /// There are none: the number of the class can be given again.
+    Unused,
+    /// They are dropped.
+    Dropped,
+    /// Before the instruction with this place, of the part that is executed.
+    At(u32),
+    /// Before what is left of the stage, whose parts are executed one by one.
+    Before(Stage),
+}
+
+impl Stage {
+    /// Whether the two are the same.
+    pub(crate) fn same(self, other: Stage) -> bool
+        ensures { result ≡ same_stage self other }
+    {
+        match (self, other) {
+            (Stage::Arrive, Stage::Arrive) => true,
+            (Stage::Deliver, Stage::Deliver) => true,
+            (Stage::Forward, Stage::Forward) => true,
+            (Stage::Send, Stage::Send) => true,
+            _ => false,
+        }
+    }
+}
+
+impl Spot {
+    /// Whether the spot is that before the stage.
+    pub(crate) fn is_at_stage(self, stage: Stage) -> bool
+        ensures { result ≡ is_at_stage stage self }
+    {
+        match self {
+            Spot::Before(other) => stage.same(other),
+            _ => false,
+        }
+    }
+
+    /// Whether the class is unused.
+    pub(crate) fn is_unused(self) -> bool
+        ensures { result ≡ is_unused self }
+    {
+        match self {
+            Spot::Unused => true,
+            _ => false,
+        }
+    }
+
+    /// Whether the two are the same.
+    pub(crate) fn same(self, other: Spot) -> bool
+        ensures { IsTrue result ↔ (self ≡ other) }
+    {
+        self == other
+    }
+}
+
+/// Packets that stand at one spot, and to which rules did the same so far.
+#[derive(Drop)]
+pub(crate) struct Class {
+    /// Where they stand.
+    pub spot: Spot,
+    /// What rules did to them.
+    pub progress: Progress,
+}
+
+/// Whether the tags are the same, in the same order.
+fn same_tags(a: &[u32], b: &[u32]) -> bool
+    ensures { result ≡ true → a.now ≡ b.now }
+{
+    a == b
+}
+
+/// Whether the outcomes are the same.
+fn same_outcome(a: Outcome, b: Outcome) -> bool
+    ensures { result ≡ true → a ≡ b }
+{
+    a.same(&b)
+}
+
+impl Progress {
+    /// Whether rules did the same.
+    pub(crate) fn same(&self, other: &Progress) -> bool
+        ensures { result ≡ true → self.now ≡ other.now }
+    {
+        if !same_outcome(Outcome::Accept(self.wrote), Outcome::Accept(other.wrote)) {
+            return false;
+        }
+        if self.src_tracked != other.src_tracked || self.dst_tracked != other.dst_tracked {
+            return false;
+        }
+        if self.verdict != other.verdict {
+            return false;
+        }
+        same_tags(self.tags.as_slice(), other.tags.as_slice())
+    }
+}
+
+impl Class {
+    /// Whether it is the class of packets at this spot to which rules did this.
+    pub(crate) fn is(&self, spot: Spot, progress: &Progress) -> bool
+        ensures { result ≡ true → self.now ≡ record { spot = spot; progress = progress.now } }
+    {
+        if !self.spot.same(spot) {
+            return false;
+        }
+        self.progress.same(progress)
+    }
+
+    /// An equal class.
+    pub(crate) fn copy(&self, alloc: Global) -> Result<Class, Memory>
+        ensures { IfOk result (λ c. c ≡ self.now) }
+    {
+        Ok(Class {
+            spot: self.spot,
+            progress: self.progress.copy(alloc)?,
+        })
+    }
+}
