@@ -1,6 +1,7 @@
-"""python3 make.py N overlapping|apart|routed|partial|blocked|listed
+"""python3 make.py N FAMILY
 
-Writes a plain iptables filter file with N rules of the chain FORWARD, the same one each time.
+Writes an iptables file of a family, the same one each time. Of these, N is the number of rules of the chain FORWARD:
+
 overlapping: sources and destinations are drawn from 64 networks, so that rules overlap.
 apart: each rule has a source and a destination of its own.
 routed: a rule tests the interface that a packet goes to, the one that it came from, and a destination drawn from the 64
@@ -9,6 +10,18 @@ partial: of a source, a destination, a protocol with a port, and an interface ea
 so that each rule overlaps many others in the fields that it leaves open.
 blocked: each rule drops the packets of one source address.
 listed: each rule accepts TCP from a network of its own to one of 256 networks at a port of its own.
+called: each rule calls a chain of its own, of 10 rules, for a network of its own.
+shared: each rule calls one of 50 chains, of 10 rules, for one of the 64 networks.
+
+And of these:
+
+rewritten: N ports of the host are mapped to hosts of their own, and N rules of FORWARD accept packets to these.
+services: N addresses have a chain each, which calls one that maps them to a host, as Kubernetes does; packets of the host
+go there too.
+unfolded: N calls of one chain of 1,000 rules, each of which drops the packets of one host.
+marked: N rules of mangle mark packets of sources of their own, and N rules of FORWARD accept some destination by mark.
+crossing: N rules, of which half stand in mangle PREROUTING, before what tracked connections write, and half in FORWARD,
+and each tests a source, a destination, a protocol with ports, and an interface, or some of these.
 """
 
 import random
@@ -39,6 +52,14 @@ def accept_or_drop(rng):
     return rng.choice(['ACCEPT', 'DROP'])
 
 
+def network_or_host(rng):
+    length = rng.choice([8, 16, 24, 32])
+    return rng.getrandbits(32) >> (32 - length) << (32 - length), length
+
+
+# Rules of FORWARD
+
+
 def overlapping(rng, drawn, k):
     return '-s %s -d %s -j %s' % (spelled(rng.choice(drawn)), spelled(rng.choice(drawn)), accept_or_drop(rng))
 
@@ -52,11 +73,6 @@ def routed(rng, drawn, k):
     tests = ('-i eth%d' % rng.randrange(62), '-o eth%d' % rng.randrange(62), '-d ' + spelled(rng.choice(drawn)))
     chosen = ((1,), (0, 1), (1, 2), (0, 2), (0, 1, 2))[k % 5]
     return '%s -j %s' % (' '.join(tests[place] for place in chosen), accept_or_drop(rng))
-
-
-def network_or_host(rng):
-    length = rng.choice([8, 16, 24, 32])
-    return rng.getrandbits(32) >> (32 - length) << (32 - length), length
 
 
 def partial(rng, drawn, k):
@@ -78,16 +94,99 @@ def listed(rng, drawn, k):
     return '-s 10.%d.%d.0/24 -d 172.16.%d.0/24 -p tcp -m tcp --dport %d -j ACCEPT' % (k // 256, k % 256, 7 * k % 256, 1000 + k)
 
 
-FAMILIES = {family.__name__: family for family in (overlapping, apart, routed, partial, blocked, listed)}
+RULES = {family.__name__: family for family in (overlapping, apart, routed, partial, blocked, listed)}
+
+
+# Whole files
+
+
+def table(name, chains, rules):
+    return ['*' + name] + [':%s [0:0]' % chain for chain in chains] + ['-A ' + rule for rule in rules] + ['COMMIT']
+
+
+def filtering(policy, chains, rules):
+    return table('filter', ['INPUT DROP', 'FORWARD ' + policy, 'OUTPUT ACCEPT'] + [chain + ' -' for chain in chains], rules)
+
+
+NAT = ['PREROUTING ACCEPT', 'INPUT ACCEPT', 'OUTPUT ACCEPT', 'POSTROUTING ACCEPT']
+
+
+def ten_rules(rng, chain):
+    """10 rules of a chain that calls come back from, if no rule holds."""
+    return [
+        '%s -s %s -p tcp -m tcp --dport %d -j %s' % (chain, spelled(network_or_host(rng)), rng.randrange(65536), accept_or_drop(rng))
+        for _ in range(10)
+    ]
+
+
+def called(rng, count):
+    chains = ['C%d' % k for k in range(count)]
+    rules = ['FORWARD -d %s -j %s' % (spelled(((10 << 24) + 256 * k, 24)), chain) for k, chain in enumerate(chains)]
+    return filtering('DROP', chains, rules + [rule for chain in chains for rule in ten_rules(rng, chain)])
+
+
+def shared(rng, count):
+    drawn = networks(rng)
+    chains = ['C%d' % k for k in range(50)]
+    rules = ['FORWARD -d %s -j %s' % (spelled(rng.choice(drawn)), rng.choice(chains)) for _ in range(count)]
+    return filtering('DROP', chains, rules + [rule for chain in chains for rule in ten_rules(rng, chain)])
+
+
+def host(k):
+    return '10.%d.%d.10' % (1 + k // 250, k % 250)
+
+
+def rewritten(rng, count):
+    maps = ['PREROUTING -d 203.0.113.2/32 -p tcp -m tcp --dport %d -j DNAT --to-destination %s:80' % (2000 + k, host(k)) for k in range(count)]
+    rules = ['FORWARD -d %s/32 -p tcp -m tcp --dport 80 -j ACCEPT' % host(k) for k in range(count)]
+    return table('nat', NAT, maps) + filtering('DROP', [], rules)
+
+
+def services(rng, count):
+    chains = ['KUBE-SERVICES -'] + ['KUBE-%s-%d -' % (kind, k) for k in range(count) for kind in ('SVC', 'SEP')]
+    rules = ['PREROUTING -j KUBE-SERVICES', 'OUTPUT -j KUBE-SERVICES']
+    rules += ['KUBE-SERVICES -d 10.96.%d.%d/32 -p tcp -m tcp --dport 80 -j KUBE-SVC-%d' % (k // 250, 1 + k % 250, k) for k in range(count)]
+    for k in range(count):
+        rules += ['KUBE-SVC-%d -j KUBE-SEP-%d' % (k, k), 'KUBE-SEP-%d -p tcp -m tcp -j DNAT --to-destination %s:8080' % (k, host(k))]
+    return table('nat', NAT + chains, rules) + filtering('ACCEPT', [], ['FORWARD -p udp -j DROP'])
+
+
+def unfolded(rng, count):
+    dropping = ['LONG -s 10.0.0.9/32 -j DROP'] * 1000
+    return filtering('ACCEPT', ['LONG'], ['FORWARD -j LONG'] * count + dropping)
+
+
+def marked(rng, count):
+    marks = ['PREROUTING -s 10.%d.%d.0/24 -j MARK --set-mark %d' % (k // 250, k % 250, k + 1) for k in range(count)]
+    rules = ['FORWARD -d 172.16.%d.%d/32 -m mark --mark %d -j ACCEPT' % (k // 250, k % 250, k + 1) for k in range(count)]
+    mangle = ['PREROUTING ACCEPT', 'INPUT ACCEPT', 'FORWARD ACCEPT', 'OUTPUT ACCEPT', 'POSTROUTING ACCEPT']
+    return table('mangle', mangle, marks) + filtering('DROP', [], rules)
+
+
+def crossing(rng, count):
+    def rule(chain):
+        tests = ['-s ' + spelled(network_or_host(rng)), '-d ' + spelled(network_or_host(rng))]
+        tests += ['-p {0} -m {0} --sport {1}:{2} --dport {3}'.format(rng.choice(['tcp', 'udp']), *sorted(rng.sample(range(65536), 2)), rng.randrange(65536))]
+        if chain == 'FORWARD':
+            tests += ['-i ' + rng.choice(['eth0', 'eth1'])]
+        chosen = [test for test in tests if rng.random() < 0.5] or [rng.choice(tests)]
+        return '%s %s -j %s' % (chain, ' '.join(chosen), accept_or_drop(rng))
+
+    before, behind = [rule('PREROUTING') for _ in range(count // 2)], [rule('FORWARD') for _ in range(count - count // 2)]
+    return table('mangle', ['PREROUTING ACCEPT'], before) + filtering('DROP', [], behind)
+
+
+FILES = {family.__name__: family for family in (called, shared, rewritten, services, unfolded, marked, crossing)}
 
 
 def main(count, family):
     rng = random.Random(20181)
-    drawn = networks(rng)
-    policy = 'ACCEPT' if family == 'blocked' else 'DROP'
-    lines = ['*filter', ':INPUT DROP [0:0]', ':FORWARD %s [0:0]' % policy, ':OUTPUT ACCEPT [0:0]']
-    lines += ['-A FORWARD ' + FAMILIES[family](rng, drawn, k) for k in range(count)]
-    lines.append('COMMIT')
+    if family in FILES:
+        lines = FILES[family](rng, count)
+    else:
+        drawn = networks(rng)
+        rules = ['FORWARD ' + RULES[family](rng, drawn, k) for k in range(count)]
+        lines = filtering('ACCEPT' if family == 'blocked' else 'DROP', [], rules)
     print('\n'.join(lines))
 
 
