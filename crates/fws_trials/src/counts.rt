@@ -3,11 +3,13 @@
 ghost use Rattle.fws_net.specs.Routes.{IsSound};
 
 use crate::tally::Tally;
-use fws_filter::filter_tree;
-use fws_ipt::filter_only;
+use fws_exec::execute_tree;
+use fws_ipt_ifcl::to_ifcl;
 use fws_ipt_read::read;
-use fws_net::{ReadAnswer, Site, SiteAnswer, read_site};
+use fws_net::{Outcome, ReadAnswer, Site, SiteAnswer, State, read_site};
 use fws_num::{Memory, Text, put_dec};
+use fws_tree::Tree;
+use fws_unfold::{UnfoldAnswer, unfold};
 use std::alloc::Global;
 
 /// A site of two interfaces.
@@ -62,20 +64,35 @@ fn rules_text(alloc: Global, rules: u32) -> Result<Text, Memory> {
     Ok(text)
 }
 
+/// The tree of what rules make of new packets; none where a text is refused.
+fn new_tree(alloc: Global, site: &Site, text: &[u8]) -> Result<Option<Tree<Outcome>>, Memory>
+    requires { IsSound site.now }
+{
+    let config = match read(alloc, text, site) {
+        Ok(config) => config,
+        Err(ReadAnswer::Memory) => return Err(Memory),
+        Err(ReadAnswer::Refused { .. }) => return Ok(None),
+    };
+    let diagram = to_ifcl(alloc, &config, site)?;
+    let flat = match unfold(alloc, &diagram) {
+        Ok(flat) => flat,
+        Err(UnfoldAnswer::Memory) => return Err(Memory),
+        Err(UnfoldAnswer::Loop(_) | UnfoldAnswer::Deep(_) | UnfoldAnswer::Long(_)) => {
+            return Ok(None);
+        }
+    };
+    let tree = execute_tree(alloc, &flat, site, State::Fresh)?;
+    Ok(Some(tree))
+}
+
 /// Whether the tree of so many rules has as many nodes and paths as were counted.
 fn agrees(alloc: Global, site: &Site, counted: &Counted) -> Result<bool, Memory>
     requires { IsSound site.now }
 {
     let text = rules_text(alloc, counted.rules)?;
-    let config = match read(alloc, text.as_slice(), site) {
-        Ok(config) => config,
-        Err(ReadAnswer::Memory) => return Err(Memory),
-        Err(ReadAnswer::Refused { .. }) => return Ok(false),
-    };
-    if !filter_only(&config) {
+    let Some(tree) = new_tree(alloc, site, text.as_slice())? else {
         return Ok(false);
-    }
-    let tree = filter_tree(alloc, site, &config)?;
+    };
     Ok(tree.nodes() == counted.nodes && tree.paths(alloc)?.len() == counted.paths)
 }
 
