@@ -1,8 +1,8 @@
 """python3 reading.py MEBIBYTES SECONDS MEGABYTES COMMAND SITE
 
-Writes rules of every kind into a chain of the user's, up to so many mebibytes, and runs the command over them. The whole
-text is read before the program answers that user chains aren't built yet, so that the time is that of reading. Prints a
-line `reading mebibytes seconds megabytes`. Exit status 1 past the bounds, or where the command ends otherwise.
+Writes rules of every kind into a chain of the user's that no packet meets, up to so many mebibytes, and runs the command
+over them. No rule is unfolded or executed, so that the time is that of reading and of making the diagram. Prints a line
+`reading mebibytes seconds megabytes`. Exit status 1 past the bounds, or where the command ends otherwise.
 """
 
 import os
@@ -51,7 +51,7 @@ def main(mebibytes, seconds, megabytes, program, site):
         ended = subprocess.run([program, 'synth', 'iptables', site, name, 'new'], stdout=subprocess.PIPE, timeout=300)
         taken = time.monotonic() - begun
     used = resource.getrusage(resource.RUSAGE_CHILDREN).ru_maxrss / 1024
-    if ended.returncode != 3 or not ended.stdout.endswith(b' not-built\n'):
+    if ended.returncode != 0 or not ended.stdout.startswith(b'table new '):
         print('reading', mebibytes, 'ended with status', ended.returncode, ended.stdout[:200].decode())
         return 1
     print('reading', '%g' % mebibytes, '%.2f' % taken, '%.0f' % used)

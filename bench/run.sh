@@ -1,7 +1,8 @@
 #!/usr/bin/env bash
 # Runs the built programs over growing inputs, and prints a line `family size seconds megabytes counts` for each:
-# filter files of growing length, 400 rules at sites of growing size, the writing of these sites by the command site2,
-# texts of up to 4 MiB that are read and not executed, trees that are made of rows or recoloured, and diagrams that are
+# filter files of growing length, files with chains of the user's and with rules of nat and mangle, 400 rules at sites of
+# growing size, the writing of these sites by the command site2, texts of up to 4 MiB that are read and not executed,
+# execution alone and that of established packets, trees that are made of rows or recoloured, and diagrams that are
 # unfolded or refused. Exit status 1 where a bound is passed. Build first: ./fws --build
 set -u
 top=$(cd "$(dirname "$0")/.." && pwd)
@@ -33,8 +34,14 @@ rules apart 0.5 4000
 rules partial 0.1 200
 rules partial 0.4 1000
 rules partial 1.5 4000
-rules blocked 2 40000
+rules blocked 0.8 40000
 rules listed 0.25 4000
+rules rewritten 0.6 1000
+rules services 0.5 500
+rules called 1.5 2000
+rules shared 4 2000
+rules unfolded 10 998
+rules marked 2 400
 python3 "$top/bench/growth.py" listed 15 "$program" "$site" || status=1
 python3 "$top/bench/growth.py" partial 15 "$program" "$site" || status=1
 
@@ -54,6 +61,13 @@ echo 'family mebibytes seconds megabytes'
 for size in 0.5 1 2 4; do
     python3 "$top/bench/reading.py" "$size" 10 2048 "$program" "$site" || status=1
 done
+
+echo 'family rules state seconds instructions nodes'
+python3 "$top/bench/execution.py" listed 4000 new 0.1 "$trees" "$site" || status=1
+
+echo 'family rules seconds megabytes instructions nodes'
+python3 "$top/bench/make.py" 800 crossing >"$work/file" || exit 1
+measure crossing 800 1 2048 "$trees" execute "$site" "$work/file" est
 
 echo 'family rows seconds paths'
 python3 "$top/bench/fields.py" "$trees" || status=1

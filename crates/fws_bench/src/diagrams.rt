@@ -1,6 +1,6 @@
 //! Diagrams that show what unfolding and its refusals cost.
 
-use crate::Stop;
+use crate::stop::Stop;
 use fws_ifcl::{Act, Chain, Ifcl, Rule, Stage, ifcl_ok};
 use fws_iv::one;
 use fws_net::{Cond, Lit, Test};
