@@ -11,7 +11,6 @@ use Rattle.fws_net.specs.Points.{tops_of}
 use Rattle.fws_num.specs.Numbers.{split_once}
 use Rattle.fws_box.specs.Sides.{sides_have}
 use Rattle.fws_top.specs.declared.ask.Subject.{Subject}
-use Rattle.fws_top.specs.declared.ask.Subject.TheVariants.{Entry, Proto, Dst, Dport, Src, Sport, Flags, Icmp, Verdict}
 use Rattle.fws_top.specs.Asks.{items_of, number_of, item_has, set_has, HasValues, AreNarrowed}
 use Rattle.fws_top.proofs.Asking.{items_of-more, items_of-last}
 use Rattle.fws_top.proofs.Points.{within_at, within-length}
@@ -72,28 +71,16 @@ sides_have-narrowed (t ∷ ts) (x ∷ p) (suc k) d new passes in_sides in_point 
     go true b c = refl
     go false b c = refl
 
-number_of-small : (subject : Subject) → number_of subject < 12
-number_of-small Entry = omega arith
-number_of-small Proto = omega arith
-number_of-small Dst = omega arith
-number_of-small Dport = omega arith
-number_of-small Src = omega arith
-number_of-small Sport = omega arith
-number_of-small Flags = omega arith
-number_of-small Icmp = omega arith
-number_of-small Verdict = omega arith
-
 -- the side of a field keeps the values of its set
-pub side_narrowed : (site : Site) (subject : Subject) (text : List ℕ) (sides : List (List Iv)) (field : ℕ) (d values new : List Iv) → length sides ≡ 12
+pub side_narrowed : (site : Site) (subject : Subject) (text : List ℕ) (sides : List (List Iv)) (field : ℕ) (d values new : List Iv) → length sides ≡ 12 → number_of subject < 12
     → field ≡ number_of subject → bytes_eq text (codes "*") ≡ false
     → HasValues site subject (λ x. list_any (λ item. item_has site subject item x) (items_of text)) values
     → ((v : ℕ) → has new v ≡ (has (get_or sides field d) v && has values v))
     → AreNarrowed site (λ p. set_has site subject text (get_or p (number_of subject) 0)) sides (set sides field new)
-side_narrowed site subject text sides field d values new twelve f star values_are new_is p w =
+side_narrowed site subject text sides field d values new twelve small f star values_are new_is p w =
     let k = number_of subject in
     let x = get_or p k 0 in
     let any : Bool = list_any (λ item. item_has site subject item x) (items_of text) in
-    let small : k < 12 = number_of-small subject in
     let long : length p ≡ 12 = within-length (tops_of site) p w in
     let low : x ≤ get_or (tops_of site) k 0 = within_at (tops_of site) p k w small in
     let kept : has new x ≡ (has (get_or sides k d) x && any) = new_is x ∙ ap (λ n. has (get_or sides n d) x && has values x) f

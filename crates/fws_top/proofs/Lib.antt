@@ -1,3 +1,8 @@
+mod AnsweredCommands
 mod AskSets
 mod Asking
+mod Chosen
+mod Diagrams
+mod Plans
 mod Points
+mod Policies

@@ -8,12 +8,14 @@ use Rattle.fws_num.specs.Numbers.{dec_of, quad_of, split_once}
 use Rattle.fws_num.specs.Pieces.{pieces_of}
 use Rattle.fws_iv.specs.declared.iv.Iv.{Iv}
 use Rattle.fws_iv.specs.Ivs.{has}
+use Rattle.fws_net.specs.declared.packet.State.{State}
+use Rattle.fws_net.specs.declared.packet.State.TheVariants as states
 use Rattle.fws_net.specs.declared.site.Site.{Site}
 use Rattle.fws_net.specs.Points.{tops_of}
 use Rattle.fws_box.specs.Sides.{IsWithin, sides_have}
 use Rattle.fws_table.specs.TableText.{entry_name}
 use Rattle.fws_top.specs.declared.ask.Subject.{Subject}
-use Rattle.fws_top.specs.declared.ask.Subject.TheVariants.{Entry, Proto, Dst, Dport, Src, Sport, Flags, Icmp, Verdict}
+use Rattle.fws_top.specs.declared.ask.Subject.TheVariants.{Entry, Proto, Dst, Dport, Src, Sport, Flags, Icmp, Rdst, Rdport, Rsrc, Rsport, Verdict}
 
 -- Words
 
@@ -21,7 +23,8 @@ use Rattle.fws_top.specs.declared.ask.Subject.TheVariants.{Entry, Proto, Dst, Dp
 abbrev pub subject_names : List (List ℕ × Subject)
 subject_names =
     (codes "entry", Entry) ∷ (codes "proto", Proto) ∷ (codes "dst", Dst) ∷ (codes "dport", Dport) ∷ (codes "src", Src) ∷
-    (codes "sport", Sport) ∷ (codes "flags", Flags) ∷ (codes "icmp", Icmp) ∷ (codes "verdict", Verdict) ∷ []
+    (codes "sport", Sport) ∷ (codes "flags", Flags) ∷ (codes "icmp", Icmp) ∷ (codes "rdst", Rdst) ∷ (codes "rdport", Rdport) ∷
+    (codes "rsrc", Rsrc) ∷ (codes "rsport", Rsport) ∷ (codes "verdict", Verdict) ∷ []
 
 -- what a word before the `=` asks about
 unfoldable pub subject_of : List ℕ → Option Subject
@@ -37,7 +40,11 @@ number_of Src = 4
 number_of Sport = 5
 number_of Flags = 6
 number_of Icmp = 7
-number_of Verdict = 8
+number_of Rdst = 8
+number_of Rdport = 9
+number_of Rsrc = 10
+number_of Rsport = 11
+number_of Verdict = 12
 
 -- a value of a field, spelled as a decimal up to the field's greatest value or as an address
 abbrev pub field_value : Subject → List ℕ → Option ℕ
@@ -49,6 +56,10 @@ field_value Src text = quad_of text
 field_value Sport text = dec_of text 65535
 field_value Flags text = dec_of text 63
 field_value Icmp text = dec_of text 255
+field_value Rdst text = quad_of text
+field_value Rdport text = dec_of text 65535
+field_value Rsrc text = quad_of text
+field_value Rsport text = dec_of text 65535
 field_value Verdict text = None
 
 -- Sets
@@ -100,6 +111,21 @@ asks_last word later = option_map_or (λ ask. not (list_any (asks_about ask.0) l
 abbrev pub are_asks : List (List ℕ) → Bool
 are_asks [] = true
 are_asks (word ∷ words) = asks_last word words && are_asks words
+
+-- the ends with which an established packet leaves are shown for such packets alone
+abbrev pub is_shown : State → Subject → Bool
+is_shown states.Fresh Rdst = false
+is_shown states.Fresh Rdport = false
+is_shown states.Fresh Rsrc = false
+is_shown states.Fresh Rsport = false
+is_shown state subject = true
+
+abbrev pub asks_shown : State → List ℕ → Bool
+asks_shown state word = option_map_or (λ ask. is_shown state ask.0) (ask_of word) false
+
+-- each word asks about what is shown of the packets of the state
+abbrev pub are_shown : State → List (List ℕ) → Bool
+are_shown state words = list_all (asks_shown state) words
 
 -- Meaning
 

@@ -1,59 +1,96 @@
 -- The forms of a command line.
-use Rattle.std.specs.Prelude.{◌≡◌, ℕ, Bool, true, false, ◌&&◌, List, [], ◌∷◌, codes, if◌then◌else◌}
+use Rattle.std.specs.Prelude.{◌≡◌, ℕ, Bool, true, false, ◌&&◌, Option, Some, None, List, [], ◌∷◌, codes, if◌then◌else◌}
+use Rattle.std.specs.Option.{option_map_or}
 use Rattle.std.specs.Str.{bytes_eq}
-use Rattle.fws_top.specs.Asks.{are_asks}
+use Rattle.fws_net.specs.declared.packet.State.{State}
+use Rattle.fws_net.specs.declared.packet.State.TheVariants.{Fresh, Est}
+use Rattle.fws_top.specs.Asks.{are_asks, are_shown}
 use Rattle.fws_top.specs.declared.form.Form.{Form}
-use Rattle.fws_top.specs.declared.form.Form.TheVariants.{Unknown, Help, Version, Synth, Query, SecondForm}
+use Rattle.fws_top.specs.declared.form.Form.TheVariants.{Unknown, Help, Version, Synth, Query, Trace, SecondForm}
+use Rattle.fws_top.specs.declared.lang.SourceLang.{SourceLang}
+use Rattle.fws_top.specs.declared.lang.SourceLang.TheVariants.{Iptables}
 
--- what the words ask for: nothing that is known, the list of commands, the version, the table of the configuration
--- that the second name holds at the site that the first one holds, whole or of the packets that further words ask for, or
--- the site that a name holds in its second form
+-- What the words ask for, each file by its name
+
+-- nothing that is known, the list of commands or the version; of a configuration at a site, for the packets of a state,
+-- the table, whole or for what further words ask, or what becomes of listed packets against listed connections; or a site
+-- in its second form
 pub data Command : Type 0 where
   unknown : Command
   help : Command
   version : Command
-  synth : List ℕ → List ℕ → Command
-  query : List ℕ → List ℕ → List (List ℕ) → Command
+  synth : SourceLang → List ℕ → List ℕ → State → Command
+  query : SourceLang → List ℕ → List ℕ → State → List (List ℕ) → Command
+  trace : SourceLang → List ℕ → List ℕ → List ℕ → List ℕ → Command
   site2 : List ℕ → Command
 
-abbrev pub is_empty : List (List ℕ) → Bool
-is_empty [] = true
-is_empty (word ∷ words) = false
+-- the language of a configuration
+abbrev pub lang_of : List ℕ → Option SourceLang
+lang_of word = if bytes_eq word (codes "iptables") then Some Iptables else None
+
+-- which packets a table is about
+abbrev pub state_of : List ℕ → Option State
+state_of word = if bytes_eq word (codes "new") then Some Fresh else if bytes_eq word (codes "est") then Some Est else None
 
 -- `--help` and `--version` are forms as the only word
 abbrev pub single_command : List ℕ → Command
 single_command word = if bytes_eq word (codes "--help") then help else if bytes_eq word (codes "--version") then version else unknown
 
--- `site2` asks for the second form of a site
+-- `site2 SITE`
 abbrev pub site_command : List ℕ → List ℕ → Command
 site_command command site = if bytes_eq command (codes "site2") then site2 site else unknown
 
--- what a command asks of the configuration and the site that the names hold: `synth` takes no further words, and those
--- of `query` are well spelled
-abbrev pub state_command : List ℕ → List ℕ → List ℕ → List (List ℕ) → Command
-state_command command site file asks =
-    if bytes_eq command (codes "query") then (if are_asks asks then query site file asks else unknown)
-    else if bytes_eq command (codes "synth") && is_empty asks then synth site file else unknown
+-- `synth` takes no further words
+abbrev pub synth_command : SourceLang → List ℕ → List ℕ → State → List (List ℕ) → Command
+synth_command lang site file state [] = synth lang site file state
+synth_command lang site file state (word ∷ words) = unknown
 
--- `--help`, `--version`, `site2 SITE`, `synth iptables SITE FILE new`, or `query iptables SITE FILE new` and `FIELD=SET`
--- words
+-- the further words of `query` are well spelled, and ask about fields that the table shows
+abbrev pub query_command : SourceLang → List ℕ → List ℕ → State → List (List ℕ) → Command
+query_command lang site file state asks = if are_asks asks && are_shown state asks then query lang site file state asks else unknown
+
+-- the commands that ask for the packets of a state
+abbrev pub state_command : List ℕ → SourceLang → List ℕ → List ℕ → State → List (List ℕ) → Command
+state_command command lang site file state rest =
+    if bytes_eq command (codes "synth") then synth_command lang site file state rest
+    else if bytes_eq command (codes "query") then query_command lang site file state rest
+    else unknown
+
+-- `synth LANG SITE FILE STATE`, or `query LANG SITE FILE STATE` and `FIELD=SET` words
+abbrev pub table_command : List ℕ → SourceLang → List ℕ → List ℕ → List (List ℕ) → Command
+table_command command lang site file [] = unknown
+table_command command lang site file (word ∷ rest) = option_map_or (λ state. state_command command lang site file state rest) (state_of word) unknown
+
+-- `trace LANG SITE FILE CONNS PACKETS`
+abbrev pub trace_command : SourceLang → List ℕ → List ℕ → List (List ℕ) → Command
+trace_command lang site file (conns ∷ packets ∷ []) = trace lang site file conns packets
+trace_command lang site file _ = unknown
+
+-- the commands that ask something of a configuration at a site
+abbrev pub source_command : List ℕ → SourceLang → List ℕ → List ℕ → List (List ℕ) → Command
+source_command command lang site file rest =
+    if bytes_eq command (codes "trace") then trace_command lang site file rest else table_command command lang site file rest
+
+-- the command of the words of a command line
 abbrev pub command_of : List (List ℕ) → Command
 command_of (word ∷ []) = single_command word
 command_of (command ∷ site ∷ []) = site_command command site
-command_of (command ∷ lang ∷ site ∷ file ∷ state ∷ asks) =
-    if bytes_eq lang (codes "iptables") && bytes_eq state (codes "new") then state_command command site file asks else unknown
+command_of (command ∷ word ∷ site ∷ file ∷ rest) = option_map_or (λ lang. source_command command lang site file rest) (lang_of word) unknown
 command_of _ = unknown
+
+-- Forms in code
 
 -- a form as the command that it stands for
 abbrev pub asked : Form → Command
 asked Unknown = unknown
 asked Help = help
 asked Version = version
-asked (Synth site file) = synth site.now file.now
-asked (Query site file asks) = query site.now file.now asks.now
+asked (Synth lang site file state) = synth lang site.now file.now state
+asked (Query lang site file state asks) = query lang site.now file.now state asks.now
+asked (Trace lang site file conns packets) = trace lang site.now file.now conns.now packets.now
 asked (SecondForm site) = site2 site.now
 
 -- the further words of a query are well spelled
 abbrev pub IsSpelled : Form → Type 0
-IsSpelled (Query site file asks) = are_asks asks.now ≡ true
+IsSpelled (Query lang site file state asks) = are_asks asks.now ≡ true
 IsSpelled _ = Unit {0}

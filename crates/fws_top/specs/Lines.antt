@@ -21,25 +21,34 @@ cause_text causes.Backward = codes "backward"
 cause_text causes.Shape = codes "shape"
 cause_text causes.Expand = codes "expand"
 
--- a refusal of the file with this name
+-- What is said of a refused file behind its name
+
+abbrev pub too_long_words : List ℕ
+too_long_words = codes "over 4194304 bytes"
+
+-- a line of the file is refused for a cause
+abbrev pub line_words : ℕ → List ℕ → List ℕ
+line_words line cause = codes "line " ++ decimal line ++ 32 ∷ cause
+
+-- a line of a list of connections or packets has no other cause
+abbrev pub syntax_words : ℕ → List ℕ
+syntax_words line = line_words line (codes "syntax")
+
+-- a chain reaches itself, a path from it is too deep, or the rules become too many there
+abbrev pub loop_words : List ℕ → List ℕ
+loop_words chain = codes "loop " ++ chain
+
+abbrev pub deep_words : List ℕ → List ℕ
+deep_words chain = codes "deep " ++ chain
+
+abbrev pub long_words : List ℕ → List ℕ
+long_words chain = codes "long " ++ chain
+
+-- Lines
+
+-- the file with this name is refused with these words
 abbrev pub refused_line : List ℕ → List ℕ → List ℕ
-refused_line name rest = codes "refused " ++ name ++ 32 ∷ rest ++ 10 ∷ []
-
-abbrev pub too_long_line : List ℕ → List ℕ
-too_long_line name = refused_line name (codes "over 4194304 bytes")
-
-abbrev pub not_built_line : List ℕ → List ℕ
-not_built_line name = refused_line name (codes "not-built")
-
--- a refusal at a line of the file, for this cause
-abbrev pub refused_at : List ℕ → ℕ → List ℕ → List ℕ
-refused_at name line cause = refused_line name (codes "line " ++ decimal line ++ 32 ∷ cause)
-
-abbrev pub site_refused_line : List ℕ → ℕ → SiteCause → List ℕ
-site_refused_line name line cause = refused_at name line (site_cause_text cause)
-
-abbrev pub config_refused_line : List ℕ → ℕ → Cause → List ℕ
-config_refused_line name line cause = refused_at name line (cause_text cause)
+refused_line name words = codes "refused " ++ name ++ 32 ∷ words ++ 10 ∷ []
 
 abbrev pub cannot_read_line : List ℕ → List ℕ
 cannot_read_line name = codes "cannot read " ++ name ++ 10 ∷ []

@@ -1,75 +1,100 @@
--- What the steps of a command answer in place of a value.
-use Rattle.std.specs.Prelude.{◌≡◌, ℕ, ◌<◌, false, Option, Some, Ok, Err, List, length, ◌⊎◌}
+-- What the steps of a command give on the way through its plan: a value with which it goes on, or an answer in its place.
+use Rattle.std.specs.Prelude.{◌≡◌, ℕ, Option, Some, None, List, true, ◌⊎◌}
+use Rattle.fws_flat.specs.declared.code.Flat.{Flat}
+use Rattle.fws_flat.specs.Soundness.{flat_ok}
+use Rattle.fws_flat.specs.Walk.{means}
+use Rattle.fws_ifcl.specs.declared.diagram.Ifcl.{Ifcl}
+use Rattle.fws_ifcl.specs.Walk.{means as diagram_means}
 use Rattle.fws_io.specs.Outside.{Rose}
-use Rattle.fws_ipt.specs.declared.config.IptConfig.{IptConfig}
-use Rattle.fws_ipt.specs.FileText.{spelled as config_of}
-use Rattle.fws_ipt.specs.FilterOnly.{is_filter_only}
-use Rattle.fws_net.specs.declared.cause.Cause.{Cause}
-use Rattle.fws_net.specs.declared.cause.SiteCause.{SiteCause}
-use Rattle.fws_net.specs.Reading.{Refusal}
-use Rattle.fws_net.specs.SiteText.{site_of}
+use Rattle.fws_net.specs.declared.connection.Kind.{Kind}
+use Rattle.fws_net.specs.declared.outcome.Outcome.{Outcome}
+use Rattle.fws_net.specs.declared.packet.Packet.{Packet}
 use Rattle.fws_net.specs.declared.site.Site.{Site}
-use Rattle.fws_top.specs.Asks.{are_known}
 use Rattle.fws_top.specs.declared.answer.Answer.{Answer}
 use Rattle.fws_top.specs.declared.answer.Stop.{Stop}
 use Rattle.fws_top.specs.declared.answer.Stop.TheVariants.{Due, Memory}
+use Rattle.fws_top.specs.declared.status.Status.{Status}
 use Rattle.fws_top.specs.declared.status.Status.TheVariants as status
-use Rattle.fws_top.specs.declared.texts.TheConstants.{FILE_LIMIT, USAGE}
-use Rattle.fws_top.specs.Due.{IsAnswered}
-use Rattle.fws_top.specs.Forms.{Command}
-use Rattle.fws_top.specs.Lines.{cannot_read_line, too_long_line, not_built_line, site_refused_line, config_refused_line}
+use Rattle.fws_top.specs.Due.{IsFaultless}
+use Rattle.fws_top.specs.Judged.{IsPacketOf, diagram_refusal}
+use Rattle.fws_top.specs.Lines.{cannot_read_line}
+use Rattle.fws_top.specs.Plan.{Plan, says, shows, reads, asks_plan}
+use Rattle.fws_top.specs.Tables.{IsWanted}
 
--- this refusal
-abbrev pub Refuses : List ℕ → Answer → Type 0
-Refuses line a = (a.status ≡ status.Refused) × (a.text ≡ line)
+-- Answers
 
--- the name had a fault in this call
-abbrev pub Faulted : List ℕ → (List ℕ → ℕ) → (List ℕ → ℕ) → Answer → Type 0
-Faulted name old new a = (a.status ≡ status.ReadFault) × (a.text ≡ cannot_read_line name) × Rose (old name) (new name)
+-- the name had a fault, and the text says so
+pub record FaultSaid (name : List ℕ) (old new : List ℕ → ℕ) (s : Status) (t : List ℕ) : Type 0 where
+  pub fault : s ≡ status.ReadFault
+  pub rose : Rose (old name) (new name)
+  pub says_so : t ≡ cannot_read_line name
 
--- the name holds too much
-abbrev pub HeldTooMuch : List ℕ → Option (List ℕ → List ℕ) → (List ℕ → ℕ) → (List ℕ → ℕ) → Answer → Type 0
-HeldTooMuch name told old new a = Refuses (too_long_line name) a × (new ≡ old)
-    × ((held : List ℕ → List ℕ) → told ≡ Some held → FILE_LIMIT < length (held name))
+-- the bytes are those that the name holds, where that is told
+abbrev pub IsHeld : Option (List ℕ → List ℕ) → List ℕ → List ℕ → Type 0
+IsHeld told name bytes = (held : List ℕ → List ℕ) → told ≡ Some held → bytes ≡ held name
 
--- a file is taken, or it had a fault, or it is too long
-abbrev pub TakeStopped : List ℕ → Option (List ℕ → List ℕ) → (List ℕ → ℕ) → (List ℕ → ℕ) → Stop → Type 0
-TakeStopped name told old new (Due a) = Faulted name old new a ⊎ HeldTooMuch name told old new a
-TakeStopped name told old new Memory = Unit {0}
+-- the plan is answered so: each file that it reads has a fault, which ends it, or gives bytes, by which it goes on
+abbrev pub Answered : Plan → Option (List ℕ → List ℕ) → (List ℕ → ℕ) → (List ℕ → ℕ) → Status → List ℕ → Type 0
+Answered (says due_status due_text) told old new s t = IsFaultless due_status × (new ≡ old) × (s ≡ due_status) × (t ≡ due_text)
+Answered (shows wanted) told old new s t = (new ≡ old) × (s ≡ status.Ok) × IsWanted wanted t
+Answered (reads name next) told old new s t =
+    FaultSaid name old new s t ⊎ ((bytes : List ℕ) × IsHeld told name bytes × Answered (next bytes) told old new s t)
 
--- the bytes of a site are refused
-pub record SiteRefused (name bytes : List ℕ) (a : Answer) : Type 0 where
-  pub refusal : Refusal SiteCause
-  pub read : site_of bytes ≡ Err refusal
-  pub says : Refuses (site_refused_line name refusal.line refusal.cause) a
+-- Steps
 
-abbrev pub SiteStopped : List ℕ → List ℕ → Stop → Type 0
-SiteStopped name bytes (Due a) = SiteRefused name bytes a
-SiteStopped name bytes Memory = Unit {0}
+-- a plan goes on with a value: it is answered as what follows for the value is
+abbrev pub GoesOn : {X : Type 0} → ((X → Plan) → Plan) → Option (List ℕ → List ℕ) → X → Type 0
+GoesOn {X} plan told x = (next : X → Plan) (old new : List ℕ → ℕ) (s : Status) (t : List ℕ)
+    → Answered (next x) told old new s t → Answered (plan next) told old new s t
 
--- the bytes of a configuration are refused
-pub record ConfigRefused (site : Site) (name bytes : List ℕ) (a : Answer) : Type 0 where
-  pub refusal : Refusal Cause
-  pub read : config_of site bytes ≡ Err refusal
-  pub says : Refuses (config_refused_line name refusal.line refusal.cause) a
+-- a plan is answered, whatever would follow
+abbrev pub StopsAt : {X : Type 0} → ((X → Plan) → Plan) → Option (List ℕ → List ℕ) → (List ℕ → ℕ) → (List ℕ → ℕ) → Stop → Type 0
+StopsAt {X} plan told old new (Due a) = (next : X → Plan) → Answered (plan next) told old new a.status a.text
+StopsAt {X} plan told old new Memory = Unit {0}
 
--- the configuration does more than filter in built-in chains
-pub record NotBuilt (site : Site) (name bytes : List ℕ) (a : Answer) : Type 0 where
-  pub config : IptConfig
-  pub read : config_of site bytes ≡ Ok config
-  pub does_more : is_filter_only config ≡ false
-  pub says : Refuses (not_built_line name) a
+-- the whole plan is answered
+abbrev pub Stopped : Plan → Option (List ℕ → List ℕ) → (List ℕ → ℕ) → (List ℕ → ℕ) → Stop → Type 0
+Stopped plan told old new (Due a) = Answered plan told old new a.status a.text
+Stopped plan told old new Memory = Unit {0}
 
-abbrev pub ConfigStopped : Site → List ℕ → List ℕ → Stop → Type 0
-ConfigStopped site name bytes (Due a) = ConfigRefused site name bytes a ⊎ NotBuilt site name bytes a
-ConfigStopped site name bytes Memory = Unit {0}
+-- Judging bytes that were read
 
--- the words name an entry that the site lacks
+-- a plan is what follows for a value
+abbrev pub Chooses : {X : Type 0} → ((X → Plan) → Plan) → X → Type 0
+Chooses {X} plan x = (next : X → Plan) → plan next ≡ next x
+
+-- a plan says just this, whatever would follow
+abbrev pub EndsIn : {X : Type 0} → ((X → Plan) → Plan) → Stop → Type 0
+EndsIn {X} plan (Due a) = IsFaultless a.status × ((next : X → Plan) → plan next ≡ says a.status a.text)
+EndsIn {X} plan Memory = Unit {0}
+
+-- the words of a query name an entry that the site lacks
 abbrev pub AsksStopped : Site → List (List ℕ) → Stop → Type 0
-AsksStopped site asks (Due a) = (are_known site asks ≡ false) × (a.status ≡ status.Usage) × (a.text ≡ USAGE.now)
+AsksStopped site asks (Due a) = IsFaultless a.status × ((next : Plan) → asks_plan site asks next ≡ says a.status a.text)
 AsksStopped site asks Memory = Unit {0}
 
--- the command is answered
-abbrev pub CommandStopped : Command → Option (List ℕ → List ℕ) → (List ℕ → ℕ) → (List ℕ → ℕ) → Stop → Type 0
-CommandStopped command told old new (Due a) = IsAnswered command told old new a.status a.text
-CommandStopped command told old new Memory = Unit {0}
+-- Code
+
+-- flat code does with the packets of the site what the walk says
+abbrev pub Does : Flat → Site → (Packet → Kind → Outcome) → Type 0
+Does flat site walk = (p : Packet) (k : Kind) → IsPacketOf site p → means flat site p k ≡ walk p k
+
+-- flat code of a diagram that can be unfolded
+pub record IsUnfolded (d : Ifcl) (flat : Flat) : Type 0 where
+  pub ok : flat_ok flat ≡ true
+  pub unrefused : diagram_refusal d ≡ None
+  pub does : (site : Site) (p : Packet) (k : Kind) → means flat site p k ≡ diagram_means d site p k
+
+-- code that does what a walk says, for which the plan is what follows
+pub record IsCode (plan : ((Packet → Kind → Outcome) → Plan) → Plan) (site : Site) (flat : Flat) : Type 0 where
+  pub ok : flat_ok flat ≡ true
+  pub walk : Packet → Kind → Outcome
+  pub does : Does flat site walk
+  pub chooses : Chooses plan walk
+
+-- code that does what a walk says, with which the plan goes on
+pub record IsTakenCode (plan : ((Packet → Kind → Outcome) → Plan) → Plan) (told : Option (List ℕ → List ℕ)) (site : Site) (flat : Flat) : Type 0 where
+  pub ok : flat_ok flat ≡ true
+  pub walk : Packet → Kind → Outcome
+  pub does : Does flat site walk
+  pub goes_on : GoesOn plan told walk

@@ -5,9 +5,9 @@ ghost use Rattle.std.specs.List.{list_all, list_any};
 ghost use Rattle.std.specs.Str.{bytes_eq};
 ghost use Rattle.fws_num.specs.Numbers.{dec_of};
 ghost use Rattle.fws_table.specs.TableText.{entry_name};
-ghost use Rattle.fws_top.specs.Asks.{is_entry, set_is_known, word_is_known, are_known, subject_of, number_of, field_value, items_of, ordered, range_of, is_item, is_set, verdict_asked, is_asked, ask_of, asks_about, asks_last, are_asks};
+ghost use Rattle.fws_top.specs.Asks.{is_entry, set_is_known, word_is_known, are_known, subject_of, number_of, field_value, items_of, ordered, range_of, is_item, is_set, verdict_asked, is_asked, ask_of, asks_about, asks_last, are_asks, is_shown, asks_shown, are_shown};
 
-use fws_net::Site;
+use fws_net::{Site, State};
 use fws_num::{Text, behind_is_shorter, read_dec, read_quad, split_once, value_named};
 
 /// What a word of a query asks about.
@@ -29,12 +29,20 @@ pub(crate) enum Subject {
     Flags,
     /// Their ICMP type.
     Icmp,
+    /// The destination address with which they leave, where they are established.
+    Rdst,
+    /// That destination's port.
+    Rdport,
+    /// The source address with which they leave.
+    Rsrc,
+    /// That source's port.
+    Rsport,
     /// What becomes of them.
     Verdict,
 }
 
 /// The words before the `=` and what they ask about.
-const SUBJECTS: [(&[u8], Subject); 9] = [
+const SUBJECTS: [(&[u8], Subject); 13] = [
     (b"entry", Subject::Entry),
     (b"proto", Subject::Proto),
     (b"dst", Subject::Dst),
@@ -43,6 +51,10 @@ const SUBJECTS: [(&[u8], Subject); 9] = [
     (b"sport", Subject::Sport),
     (b"flags", Subject::Flags),
     (b"icmp", Subject::Icmp),
+    (b"rdst", Subject::Rdst),
+    (b"rdport", Subject::Rdport),
+    (b"rsrc", Subject::Rsrc),
+    (b"rsport", Subject::Rsport),
     (b"verdict", Subject::Verdict),
 ];
 
@@ -72,7 +84,11 @@ pub(crate) fn number_of(subject: Subject) -> usize
         Subject::Sport => 5,
         Subject::Flags => 6,
         Subject::Icmp => 7,
-        Subject::Verdict => 8,
+        Subject::Rdst => 8,
+        Subject::Rdport => 9,
+        Subject::Rsrc => 10,
+        Subject::Rsport => 11,
+        Subject::Verdict => 12,
     }
 }
 
@@ -90,8 +106,10 @@ fn read_value(subject: Subject, text: &[u8]) -> Option<u32>
     match subject {
         Subject::Entry | Subject::Verdict => None,
         Subject::Proto | Subject::Icmp => read_number(text, 255),
-        Subject::Dst | Subject::Src => read_quad(text),
-        Subject::Dport | Subject::Sport => read_number(text, 65535),
+        Subject::Dst | Subject::Src | Subject::Rdst | Subject::Rsrc => read_quad(text),
+        Subject::Dport | Subject::Sport | Subject::Rdport | Subject::Rsport => {
+            read_number(text, 65535)
+        }
         Subject::Flags => read_number(text, 63),
     }
 }
@@ -232,6 +250,33 @@ pub(crate) fn are_asks(words: &[Text]) -> bool
         }
     }
     true
+}
+
+/// Whether a subject is shown of packets of the state: the ends with which they leave are of established ones alone.
+fn is_shown(state: State, subject: Subject) -> bool
+    ensures { result ≡ is_shown state subject }
+{
+    match (state, subject) {
+        (State::Fresh, Subject::Rdst | Subject::Rdport | Subject::Rsrc | Subject::Rsport) => false,
+        _ => true,
+    }
+}
+
+/// Whether a word asks about what is shown.
+fn asks_shown(state: State, word: &[u8]) -> bool
+    ensures { result ≡ asks_shown state word.now }
+{
+    match read_word(word) {
+        Some((subject, _)) => is_shown(state, subject),
+        None => false,
+    }
+}
+
+/// Whether each word asks about what is shown of packets of the state.
+pub(crate) fn are_shown(state: State, words: &[Text]) -> bool
+    ensures { result ≡ are_shown state words.now }
+{
+    words.iter().all(|word| asks_shown(state, word.as_slice()))
 }
 
 /// Whether the entry with this number has the name.

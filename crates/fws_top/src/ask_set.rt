@@ -1,6 +1,6 @@
 //! The packets that the words of a query ask for.
 
-ghost use Rattle.std.specs.Prelude.{◌≡◌, ◌≤◌, ◌+◌, ◌&&◌, ℕ, List, length, slice_index, is_some, nat_le, true, false, IfOk, OnOk};
+ghost use Rattle.std.specs.Prelude.{◌≡◌, ◌≤◌, ◌<◌, ◌+◌, ◌&&◌, ℕ, List, length, slice_index, is_some, nat_le, true, false, IfOk, OnOk};
 ghost use Rattle.std.specs.List.{list_any};
 ghost use Rattle.std.specs.Option.{option_map_or};
 ghost use Rattle.std.specs.Str.{bytes_eq};
@@ -79,7 +79,8 @@ fn narrow_side(
     subject: Subject,
     set: &[u8],
 ) -> Result<(), Memory>
-    requires { IsSound site.now }
+    requires sound { IsSound site.now }
+    requires field { number_of subject < 12 }
     ensures { OnOk result (AreNarrowed site.now (λ p. set_has site.now subject set.now (slice_index p (number_of subject))) sides.old sides.new) }
 {
     if is(set, b"*") {

@@ -2,12 +2,14 @@
 
 ghost use Rattle.std.specs.Prelude.{◌≡◌};
 ghost use Rattle.std.specs.Str.{bytes_eq};
-ghost use Rattle.fws_top.specs.Forms.{command_of, single_command, site_command, state_command, asked, IsSpelled};
+ghost use Rattle.fws_top.specs.Forms.{lang_of, state_of, command_of, single_command, site_command, synth_command, query_command, state_command, table_command, trace_command, source_command, asked, IsSpelled};
 
-use crate::ask::are_asks;
+use crate::ask::{are_asks, are_shown};
+use crate::lang::SourceLang;
+use fws_net::State;
 use fws_num::Text;
 
-/// What the words of a command line ask for.
+/// What the words of a command line ask for. Files stand by their names.
 #[derive(Clone, Copy)]
 pub(crate) enum Form<'a> {
     /// Nothing: they are no form.
@@ -16,11 +18,14 @@ pub(crate) enum Form<'a> {
     Help,
     /// The version.
     Version,
-    /// The table of new packets, from the names of a site file and of a configuration.
-    Synth(&'a [u8], &'a [u8]),
+    /// The table of a configuration at a site, for the packets of a state.
+    Synth(SourceLang, &'a [u8], &'a [u8], State),
     /// The same table of the packets that further words ask for.
-    Query(&'a [u8], &'a [u8], &'a [Text]),
-    /// The site of a site file in its second form, from the name of the file.
+    Query(SourceLang, &'a [u8], &'a [u8], State, &'a [Text]),
+    /// What a configuration at a site makes of packets, against tracked connections: site, configuration, connections
+    /// and packets.
+    Trace(SourceLang, &'a [u8], &'a [u8], &'a [u8], &'a [u8]),
+    /// A site in its second form.
     SecondForm(&'a [u8]),
 }
 
@@ -28,6 +33,30 @@ fn is(word: &Text, text: &[u8]) -> bool
     ensures { result ≡ bytes_eq word.now text.now }
 {
     word.as_slice() == text
+}
+
+/// The language of a configuration.
+fn read_lang(word: &Text) -> Option<SourceLang>
+    ensures { result ≡ lang_of word.now }
+{
+    if is(word, b"iptables") {
+        Some(SourceLang::Iptables)
+    } else {
+        None
+    }
+}
+
+/// Which packets a table is about.
+fn read_state(word: &Text) -> Option<State>
+    ensures { result ≡ state_of word.now }
+{
+    if is(word, b"new") {
+        Some(State::Fresh)
+    } else if is(word, b"est") {
+        Some(State::Est)
+    } else {
+        None
+    }
 }
 
 fn read_single(word: &Text) -> Form<'_>
@@ -55,21 +84,108 @@ fn read_site_command<'a>(command: &Text, site: &'a [u8]) -> Form<'a>
     }
 }
 
-/// What a command asks of a site and a configuration.
-fn read_state<'a>(command: &Text, site: &'a [u8], file: &'a [u8], asks: &'a [Text]) -> Form<'a>
-    ensures asked { asked result ≡ state_command command.now site.now file.now asks.now }
+/// `synth` takes no further words.
+fn read_synth<'a>(
+    lang: SourceLang,
+    site: &'a [u8],
+    file: &'a [u8],
+    state: State,
+    rest: &[Text],
+) -> Form<'a>
+    ensures asked { asked result ≡ synth_command lang site.now file.now state rest.now }
     ensures spelled { IsSpelled result }
 {
-    if is(command, b"query") {
-        if are_asks(asks) {
-            Form::Query(site, file, asks)
-        } else {
-            Form::Unknown
-        }
-    } else if is(command, b"synth") && asks.is_empty() {
-        Form::Synth(site, file)
+    match rest {
+        [] => Form::Synth(lang, site, file, state),
+        _ => Form::Unknown,
+    }
+}
+
+/// The further words of `query` are well spelled, and ask about fields that the table shows.
+fn read_query<'a>(
+    lang: SourceLang,
+    site: &'a [u8],
+    file: &'a [u8],
+    state: State,
+    asks: &'a [Text],
+) -> Form<'a>
+    ensures asked { asked result ≡ query_command lang site.now file.now state asks.now }
+    ensures spelled { IsSpelled result }
+{
+    if are_asks(asks) && are_shown(state, asks) {
+        Form::Query(lang, site, file, state, asks)
     } else {
         Form::Unknown
+    }
+}
+
+/// What a command asks of the packets of a state.
+fn read_state_command<'a>(
+    command: &Text,
+    lang: SourceLang,
+    site: &'a [u8],
+    file: &'a [u8],
+    state: State,
+    rest: &'a [Text],
+) -> Form<'a>
+    ensures asked { asked result ≡ state_command command.now lang site.now file.now state rest.now }
+    ensures spelled { IsSpelled result }
+{
+    if is(command, b"synth") {
+        read_synth(lang, site, file, state, rest)
+    } else if is(command, b"query") {
+        read_query(lang, site, file, state, rest)
+    } else {
+        Form::Unknown
+    }
+}
+
+/// What a command asks of tables.
+fn read_table_command<'a>(
+    command: &Text,
+    lang: SourceLang,
+    site: &'a [u8],
+    file: &'a [u8],
+    rest: &'a [Text],
+) -> Form<'a>
+    ensures asked { asked result ≡ table_command command.now lang site.now file.now rest.now }
+    ensures spelled { IsSpelled result }
+{
+    let [word, rest @ ..] = rest else {
+        return Form::Unknown;
+    };
+    match read_state(word) {
+        Some(state) => read_state_command(command, lang, site, file, state, rest),
+        None => Form::Unknown,
+    }
+}
+
+/// `trace` takes two further names.
+fn read_trace<'a>(lang: SourceLang, site: &'a [u8], file: &'a [u8], rest: &'a [Text]) -> Form<'a>
+    ensures asked { asked result ≡ trace_command lang site.now file.now rest.now }
+    ensures spelled { IsSpelled result }
+{
+    match rest {
+        [conns, packets] => Form::Trace(lang, site, file, conns.as_slice(), packets.as_slice()),
+        _ => Form::Unknown,
+    }
+}
+
+/// What a command asks of a configuration at a site.
+fn read_source_command<'a>(
+    command: &Text,
+    lang: SourceLang,
+    site: &'a [u8],
+    file: &'a [u8],
+    rest: &'a [Text],
+) -> Form<'a>
+    ensures asked { asked result ≡ source_command command.now lang site.now file.now rest.now }
+    ensures spelled { IsSpelled result }
+{
+    if is(command, b"trace") {
+        read_trace(lang, site, file, rest)
+    } else {
+        read_table_command(command, lang, site, file, rest)
     }
 }
 
@@ -81,13 +197,12 @@ pub(crate) fn read_form(words: &[Text]) -> Form<'_>
     match words {
         [word] => read_single(word),
         [command, site] => read_site_command(command, site.as_slice()),
-        [command, lang, site, file, state, asks @ ..] => {
-            if is(lang, b"iptables") && is(state, b"new") {
-                read_state(command, site.as_slice(), file.as_slice(), asks)
-            } else {
-                Form::Unknown
+        [command, word, site, file, rest @ ..] => match read_lang(word) {
+            Some(lang) => {
+                read_source_command(command, lang, site.as_slice(), file.as_slice(), rest)
             }
-        }
+            None => Form::Unknown,
+        },
         _ => Form::Unknown,
     }
 }

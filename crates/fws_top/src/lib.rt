@@ -2,17 +2,27 @@
 #![tactic(auto)]
 
 mod answer;
+mod answering;
 mod ask;
 mod ask_set;
+mod commands;
 mod form;
+mod iptables;
+mod lang;
 mod lines;
+mod policy;
 mod running;
+mod source;
 mod status;
+mod steps;
 mod tables;
 #[cfg(test)]
 mod tests;
 mod texts;
 
+pub use iptables::Iptables;
+pub use lang::SourceLang;
 pub use running::run;
+pub use source::Source;
 pub use status::Status;
 pub use texts::{FILE_LIMIT, HELP, USAGE, VERSION};

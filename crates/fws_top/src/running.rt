@@ -2,10 +2,9 @@
 
 ghost use Rattle.std.specs.Prelude.{◌≡◌, List, ℕ};
 ghost use Rattle.fws_io.specs.Outside.{Rose, with_more};
-ghost use Rattle.fws_top.specs.Due.{IsFaultless, IsTold, CanEnd, DueCommand, IsReadFault, IsCutShort};
-ghost use Rattle.fws_top.specs.Forms.{command_of};
+ghost use Rattle.fws_top.specs.Due.{IsFaultless, IsTold, CanEnd, Due, IsReadFault, IsCutShort, plan_for};
 
-use crate::answer::answer_to;
+use crate::answering::answer_to;
 use crate::status::Status;
 use fws_io::{Failed, Shelf, Sink, write_all};
 use fws_num::{Memory, Text};
@@ -17,19 +16,19 @@ pub fn run<S: Shelf, K: Sink>(alloc: Global, words: &[Text], shelf: &mut S, sink
     ensures same { S.told shelf.new ≡ S.told shelf.old }
 
     // Without a fault, status and text are those that are due for what the names hold, and just that text was written.
-    ensures due { IsFaultless result → (held : List ℕ → List ℕ) → IsTold (command_of words.now) (S.told shelf.old) held
-        → (t : List ℕ) × DueCommand (command_of words.now) held result t × (K.written sink.new ≡ with_more (K.written sink.old) t) }
-    ensures ends { IsFaultless result → CanEnd (command_of words.now) result }
+    ensures due { IsFaultless result → (held : List ℕ → List ℕ) → IsTold (plan_for words.now) (S.told shelf.old) held
+        → (t : List ℕ) × Due (plan_for words.now) held result t × (K.written sink.new ≡ with_more (K.written sink.old) t) }
+    ensures ends { IsFaultless result → CanEnd (plan_for words.now) result }
     ensures quiet { IsFaultless result → (S.faults shelf.new ≡ S.faults shelf.old) × (K.faults sink.new ≡ K.faults sink.old) }
 
     // A read fault: the name whose turn it was had a fault in this call, and that was written.
     ensures read_fault { result ≡ Status.ReadFault
-        → (t : List ℕ) × IsReadFault (command_of words.now) (S.told shelf.old) (S.faults shelf.old) (S.faults shelf.new) t
+        → (t : List ℕ) × IsReadFault (plan_for words.now) (S.told shelf.old) (S.faults shelf.old) (S.faults shelf.new) t
         × (K.written sink.new ≡ with_more (K.written sink.old) t) × (K.faults sink.new ≡ K.faults sink.old) }
 
     // A write fault: the sink had one in this call, and only the first bytes of what was to be said were written.
     ensures write_fault { result ≡ Status.WriteFault → Rose (K.faults sink.old) (K.faults sink.new)
-        × IsCutShort (command_of words.now) (S.told shelf.old) (S.faults shelf.old) (S.faults shelf.new) (K.written sink.old) (K.written sink.new) }
+        × IsCutShort (plan_for words.now) (S.told shelf.old) (S.faults shelf.old) (S.faults shelf.new) (K.written sink.old) (K.written sink.new) }
 
     // Want of memory: nothing was written.
     ensures memory { result ≡ Status.Memory → (K.written sink.new ≡ K.written sink.old) × (K.faults sink.new ≡ K.faults sink.old) }

@@ -1,29 +1,51 @@
-//! The tables of a configuration.
+//! The texts that show what code does.
 
-ghost use Rattle.std.specs.Prelude.{true, ◌≡◌, IfOk};
-ghost use Rattle.fws_ipt.specs.FilterOnly.{is_filter_only};
-ghost use Rattle.fws_ipt.specs.Soundness.{is_fitting};
+ghost use Rattle.std.specs.Prelude.{◌≡◌, ℕ, List, Some, All, true, IfOk};
+ghost use Rattle.fws_box.specs.Sides.{IsWithin};
+ghost use Rattle.fws_flat.specs.Soundness.{flat_ok};
+ghost use Rattle.fws_net.specs.declared.connection.Kind.{Kind};
+ghost use Rattle.fws_net.specs.declared.outcome.Outcome.{Outcome};
+ghost use Rattle.fws_net.specs.declared.packet.Packet.{Packet};
+ghost use Rattle.fws_net.specs.Points.{tops_of};
 ghost use Rattle.fws_net.specs.Routes.{IsSound};
 ghost use Rattle.fws_top.specs.Asks.{are_asks};
-ghost use Rattle.fws_top.specs.Due.{IsAskedTable, IsNewTable};
+ghost use Rattle.fws_top.specs.Stops.{Does};
+ghost use Rattle.fws_top.specs.Tables.{IsAskedTable, IsTable, walked_at};
+ghost use Rattle.fws_trace.specs.PacketText.{IsOfSite};
+ghost use Rattle.fws_trace.specs.TraceText.{trace_text};
+ghost use Rattle.fws_tree.specs.Plain.{IsReduced, value};
 
 use crate::ask_set::read_ask;
-use fws_filter::filter_tree;
-use fws_ipt::IptConfig;
-use fws_net::{Site, State};
+use fws_exec::execute_tree;
+use fws_flat::Flat;
+use fws_net::{Conn, Outcome, Packet, Site, State};
 use fws_num::{Memory, Text};
 use fws_table::{put_table, query};
+use fws_trace::trace;
+use fws_tree::{Tables, Tree};
 use std::alloc::Global;
 
-/// The text of the table of new packets.
-pub(crate) fn new_table(alloc: Global, site: &Site, config: &IptConfig) -> Result<Text, Memory>
+/// The tree of what code makes of the packets of a state.
+fn tree_of(alloc: Global, site: &Site, code: &Flat, state: State) -> Result<Tree<Outcome>, Memory>
     requires sound { IsSound site.now }
-    requires fits { is_fitting config.now ≡ true }
-    requires filters { is_filter_only config.now ≡ true }
-    ensures { IfOk result (IsNewTable config.now site.now) }
+    requires ok { flat_ok code.now ≡ true }
+    ensures tops { IfOk result (λ t. t.0 ≡ tops_of site.now) }
+    ensures reduced { IfOk result (λ t. IsReduced (tops_of site.now) t.1) }
+    ensures walked { (walk : Packet → Kind → Outcome) → Does code.now site.now walk
+        → IfOk result (λ t. (p : List ℕ) → IsWithin (tops_of site.now) p → value t.1 p ≡ Some (walked_at walk state p)) }
 {
-    let tree = filter_tree(alloc, site, config)?;
-    let text = put_table(alloc, site, State::Fresh, &tree)?;
+    let tree = execute_tree(alloc, code, site, state)?;
+    Ok(tree)
+}
+
+/// The table of the packets of a state.
+pub(crate) fn table(alloc: Global, site: &Site, code: &Flat, state: State) -> Result<Text, Memory>
+    requires sound { IsSound site.now }
+    requires ok { flat_ok code.now ≡ true }
+    ensures { (walk : Packet → Kind → Outcome) → Does code.now site.now walk → IfOk result (IsTable site.now state walk) }
+{
+    let tree = tree_of(alloc, site, code, state)?;
+    let text = put_table(alloc, site, state, &tree)?;
     Ok(text)
 }
 
@@ -31,17 +53,37 @@ pub(crate) fn new_table(alloc: Global, site: &Site, config: &IptConfig) -> Resul
 pub(crate) fn asked_table(
     alloc: Global,
     site: &Site,
-    config: &IptConfig,
+    code: &Flat,
+    state: State,
     asks: &[Text],
 ) -> Result<Text, Memory>
     requires sound { IsSound site.now }
-    requires fits { is_fitting config.now ≡ true }
-    requires filters { is_filter_only config.now ≡ true }
+    requires ok { flat_ok code.now ≡ true }
     requires spelled { are_asks asks.now ≡ true }
-    ensures { IfOk result (IsAskedTable config.now site.now asks.now) }
+    ensures { (walk : Packet → Kind → Outcome) → Does code.now site.now walk → IfOk result (IsAskedTable site.now state asks.now walk) }
 {
-    let tree = filter_tree(alloc, site, config)?;
+    let tree = tree_of(alloc, site, code, state)?;
     let ask = read_ask(alloc, site, asks)?;
-    let text = query(alloc, site, State::Fresh, &tree, &ask)?;
+    let text = query(alloc, site, state, &tree, &ask)?;
+    Ok(text)
+}
+
+/// What code makes of packets against tracked connections.
+pub(crate) fn traced(
+    alloc: Global,
+    site: &Site,
+    code: &Flat,
+    conns: &[Conn],
+    packets: &[Packet],
+) -> Result<Text, Memory>
+    requires sound { IsSound site.now }
+    requires ok { flat_ok code.now ≡ true }
+    requires of_site { All (IsOfSite site.now) packets.now }
+    ensures { (walk : Packet → Kind → Outcome) → Does code.now site.now walk → IfOk result (λ text. text ≡ trace_text walk conns.now packets.now) }
+{
+    let fresh = tree_of(alloc, site, code, State::Fresh)?;
+    let est = tree_of(alloc, site, code, State::Est)?;
+    let tables = Tables { fresh, est };
+    let text = trace(alloc, site, &tables, conns, packets)?;
     Ok(text)
 }

@@ -1,3 +1,0 @@
-pub mod AreaChanges
-pub mod RowChanges
-pub mod Walking

@@ -1,0 +1,33 @@
+use Rattle.std.proofs.Common.{IfOk, subst, sym}
+use Rattle.fws_top.specs.declared.form.Form.{Form}
+use Rattle.fws_top.specs.Forms.{asked, synth, query, trace}
+use Rattle.fws_top.specs.Plan.{plan_of}
+use Rattle.fws_top.specs.Stops.{Answered}
+use Rattle.fws_top.proofs.answering.follow.Goals as goal
+
+pub returns-in-Synth-clause-answered : goal.returns-in-Synth-clause-answered
+returns-in-Synth-clause-answered g c =
+    let w = c.in-Synth in
+    let told = g.S.Shelf.told c.args.shelf.now in
+    let old = g.S.Shelf.faults c.args.shelf.now in
+    let new = g.S.Shelf.faults c.synth.new.shelf in
+    subst (λ (form : Form). IfOk c.ended.result (λ answer. Answered (plan_of (asked form)) told old new answer.status answer.text)) (sym w.is)
+    (c.ended.ensures (plan_of (synth w.lang w.site.now w.file.now w.state)) told old new c.synth.ensures.answered c.synth.ensures.stopped)
+
+pub returns-in-Query-clause-answered : goal.returns-in-Query-clause-answered
+returns-in-Query-clause-answered g c =
+    let w = c.in-Query in
+    let told = g.S.Shelf.told c.args.shelf.now in
+    let old = g.S.Shelf.faults c.args.shelf.now in
+    let new = g.S.Shelf.faults c.query.new.shelf in
+    subst (λ (form : Form). IfOk c.ended-in-Query.result (λ answer. Answered (plan_of (asked form)) told old new answer.status answer.text)) (sym w.is)
+    (c.ended-in-Query.ensures (plan_of (query w.lang w.site.now w.file.now w.state w.asks.now)) told old new c.query.ensures.answered c.query.ensures.stopped)
+
+pub returns-in-Trace-clause-answered : goal.returns-in-Trace-clause-answered
+returns-in-Trace-clause-answered g c =
+    let w = c.in-Trace in
+    let told = g.S.Shelf.told c.args.shelf.now in
+    let old = g.S.Shelf.faults c.args.shelf.now in
+    let new = g.S.Shelf.faults c.trace.new.shelf in
+    subst (λ (form : Form). IfOk c.ended-in-Trace.result (λ answer. Answered (plan_of (asked form)) told old new answer.status answer.text)) (sym w.is)
+    (c.ended-in-Trace.ensures (plan_of (trace w.lang w.site.now w.file.now w.conns.now w.packets.now)) told old new c.trace.ensures.answered c.trace.ensures.stopped)

@@ -1,9 +1,0 @@
-use Rattle.fws_top.proofs.tables.new_table.Goals as goal
-
-pub returns : goal.returns
-returns c = record {
-  tree = c.in_ok-tree.tree.1;
-  reduced = c.in_ok-tree.ensures.reduced;
-  walked = c.in_ok-tree.ensures.walked;
-  spelled = c.in_ok-text.ensures;
-}

@@ -1,0 +1,95 @@
+-- What the text of a configuration means at a site: it is refused, or it makes something of each packet.
+use Rattle.std.specs.Prelude.{◌≡◌, ℕ, ◌+◌, ◌≤◌, Option, Some, None, Result, Ok, Err, List, [], length, slice_get}
+use Rattle.std.specs.Option.{option_map, option_map_or}
+use Rattle.fws_ifcl.specs.declared.diagram.Chain.{Chain}
+use Rattle.fws_ifcl.specs.declared.diagram.Ifcl.{Ifcl}
+use Rattle.fws_ifcl.specs.declared.refusal.UnfoldRefusal.{UnfoldRefusal}
+use Rattle.fws_ifcl.specs.declared.refusal.UnfoldRefusal.TheVariants.{Loop, Deep, Long}
+use Rattle.fws_ifcl.specs.Refusals.{refusal_of}
+use Rattle.fws_ipt.specs.declared.config.IptChain.{IptChain}
+use Rattle.fws_ipt.specs.declared.config.IptConfig.{IptConfig}
+use Rattle.fws_ipt.specs.declared.refusal.UnfoldRefusal.{UnfoldRefusal as IptRefusal}
+use Rattle.fws_ipt.specs.declared.refusal.UnfoldRefusal.TheVariants as ipt
+use Rattle.fws_ipt.specs.FileText.{spelled as ipt_spelled}
+use Rattle.fws_ipt.specs.Refusals.{refusal_of as ipt_refusal_of}
+use Rattle.fws_ipt.specs.Walk.{walk as ipt_walk}
+use Rattle.fws_net.specs.declared.cause.Cause.{Cause}
+use Rattle.fws_net.specs.declared.connection.Kind.{Kind}
+use Rattle.fws_net.specs.declared.outcome.Outcome.{Outcome}
+use Rattle.fws_net.specs.declared.packet.Packet.{Packet}
+use Rattle.fws_net.specs.declared.site.Site.{Site}
+use Rattle.fws_net.specs.Reading.{Refusal}
+use Rattle.fws_top.specs.declared.lang.SourceLang.{SourceLang}
+use Rattle.fws_top.specs.declared.lang.SourceLang.TheVariants.{Iptables}
+use Rattle.fws_top.specs.Lines.{line_words, loop_words, deep_words, long_words, cause_text}
+
+-- Refusals for the chains
+
+-- why chains can't be unfolded, with the name of a chain: it reaches itself, a path from it is too deep, or the rules
+-- become too many there
+pub data ChainRefusal : Type 0 where
+  loop_at : List ℕ → ChainRefusal
+  deep_at : List ℕ → ChainRefusal
+  long_at : List ℕ → ChainRefusal
+
+-- the words that say so
+abbrev pub chain_words : ChainRefusal → List ℕ
+chain_words (loop_at name) = loop_words name
+chain_words (deep_at name) = deep_words name
+chain_words (long_at name) = long_words name
+
+-- the name of a diagram's chain
+abbrev pub chain_name : List Chain → ℕ → List ℕ
+chain_name chains n = option_map_or (λ chain. chain.name) (slice_get chains n) []
+
+-- the refusal at the chain with this number
+abbrev pub named_refusal : List Chain → UnfoldRefusal → ChainRefusal
+named_refusal chains (Loop n) = loop_at (chain_name chains n)
+named_refusal chains (Deep n) = deep_at (chain_name chains n)
+named_refusal chains (Long n) = long_at (chain_name chains n)
+
+-- why a diagram can't be unfolded
+abbrev pub diagram_refusal : Ifcl → Option ChainRefusal
+diagram_refusal d = option_map (named_refusal d.chains) (refusal_of d)
+
+-- the name of a chain of iptables
+abbrev pub ipt_chain_name : List IptChain → ℕ → List ℕ
+ipt_chain_name chains n = option_map_or (λ chain. chain.name) (slice_get chains n) []
+
+abbrev pub ipt_named_refusal : List IptChain → IptRefusal → ChainRefusal
+ipt_named_refusal chains (ipt.Loop n) = loop_at (ipt_chain_name chains n)
+ipt_named_refusal chains (ipt.Deep n) = deep_at (ipt_chain_name chains n)
+ipt_named_refusal chains (ipt.Long n) = long_at (ipt_chain_name chains n)
+
+-- why a configuration of iptables can't be unfolded on a site
+abbrev pub ipt_refusal : Site → IptConfig → Option ChainRefusal
+ipt_refusal site c = option_map (ipt_named_refusal c.chains) (ipt_refusal_of site c)
+
+-- Judging
+
+-- a packet of the site: it comes from the host, loopback or an interface
+abbrev pub IsPacketOf : Site → Packet → Type 0
+IsPacketOf site p = p.entry ≤ length site.faces + 1
+
+-- a text is refused with these words, or accepted with what it makes of the packets of each class
+pub data Judged : Type 0 where
+  refused : List ℕ → Judged
+  accepted : (Packet → Kind → Outcome) → Judged
+
+-- a configuration whose chains can't be unfolded is refused
+abbrev pub judged_chains : Option ChainRefusal → (Packet → Kind → Outcome) → Judged
+judged_chains None walk = accepted walk
+judged_chains (Some refusal) walk = refused (chain_words refusal)
+
+-- the first bad line is refused, then the chains; the walk of what is left decides
+abbrev pub judged_by : {C : Type 0} → (C → Option ChainRefusal) → (C → Packet → Kind → Outcome) → Result C (Refusal Cause) → Judged
+judged_by refusal walk (Err r) = refused (line_words r.line (cause_text r.cause))
+judged_by refusal walk (Ok config) = judged_chains (refusal config) (walk config)
+
+-- the configuration is that of some text
+abbrev pub HasText : {C : Type 0} → (List ℕ → Result C (Refusal Cause)) → C → Type 0
+HasText spelled config = (text : List ℕ) × (spelled text ≡ Ok config)
+
+-- what a text means in a language at a site
+abbrev pub judge : SourceLang → Site → List ℕ → Judged
+judge Iptables site text = judged_by (ipt_refusal site) (λ config. ipt_walk config site) (ipt_spelled site text)

@@ -1,0 +1,66 @@
+//! From the words of a command line to what is answered.
+
+ghost use Rattle.std.specs.Prelude.{◌≡◌, ℕ, List, Option, IfOk, IfErr};
+ghost use Rattle.fws_top.specs.Due.{IsAnswered, plan_for};
+ghost use Rattle.fws_top.specs.Forms.{IsSpelled, asked};
+ghost use Rattle.fws_top.specs.Plan.{Plan, plan_of};
+ghost use Rattle.fws_top.specs.Stops.{Answered, Stopped};
+
+use crate::answer::{Answer, Stop, said};
+use crate::commands::{query, second_form, synth, trace};
+use crate::form::{Form, read_form};
+use crate::status::Status;
+use crate::texts::{HELP, USAGE, VERSION};
+use fws_io::Shelf;
+use fws_num::{Memory, Text};
+use std::alloc::Global;
+
+/// The text of a command that went well, or the answer in its place.
+fn ended(text: Result<Text, Stop>) -> Result<Answer, Memory>
+    ensures { (plan : Plan) (told : Option (List ℕ → List ℕ)) (old new : List ℕ → ℕ) → IfOk text (Answered plan told old new Status.Ok)
+        → IfErr text (Stopped plan told old new) → IfOk result (λ answer. Answered plan told old new answer.status answer.text) }
+{
+    match text {
+        Ok(text) => Ok(Answer {
+            status: Status::Ok,
+            text,
+        }),
+        Err(Stop::Due(answer)) => Ok(answer),
+        Err(Stop::Memory) => Err(Memory),
+    }
+}
+
+/// What the form of a command line asks for.
+fn follow<S: Shelf>(alloc: Global, form: &Form<'_>, shelf: &mut S) -> Result<Answer, Memory>
+    requires { IsSpelled form.now }
+    ensures same { S.told shelf.new ≡ S.told shelf.old }
+    ensures answered { IfOk result (λ answer. Answered (plan_of (asked form.now)) (S.told shelf.old) (S.faults shelf.old) (S.faults shelf.new) answer.status answer.text) }
+{
+    match *form {
+        Form::Unknown => said(alloc, Status::Usage, USAGE),
+        Form::Help => said(alloc, Status::Ok, HELP),
+        Form::Version => said(alloc, Status::Ok, VERSION),
+        Form::Synth(lang, site, file, state) => ended(synth(alloc, shelf, lang, site, file, state)),
+        Form::Query(lang, site, file, state, asks) => {
+            ended(query(alloc, shelf, lang, site, file, state, asks))
+        }
+        Form::Trace(lang, site, file, conns, packets) => {
+            ended(trace(alloc, shelf, lang, site, file, conns, packets))
+        }
+        Form::SecondForm(site) => ended(second_form(alloc, shelf, site)),
+    }
+}
+
+/// The answer to the words.
+pub(crate) fn answer_to<S: Shelf>(
+    alloc: Global,
+    words: &[Text],
+    shelf: &mut S,
+) -> Result<Answer, Memory>
+    ensures same { S.told shelf.new ≡ S.told shelf.old }
+    ensures answered { IfOk result (λ answer. IsAnswered (plan_for words.now) (S.told shelf.old) (S.faults shelf.old) (S.faults shelf.new) answer.status answer.text) }
+{
+    let form = read_form(words);
+    let answer = follow(alloc, &form, shelf)?;
+    Ok(answer)
+}

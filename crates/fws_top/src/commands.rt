@@ -1,0 +1,95 @@
+//! The commands that read files.
+
+ghost use Rattle.std.specs.Prelude.{◌≡◌, true, IfOk, IfErr};
+ghost use Rattle.fws_top.specs.Asks.{are_asks};
+ghost use Rattle.fws_top.specs.declared.status.Status.TheVariants as status;
+ghost use Rattle.fws_top.specs.Forms.{synth, query, trace, site2};
+ghost use Rattle.fws_top.specs.Plan.{plan_of};
+ghost use Rattle.fws_top.specs.Stops.{Answered, Stopped};
+
+use crate::answer::Stop;
+use crate::lang::SourceLang;
+use crate::steps::{know_entries, take_conns, take_packets, take_site, take_source};
+use crate::tables::{asked_table, table, traced};
+use fws_io::Shelf;
+use fws_net::{State, put_site};
+use fws_num::Text;
+use std::alloc::Global;
+
+/// The table of the packets of a state.
+pub(crate) fn synth<S: Shelf>(
+    alloc: Global,
+    shelf: &mut S,
+    lang: SourceLang,
+    site_name: &[u8],
+    file_name: &[u8],
+    state: State,
+) -> Result<Text, Stop>
+    ensures same { S.told shelf.new ≡ S.told shelf.old }
+    ensures answered { IfOk result (Answered (plan_of (synth lang site_name.now file_name.now state)) (S.told shelf.old) (S.faults shelf.old) (S.faults shelf.new) status.Ok) }
+    ensures stopped { IfErr result (Stopped (plan_of (synth lang site_name.now file_name.now state)) (S.told shelf.old) (S.faults shelf.old) (S.faults shelf.new)) }
+{
+    let site = take_site(alloc, shelf, site_name)?;
+    let code = take_source(alloc, shelf, lang, &site, file_name)?;
+    let text = table(alloc, &site, &code, state)?;
+    Ok(text)
+}
+
+/// The part of that table for which the words ask.
+pub(crate) fn query<S: Shelf>(
+    alloc: Global,
+    shelf: &mut S,
+    lang: SourceLang,
+    site_name: &[u8],
+    file_name: &[u8],
+    state: State,
+    asks: &[Text],
+) -> Result<Text, Stop>
+    requires { are_asks asks.now ≡ true }
+    ensures same { S.told shelf.new ≡ S.told shelf.old }
+    ensures answered { IfOk result (Answered (plan_of (query lang site_name.now file_name.now state asks.now)) (S.told shelf.old) (S.faults shelf.old) (S.faults shelf.new) status.Ok) }
+    ensures stopped { IfErr result (Stopped (plan_of (query lang site_name.now file_name.now state asks.now)) (S.told shelf.old) (S.faults shelf.old) (S.faults shelf.new)) }
+{
+    let site = take_site(alloc, shelf, site_name)?;
+    know_entries(alloc, &site, asks)?;
+    let code = take_source(alloc, shelf, lang, &site, file_name)?;
+    let text = asked_table(alloc, &site, &code, state, asks)?;
+    Ok(text)
+}
+
+/// What becomes of listed packets against listed connections.
+pub(crate) fn trace<S: Shelf>(
+    alloc: Global,
+    shelf: &mut S,
+    lang: SourceLang,
+    site_name: &[u8],
+    file_name: &[u8],
+    conns_name: &[u8],
+    packets_name: &[u8],
+) -> Result<Text, Stop>
+    ensures same { S.told shelf.new ≡ S.told shelf.old }
+    ensures answered { IfOk result (Answered (plan_of (trace lang site_name.now file_name.now conns_name.now packets_name.now)) (S.told shelf.old) (S.faults shelf.old) (S.faults shelf.new) status.Ok) }
+    ensures stopped { IfErr result (Stopped (plan_of (trace lang site_name.now file_name.now conns_name.now packets_name.now)) (S.told shelf.old) (S.faults shelf.old) (S.faults shelf.new)) }
+{
+    let site = take_site(alloc, shelf, site_name)?;
+    let code = take_source(alloc, shelf, lang, &site, file_name)?;
+    let conns = take_conns(alloc, shelf, conns_name)?;
+    let packets = take_packets(alloc, shelf, &site, packets_name)?;
+    let text = traced(alloc, &site, &code, conns.as_slice(), packets.as_slice())?;
+    Ok(text)
+}
+
+/// The site in its second form.
+pub(crate) fn second_form<S: Shelf>(
+    alloc: Global,
+    shelf: &mut S,
+    site_name: &[u8],
+) -> Result<Text, Stop>
+    ensures same { S.told shelf.new ≡ S.told shelf.old }
+    ensures answered { IfOk result (Answered (plan_of (site2 site_name.now)) (S.told shelf.old) (S.faults shelf.old) (S.faults shelf.new) status.Ok) }
+    ensures stopped { IfErr result (Stopped (plan_of (site2 site_name.now)) (S.told shelf.old) (S.faults shelf.old) (S.faults shelf.new)) }
+{
+    let site = take_site(alloc, shelf, site_name)?;
+    let text = put_site(alloc, &site)?;
+    Ok(text)
+}

@@ -1,0 +1,8 @@
+//! The languages of configurations.
+
+/// A language in which configurations are read.
+#[derive(Clone, Copy, Debug, PartialEq, Eq)]
+pub enum SourceLang {
+    /// iptables, as iptables-save(8) writes it.
+    Iptables,
+}

@@ -1,0 +1,101 @@
+//! From the text of a configuration to flat code, once for all languages.
+
+ghost use Rattle.std.specs.Prelude.{◌≡◌, Ok, true, IfOk, IfErr};
+ghost use Rattle.fws_ifcl.specs.Soundness.{ifcl_ok};
+ghost use Rattle.fws_net.specs.declared.connection.Kind.{Kind};
+ghost use Rattle.fws_net.specs.declared.outcome.Outcome.{Outcome};
+ghost use Rattle.fws_net.specs.declared.packet.Packet.{Packet};
+ghost use Rattle.fws_net.specs.Routes.{IsSound};
+ghost use Rattle.fws_top.specs.Judged.{chain_name, diagram_refusal, judged_by, judged_chains};
+ghost use Rattle.fws_top.specs.Plan.{judged};
+ghost use Rattle.fws_top.specs.Stops.{EndsIn, IsCode, IsUnfolded};
+
+use crate::answer::{Stop, refused_for_chain, refused_for_line};
+use crate::lines::cause_text;
+use crate::source::Source;
+use fws_flat::Flat;
+use fws_ifcl::Ifcl;
+use fws_net::{ReadAnswer, Site};
+use fws_num::Memory;
+use fws_unfold::{UnfoldAnswer, unfold};
+use std::alloc::Global;
+
+/// The configuration that the bytes spell, or the refusal of a line.
+fn take_config<L: Source>(
+    alloc: Global,
+    site: &Site,
+    name: &[u8],
+    bytes: &[u8],
+) -> Result<L::Config, Stop>
+    requires { IsSound site.now }
+    ensures given { IfOk result (λ config. L.spelled site.now bytes.now ≡ Ok config) }
+    ensures refused { IfErr result (EndsIn (judged name.now (judged_by (L.refusal site.now) (λ config. L.walk config site.now) (L.spelled site.now bytes.now)))) }
+{
+    match L::read(alloc, bytes, site) {
+        Ok(config) => Ok(config),
+        Err(ReadAnswer::Memory) => Err(Stop::Memory),
+        Err(ReadAnswer::Refused { line, cause }) => Err(Stop::Due(refused_for_line(
+            alloc,
+            name,
+            line,
+            cause_text(cause),
+        )?)),
+    }
+}
+
+/// The name of a diagram's chain.
+fn chain_name(diagram: &Ifcl, chain: u32) -> &[u8]
+    ensures { result.now ≡ chain_name diagram.now.chains chain }
+{
+    match diagram.chains.as_slice().get(chain as usize) {
+        Some(chain) => chain.name.as_slice(),
+        None => b"",
+    }
+}
+
+/// The flat code of a diagram, or the refusal of a chain.
+fn take_code(alloc: Global, name: &[u8], diagram: &Ifcl) -> Result<Flat, Stop>
+    requires { ifcl_ok diagram.now ≡ true }
+    ensures code { IfOk result (IsUnfolded diagram.now) }
+    ensures refused { (walk : Packet → Kind → Outcome) → IfErr result (EndsIn (judged name.now (judged_chains (diagram_refusal diagram.now) walk))) }
+{
+    match unfold(alloc, diagram) {
+        Ok(code) => Ok(code),
+        Err(UnfoldAnswer::Memory) => Err(Stop::Memory),
+        Err(UnfoldAnswer::Loop(chain)) => Err(Stop::Due(refused_for_chain(
+            alloc,
+            name,
+            b"loop ",
+            chain_name(diagram, chain),
+        )?)),
+        Err(UnfoldAnswer::Deep(chain)) => Err(Stop::Due(refused_for_chain(
+            alloc,
+            name,
+            b"deep ",
+            chain_name(diagram, chain),
+        )?)),
+        Err(UnfoldAnswer::Long(chain)) => Err(Stop::Due(refused_for_chain(
+            alloc,
+            name,
+            b"long ",
+            chain_name(diagram, chain),
+        )?)),
+    }
+}
+
+/// Flat code that does what the configuration in the bytes does at the site, or the refusal of one of its lines or chains.
+pub(crate) fn take_policy<L: Source>(
+    alloc: Global,
+    site: &Site,
+    name: &[u8],
+    bytes: &[u8],
+) -> Result<Flat, Stop>
+    requires { IsSound site.now }
+    ensures code { IfOk result (IsCode (judged name.now (judged_by (L.refusal site.now) (λ config. L.walk config site.now) (L.spelled site.now bytes.now))) site.now) }
+    ensures refused { IfErr result (EndsIn (judged name.now (judged_by (L.refusal site.now) (λ config. L.walk config site.now) (L.spelled site.now bytes.now)))) }
+{
+    let config = take_config::<L>(alloc, site, name, bytes)?;
+    let diagram = L::to_ifcl(alloc, &config, site)?;
+    let code = take_code(alloc, name, &diagram)?;
+    Ok(code)
+}

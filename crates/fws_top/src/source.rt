@@ -1,0 +1,50 @@
+//! Languages as sources of policies.
+
+use fws_ifcl::Ifcl;
+use fws_net::{ReadAnswer, Site};
+use fws_num::Memory;
+use std::alloc::Global;
+
+/// A language in which configurations are read: its reader, the control diagrams of its configurations, and what they
+/// mean.
+pub trait Source {
+    /// What a text spells.
+    type Config: Drop;
+
+    ghost use Rattle.std.specs.Prelude.{◌≡◌, ℕ, List, Option, None, Result, true, IfOk};
+    ghost use Rattle.fws_ifcl.specs.Soundness.{ifcl_ok};
+    ghost use Rattle.fws_ifcl.specs.Walk.{means};
+    ghost use Rattle.fws_net.specs.declared.cause.Cause.{Cause};
+    ghost use Rattle.fws_net.specs.declared.connection.Kind.{Kind};
+    ghost use Rattle.fws_net.specs.declared.outcome.Outcome.{Outcome};
+    ghost use Rattle.fws_net.specs.declared.packet.Packet.{Packet};
+    ghost use Rattle.fws_net.specs.declared.site.Site.{Site};
+    ghost use Rattle.fws_net.specs.Reading.{Refusal, ReadGiven};
+    ghost use Rattle.fws_net.specs.Routes.{IsSound};
+    ghost use Rattle.fws_top.specs.Judged.{ChainRefusal, HasText, IsPacketOf, diagram_refusal};
+
+    // What a text spells at a site, or its first refused line.
+    ghost spelled: { Site → List ℕ → Result Self.Config (Refusal Cause) };
+
+    // Why the chains of a configuration can't be unfolded at a site, if they can't.
+    ghost refusal: { Site → Self.Config → Option ChainRefusal };
+
+    // What becomes of a packet of a class at a site.
+    ghost walk: { Self.Config → Site → Packet → Kind → Outcome };
+
+    /// The configuration that a text spells at a site. `Refused` comes exactly where a line is refused, and has the first
+    /// such line and its cause.
+    fn read(alloc: Global, text: &[u8], site: &Site) -> Result<Self::Config, ReadAnswer>
+        requires { IsSound site.now }
+        ensures { ReadGiven result (spelled site.now text.now) };
+
+    /// The diagram of a configuration that some text spells at the site. It is refused by unfolding as the
+    /// configuration is, at a chain of the same name; and where it isn't, packets of the site fare in it as in the
+    /// configuration.
+    fn to_ifcl(alloc: Global, c: &Self::Config, site: &Site) -> Result<Ifcl, Memory>
+        requires sound { IsSound site.now }
+        requires from_text { HasText (spelled site.now) c.now }
+        ensures ok { IfOk result (λ d. ifcl_ok d ≡ true) }
+        ensures refused { IfOk result (λ d. diagram_refusal d ≡ refusal site.now c.now) }
+        ensures means { IfOk result (λ d. refusal site.now c.now ≡ None → (p : Packet) (k : Kind) → IsPacketOf site.now p → means d site.now p k ≡ walk c.now site.now p k) };
+}

@@ -1,0 +1,195 @@
+//! The steps of commands: files that are read and judged.
+
+ghost use Rattle.std.specs.Prelude.{◌≡◌, All, true, IfOk, IfErr, OnOk};
+ghost use Rattle.fws_net.specs.Routes.{IsSound};
+ghost use Rattle.fws_net.specs.SiteLaws.{IsRead};
+ghost use Rattle.fws_net.specs.SiteText.{site_of};
+ghost use Rattle.fws_top.specs.Asks.{are_known};
+ghost use Rattle.fws_top.specs.Judged.{judge};
+ghost use Rattle.fws_top.specs.Plan.{file_plan, site_plan, source_plan, conns_plan, packets_plan, spelled_site, judged, listed};
+ghost use Rattle.fws_top.specs.Stops.{AsksStopped, Chooses, EndsIn, GoesOn, IsCode, IsTakenCode, StopsAt};
+ghost use Rattle.fws_trace.specs.ConnectionText.{conns_of};
+ghost use Rattle.fws_trace.specs.PacketText.{packets_of, IsOfSite};
+
+use crate::answer::{Answer, Stop, refused, refused_for_line, said};
+use crate::ask::are_known;
+use crate::iptables::Iptables;
+use crate::lang::SourceLang;
+use crate::lines::{cannot_read_line, site_cause_text};
+use crate::policy::take_policy;
+use crate::status::Status;
+use crate::texts::{FILE_LIMIT, USAGE};
+use fws_flat::Flat;
+use fws_io::{Shelf, ShelfAnswer};
+use fws_net::{Conn, Packet, Site, SiteAnswer, read_site};
+use fws_num::Text;
+use fws_trace::{LineAnswer, read_conns, read_packets};
+use std::alloc::Global;
+
+/// The bytes of a file. A file with a fault is a read fault, and one past the limit is refused.
+fn take<S: Shelf>(alloc: Global, shelf: &mut S, name: &[u8]) -> Result<Text, Stop>
+    ensures same { S.told shelf.new ≡ S.told shelf.old }
+    ensures quiet { OnOk result (S.faults shelf.new ≡ S.faults shelf.old) }
+    ensures goes_on { IfOk result (λ text. GoesOn (file_plan name.now) (S.told shelf.old) text) }
+    ensures stopped { IfErr result (StopsAt (file_plan name.now) (S.told shelf.old) (S.faults shelf.old) (S.faults shelf.new)) }
+{
+    match shelf.read(alloc, name, FILE_LIMIT) {
+        Ok(text) => Ok(text),
+        Err(ShelfAnswer::Memory) => Err(Stop::Memory),
+        Err(ShelfAnswer::Failed) => Err(Stop::Due(Answer {
+            status: Status::ReadFault,
+            text: cannot_read_line(alloc, name)?,
+        })),
+        Err(ShelfAnswer::TooLong(_)) => Err(Stop::Due(refused(
+            alloc,
+            name,
+            b"over 4194304 bytes",
+        )?)),
+    }
+}
+
+/// The site that the bytes spell, or its refusal.
+fn judge_site(alloc: Global, name: &[u8], bytes: &[u8]) -> Result<Site, Stop>
+    ensures sound { IfOk result IsSound }
+    ensures read { IfOk result IsRead }
+    ensures chooses { IfOk result (λ site. Chooses (spelled_site name.now (site_of bytes.now)) site) }
+    ensures refused { IfErr result (EndsIn (spelled_site name.now (site_of bytes.now))) }
+{
+    match read_site(alloc, bytes) {
+        Ok(site) => Ok(site),
+        Err(SiteAnswer::Memory) => Err(Stop::Memory),
+        Err(SiteAnswer::Refused { line, cause }) => Err(Stop::Due(refused_for_line(
+            alloc,
+            name,
+            line,
+            site_cause_text(cause),
+        )?)),
+    }
+}
+
+/// The site of a file.
+pub(crate) fn take_site<S: Shelf>(alloc: Global, shelf: &mut S, name: &[u8]) -> Result<Site, Stop>
+    ensures same { S.told shelf.new ≡ S.told shelf.old }
+    ensures quiet { OnOk result (S.faults shelf.new ≡ S.faults shelf.old) }
+    ensures sound { IfOk result IsSound }
+    ensures read { IfOk result IsRead }
+    ensures goes_on { IfOk result (λ site. GoesOn (site_plan name.now) (S.told shelf.old) site) }
+    ensures stopped { IfErr result (StopsAt (site_plan name.now) (S.told shelf.old) (S.faults shelf.old) (S.faults shelf.new)) }
+{
+    let bytes = take(alloc, shelf, name)?;
+    let site = judge_site(alloc, name, bytes.as_slice())?;
+    Ok(site)
+}
+
+/// Flat code of the configuration that the bytes spell in a language, or its refusal.
+fn judge_source(
+    alloc: Global,
+    lang: SourceLang,
+    site: &Site,
+    name: &[u8],
+    bytes: &[u8],
+) -> Result<Flat, Stop>
+    requires { IsSound site.now }
+    ensures code { IfOk result (IsCode (judged name.now (judge lang site.now bytes.now)) site.now) }
+    ensures refused { IfErr result (EndsIn (judged name.now (judge lang site.now bytes.now))) }
+{
+    match lang {
+        SourceLang::Iptables => take_policy::<Iptables>(alloc, site, name, bytes),
+    }
+}
+
+/// Flat code of the configuration of a file in a language.
+pub(crate) fn take_source<S: Shelf>(
+    alloc: Global,
+    shelf: &mut S,
+    lang: SourceLang,
+    site: &Site,
+    name: &[u8],
+) -> Result<Flat, Stop>
+    requires { IsSound site.now }
+    ensures same { S.told shelf.new ≡ S.told shelf.old }
+    ensures quiet { OnOk result (S.faults shelf.new ≡ S.faults shelf.old) }
+    ensures code { IfOk result (IsTakenCode (source_plan lang site.now name.now) (S.told shelf.old) site.now) }
+    ensures stopped { IfErr result (StopsAt (source_plan lang site.now name.now) (S.told shelf.old) (S.faults shelf.old) (S.faults shelf.new)) }
+{
+    let bytes = take(alloc, shelf, name)?;
+    let code = judge_source(alloc, lang, site, name, bytes.as_slice())?;
+    Ok(code)
+}
+
+/// The connections that the bytes list, or their refusal.
+fn judge_conns(alloc: Global, name: &[u8], bytes: &[u8]) -> Result<Vec<Conn>, Stop>
+    ensures chooses { IfOk result (λ conns. Chooses (listed name.now (conns_of bytes.now)) conns.items) }
+    ensures refused { IfErr result (EndsIn (listed name.now (conns_of bytes.now))) }
+{
+    match read_conns(alloc, bytes) {
+        Ok(conns) => Ok(conns),
+        Err(LineAnswer::Memory) => Err(Stop::Memory),
+        Err(LineAnswer::Refused { line }) => {
+            Err(Stop::Due(refused_for_line(alloc, name, line, b"syntax")?))
+        }
+    }
+}
+
+/// The connections of a file.
+pub(crate) fn take_conns<S: Shelf>(
+    alloc: Global,
+    shelf: &mut S,
+    name: &[u8],
+) -> Result<Vec<Conn>, Stop>
+    ensures same { S.told shelf.new ≡ S.told shelf.old }
+    ensures quiet { OnOk result (S.faults shelf.new ≡ S.faults shelf.old) }
+    ensures goes_on { IfOk result (λ conns. GoesOn (conns_plan name.now) (S.told shelf.old) conns.items) }
+    ensures stopped { IfErr result (StopsAt (conns_plan name.now) (S.told shelf.old) (S.faults shelf.old) (S.faults shelf.new)) }
+{
+    let bytes = take(alloc, shelf, name)?;
+    let conns = judge_conns(alloc, name, bytes.as_slice())?;
+    Ok(conns)
+}
+
+/// The packets that the bytes list, or their refusal.
+fn judge_packets(alloc: Global, site: &Site, name: &[u8], bytes: &[u8]) -> Result<Vec<Packet>, Stop>
+    requires { IsSound site.now }
+    ensures of_site { IfOk result (λ packets. All (IsOfSite site.now) packets.items) }
+    ensures chooses { IfOk result (λ packets. Chooses (listed name.now (packets_of bytes.now site.now)) packets.items) }
+    ensures refused { IfErr result (EndsIn (listed name.now (packets_of bytes.now site.now))) }
+{
+    match read_packets(alloc, bytes, site) {
+        Ok(packets) => Ok(packets),
+        Err(LineAnswer::Memory) => Err(Stop::Memory),
+        Err(LineAnswer::Refused { line }) => {
+            Err(Stop::Due(refused_for_line(alloc, name, line, b"syntax")?))
+        }
+    }
+}
+
+/// The packets of a file.
+pub(crate) fn take_packets<S: Shelf>(
+    alloc: Global,
+    shelf: &mut S,
+    site: &Site,
+    name: &[u8],
+) -> Result<Vec<Packet>, Stop>
+    requires { IsSound site.now }
+    ensures same { S.told shelf.new ≡ S.told shelf.old }
+    ensures quiet { OnOk result (S.faults shelf.new ≡ S.faults shelf.old) }
+    ensures of_site { IfOk result (λ packets. All (IsOfSite site.now) packets.items) }
+    ensures goes_on { IfOk result (λ packets. GoesOn (packets_plan site.now name.now) (S.told shelf.old) packets.items) }
+    ensures stopped { IfErr result (StopsAt (packets_plan site.now name.now) (S.told shelf.old) (S.faults shelf.old) (S.faults shelf.new)) }
+{
+    let bytes = take(alloc, shelf, name)?;
+    let packets = judge_packets(alloc, site, name, bytes.as_slice())?;
+    Ok(packets)
+}
+
+/// A site that lacks an entry that the words name makes them no command.
+pub(crate) fn know_entries(alloc: Global, site: &Site, asks: &[Text]) -> Result<(), Stop>
+    ensures known { OnOk result (are_known site.now asks.now ≡ true) }
+    ensures unknown { IfErr result (AsksStopped site.now asks.now) }
+{
+    if are_known(site, asks) {
+        Ok(())
+    } else {
+        Err(Stop::Due(said(alloc, Status::Usage, USAGE)?))
+    }
+}
