@@ -2,7 +2,6 @@ pub mod Alike
 pub mod AlikeWalks
 pub mod Apart
 pub mod Drafts
-pub mod Filtering
 pub mod Heights
 pub mod Kept
 pub mod Leaving

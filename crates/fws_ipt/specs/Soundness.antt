@@ -10,7 +10,6 @@ use Rattle.fws_ipt.specs.declared.config.IptGo.TheVariants.{Accept, Drop, Return
 use Rattle.fws_ipt.specs.declared.config.IptChain.{IptChain}
 use Rattle.fws_ipt.specs.declared.config.IptConfig.{IptConfig}
 use Rattle.fws_ipt.specs.FileText.{spelled}
-use Rattle.fws_ipt.specs.FilterOnly.{is_filter_only}
 use Rattle.fws_ipt.specs.RuleText.{is_chain, is_builtin_name}
 use Rattle.fws_ipt.specs.Walk.{is_table}
 
@@ -56,15 +55,3 @@ are_apart (chain ∷ chains) = list_all (λ later. not (is_chain later.table lat
 -- what a text spells has such chains
 abbrev pub SpelledChains : Type 0
 SpelledChains = (site : Site) (text : List ℕ) (c : IptConfig) → spelled site text ≡ Ok c → (list_all is_named c.chains ≡ true) × (are_apart c.chains ≡ true)
-
--- a rule that only filters
-abbrev pub decides_only : IptGo → Bool
-decides_only Accept = true
-decides_only Drop = true
-decides_only Return = true
-decides_only Next = true
-decides_only _ = false
-
--- where a configuration only filters, its rules accept, drop, return or go on
-abbrev pub FilterOnlyRules : Type 0
-FilterOnlyRules = (c : IptConfig) → is_fitting c ≡ true → is_filter_only c ≡ true → list_all (λ chain. list_all (λ rule. decides_only rule.go) chain.rules) c.chains ≡ true

@@ -2,7 +2,7 @@
 
 ghost use Rattle.fws_ipt.specs.Loops.{FittingNamesChains, LoopsAreFound, LoopsAreReal, RefusedLoopsAreReal, SizesStandStill, SizesUnfold, UnrefusedHaveNoLoop, WalksStandStill, WalksUnfold};
 ghost use Rattle.fws_ipt.specs.Regular.{AskedWalksAreRegular, SpelledWalksAreRegular};
-ghost use Rattle.fws_ipt.specs.Soundness.{FilterOnlyRules, SpelledChains, SpelledFits};
+ghost use Rattle.fws_ipt.specs.Soundness.{SpelledChains, SpelledFits};
 ghost use Rattle.fws_ipt.specs.Spelled.{SpelledConditions, SpelledNetworks};
 
 /// Every configuration that a text spells is fitting: a law, with nothing to do.
@@ -26,12 +26,6 @@ pub fn spelled_conditions()
 /// which it writes by a prefix that is as long or longer: a law, with nothing to do.
 pub fn spelled_networks()
     ensures { SpelledNetworks }
-{}
-
-/// Where a configuration is fitting and only filters, each of its rules accepts, drops, returns or
-/// goes on at the next: a law, with nothing to do.
-pub fn filter_only_rules()
-    ensures { FilterOnlyRules }
 {}
 
 /// A chain that reaches itself over jumps and gotos is found, although no more steps are tried than

@@ -18,10 +18,10 @@ pub use config::{IptChain, IptConfig, IptGo, IptRule, IptTable};
 pub use draft::{Expects, IptDraft, OtherChain, RuleDraft, Section};
 pub use hook::Hook;
 pub use laws::{
-    asked_walks_are_regular, filter_only_rules, fitting_names_chains, loops_are_found,
-    loops_are_real, refused_loops_are_real, sizes_stand_still, sizes_unfold, spelled_chains,
-    spelled_conditions, spelled_fits, spelled_networks, spelled_walks_are_regular,
-    unrefused_have_no_loop, walks_stand_still, walks_unfold,
+    asked_walks_are_regular, fitting_names_chains, loops_are_found, loops_are_real,
+    refused_loops_are_real, sizes_stand_still, sizes_unfold, spelled_chains, spelled_conditions,
+    spelled_fits, spelled_networks, spelled_walks_are_regular, unrefused_have_no_loop,
+    walks_stand_still, walks_unfold,
 };
 pub use networks::net_end;
 pub use passage::{ChainEnd, Passage};
