@@ -201,7 +201,7 @@ turned_sheet turn old new is canvas count step = record {
       let e : length (painted.values_of new.canvas) ≡ length (painted.values_of old.canvas) = ap (λ k. length (painted.values_of k)) canvas in
       let h = is.counted in
       omega arith);
-  bits = λ n lt. subst (λ k. bits_in (painted.values_of k) n ≢ 0) (sym canvas) (is.bits n (subst (λ k. n < k) count lt));
+  bits = λ n lt. subst (λ k. bits_in (painted.values_of k) n ≢ 0) (sym canvas) (is.bits n (subst (λ k. n ≤ k) count lt));
   small = (let h = is.small in omega arith);
   unused = λ n u p w e. is.unused n (sym (turned_unused turn old.classes.items new.classes.items n (step n)) ∙ u) p (within p w) (sym (ap (λ k. painted.value_at k p) canvas) ∙ e);
 }

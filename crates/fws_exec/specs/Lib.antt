@@ -4,4 +4,5 @@ pub mod Grounds
 pub mod Moving
 pub mod Runs
 pub mod Sheets
+pub mod Splits
 pub mod Stages

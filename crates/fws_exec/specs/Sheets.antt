@@ -28,11 +28,12 @@ IsFree s n = (p : List ℕ) → IsWithin (tops_in s) p → class_at s p ≢ n
 abbrev pub stands : (Spot → Bool) → List Class → ℕ → Bool
 stands test classes n = option_map_or (λ c. test c.spot) (slice_get classes n) false
 
--- each point has a class, the number of each class is a value of the canvas with a bit, and no point has an unused class
+-- each point has a class, the number of each class is a value of the canvas with a bit and so is the next number, and no
+-- point has an unused class
 pub record IsSheet (s : Sheet) : Type 0 where
   pub placed : (p : List ℕ) → IsWithin (tops_in s) p → class_at s p < length s.classes.items
-  pub counted : length s.classes.items ≤ length (values_of s.canvas)
-  pub bits : (n : ℕ) → n < length s.classes.items → bits_in (values_of s.canvas) n ≢ 0
+  pub counted : length s.classes.items < length (values_of s.canvas)
+  pub bits : (n : ℕ) → n ≤ length s.classes.items → bits_in (values_of s.canvas) n ≢ 0
   pub small : length s.classes.items < 2 ^ 32
   pub unused : (n : ℕ) → stands is_unused s.classes.items n ≡ true → IsFree s n
 

@@ -49,21 +49,6 @@ fn part_of<'b>(
 }
 
 impl Sheet {
-    /// The values of the field at the points of the class with this number, and few others.
-    fn reach(&mut self, alloc: Global, number: u32, field: Field) -> Result<Ivs, Memory>
-        requires sheet { IsSheet self.old }
-        requires number { number < length self.old.classes.items }
-        ensures sheet { IsSheet self.new }
-        ensures covers { IfOk result (λ set. (p : List ℕ) → IsWithin (tops_in self.old) p → class_at self.old p ≡ number → has set (value_of p field) ≡ true) }
-        ensures tops { tops_in self.new ≡ tops_in self.old }
-        ensures same { (p : List ℕ) → class_at self.new p ≡ class_at self.old p }
-        ensures classes { self.new.classes ≡ self.old.classes }
-    {
-        let wanted = self.canvas.values().bits_of(number);
-        let set = self.canvas.spread(alloc, field, wanted)?;
-        Ok(set)
-    }
-
     /// The part of the area with the points of the class with this number, where an end is written over the field: the
     /// area itself, unless the end is that of a network.
     fn narrowed<'b>(
@@ -75,8 +60,7 @@ impl Sheet {
         field: Field,
         end: Option<End>,
     ) -> Result<PBox<'b>, Memory>
-        requires sheet { IsSheet self.old }
-        requires number { number < length self.old.classes.items }
+        requires { IsSheet self.old }
         ensures sheet { IsSheet self.new }
         ensures within { IfOk result (λ part. (p : List ℕ) → length p ≡ 12 → sides_have (sides_of part) p ≡ true → sides_have (sides_of area.now) p ≡ true) }
         ensures covers { IfOk result (λ part. (p : List ℕ) → length p ≡ 12 → IsWithin (tops_in self.old) p → class_at self.old p ≡ number → sides_have (sides_of area.now) p ≡ true → sides_have (sides_of part) p ≡ true) }
@@ -87,7 +71,7 @@ impl Sheet {
         if !is_of_network(end) {
             return Ok(*area);
         }
-        let set = self.reach(alloc, number, field)?;
+        let set = self.canvas.spread(alloc, field, number)?;
         let part = part_of(alloc, bump, area, field, &set)?;
         Ok(part)
     }

@@ -23,7 +23,7 @@ ghost use Rattle.fws_exec.specs.Stages.{nowhere, Becomes, through_routing, onwar
 
 use crate::errand::Ground;
 use crate::progress::Progress;
-use crate::sheet::Sheet;
+use crate::sheet::{Sheet, bit_of};
 use crate::spot::{Spot, Stage};
 use fws_flat::Part;
 use fws_iv::one;
@@ -92,7 +92,8 @@ impl Sheet {
         ensures class { IfOk result (λ s. (c : AnyClass) × (s.classes.items ≡ c ∷ []) × (c.spot ≡ Before Arrive)) }
         ensures value { IfOk result (λ s. (p : List ℕ) → class_at s p ≡ 0) }
     {
-        let canvas = Canvas::new(alloc, &tops(site), 1)?;
+        let mut canvas = Canvas::new(alloc, &tops(site), bit_of(0))?;
+        let _next = canvas.add_value(bit_of(1))?;
         let mut classes = Vec::new(alloc);
         classes.push(Progress::entered(alloc).standing(Spot::Before(Stage::Arrive)))?;
         Ok(Sheet {

@@ -21,7 +21,8 @@ use std::alloc::Global;
 /// Classes of packets, by number, and a canvas with the number of each point's class.
 #[derive(Drop)]
 pub(crate) struct Sheet {
-    /// The number of each point's class.
+    /// The number of each point's class. It has a value more than there are classes, since a label is one more than a
+    /// class's number, and what nobody told the canvas of has all bits.
     pub canvas: Canvas,
     /// The classes.
     pub classes: Vec<Class>,
@@ -32,7 +33,7 @@ pub(crate) struct Sheet {
 }
 
 /// A bit for a class with this number.
-fn bit_of(number: usize) -> u64
+pub(crate) fn bit_of(number: usize) -> u64
     ensures { result ≢ 0 }
 {
     2u64.pow((number % 64) as u32)
@@ -92,25 +93,25 @@ impl Sheet {
         }
     }
 
-    /// Adds a value to the canvas for one more class.
+    /// The number of one more class. A value is added to the canvas for the one behind it.
     fn add_number(&mut self) -> Result<u32, Memory>
         requires { IsSheet self.old }
         ensures sheet { OnOk result (IsSheet self.new) }
         ensures number { IfOk result (λ n. n ≡ length self.old.classes.items) }
-        ensures room { IfOk result (λ n. n < length (values_of self.new.canvas)) }
-        ensures bits { IfOk result (λ n. bits_in (values_of self.new.canvas) n ≢ 0) }
+        ensures room { IfOk result (λ n. n + 1 < length (values_of self.new.canvas)) }
+        ensures bits { IfOk result (λ n. bits_in (values_of self.new.canvas) (n + 1) ≢ 0) }
         ensures small { IfOk result (λ n. n + 1 < 2 ^ 32) }
         ensures same { (p : List ℕ) → class_at self.new p ≡ class_at self.old p }
         ensures tops { tops_in self.new ≡ tops_in self.old }
         ensures classes { self.new.classes ≡ self.old.classes }
     {
-        let count = self.classes.len();
-        let number = self.canvas.add_value(bit_of(count))?;
+        let next = self.classes.len() + 1;
+        let value = self.canvas.add_value(bit_of(next))?;
         // the canvas numbers its values one by one, and only here
-        if number as usize != count || number == u32::MAX {
+        if value as usize != next {
             return Err(Memory);
         }
-        Ok(number)
+        Ok(value - 1)
     }
 
     /// Adds a class that no point has, and gives its number.

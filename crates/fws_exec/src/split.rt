@@ -3,19 +3,15 @@
 ghost use Rattle.std.specs.Prelude.{◌≡◌, ◌≢◌, ◌<◌, ◌≤◌, ◌&&◌, not, nat_eq, ℕ, Bool, List, true, false, Some, if◌then◌else◌, length, slice_get, IfOk, IfSome, OnOk};
 ghost use Rattle.fws_box.specs.Boxes.{box_hits, sides_of};
 ghost use Rattle.fws_box.specs.Sides.{sides_have, IsWithin};
-ghost use Rattle.fws_net.specs.declared.outcome.Outcome.{Outcome};
-ghost use Rattle.fws_net.specs.declared.transit.Transit.{Transit};
-ghost use Rattle.fws_net.specs.Conditions.{holds};
 ghost use Rattle.fws_net.specs.Points.{tops_of};
 ghost use Rattle.fws_scene.specs.Areas.{IsOfSite};
-ghost use Rattle.fws_scene.specs.Scenes.{view_of};
 ghost use Rattle.fws_exec.specs.declared.spot.Class.{Class as AnyClass};
-ghost use Rattle.fws_exec.specs.declared.spot.Stage.{Stage};
 ghost use Rattle.fws_exec.specs.declared.spot.Spot.{Spot as AnySpot};
 ghost use Rattle.fws_exec.specs.declared.spot.Spot.TheVariants.{Unused};
-ghost use Rattle.fws_exec.specs.Classes.{transit_of, meant, future, is_unused};
+ghost use Rattle.fws_exec.specs.Classes.{is_unused};
 ghost use Rattle.fws_exec.specs.Grounds.{IsGround};
-ghost use Rattle.fws_exec.specs.Sheets.{tops_in, class_at, IsSheet, IsUsed, stands, NoneComes};
+ghost use Rattle.fws_exec.specs.Sheets.{tops_in, class_at, IsSheet, IsUsed, NoneComes};
+ghost use Rattle.fws_exec.specs.Splits.{MovesTo, LeavesRest, SplitsBy, KeepsOthers, StandsAsThese};
 
 use crate::errand::Ground;
 use crate::marks::put_boxes;
@@ -66,8 +62,8 @@ impl Sheet {
         requires sheet { IsSheet self.old }
         requires used { is_unused class.spot ≡ false }
         ensures sheet { OnOk result (IsSheet self.new) }
-        ensures hit { OnOk result ((at : ℕ → Transit → Outcome) (next : Stage → Transit → Outcome) (p : List ℕ) → IsWithin (tops_in self.old) p → class_at self.old p ≡ number → nat_eq (box_hits boxes.now p) 0 ≡ false → (class_at self.new p ≢ number) × (future at next self.new.classes.items (class_at self.new p) p ≡ meant at next class.spot (transit_of class.progress p))) }
-        ensures missed { OnOk result ((p : List ℕ) → IsWithin (tops_in self.old) p → (class_at self.old p ≡ number → nat_eq (box_hits boxes.now p) 0 ≡ true) → (class_at self.new p ≡ class_at self.old p) × (slice_get self.new.classes.items (class_at self.old p) ≡ slice_get self.old.classes.items (class_at self.old p))) }
+        ensures hit { OnOk result (MovesTo number boxes.now class self.old self.new) }
+        ensures missed { OnOk result (LeavesRest number boxes.now self.old self.new) }
         ensures spots { OnOk result ((test : AnySpot → Bool) → test Unused ≡ false → test class.spot ≡ false → NoneComes test self.old.classes.items self.new.classes.items) }
         ensures tops { tops_in self.new ≡ tops_in self.old }
         ensures count { OnOk result (length self.old.classes.items ≤ length self.new.classes.items) }
@@ -104,8 +100,8 @@ impl Sheet {
         requires used { is_unused class.spot ≡ false }
         requires elsewhere { (c : AnyClass) → slice_get self.old.classes.items number ≡ Some c → c.spot ≢ class.spot }
         ensures sheet { OnOk result (IsSheet self.new) }
-        ensures hit { OnOk result ((at : ℕ → Transit → Outcome) (next : Stage → Transit → Outcome) (p : List ℕ) → IsWithin (tops_in self.old) p → class_at self.old p ≡ number → nat_eq (box_hits boxes.now p) 0 ≡ false → (class_at self.new p ≢ number) × (future at next self.new.classes.items (class_at self.new p) p ≡ meant at next class.spot (transit_of class.progress p))) }
-        ensures missed { OnOk result ((p : List ℕ) → IsWithin (tops_in self.old) p → (class_at self.old p ≡ number → nat_eq (box_hits boxes.now p) 0 ≡ true) → (class_at self.new p ≡ class_at self.old p) × (slice_get self.new.classes.items (class_at self.old p) ≡ slice_get self.old.classes.items (class_at self.old p))) }
+        ensures hit { OnOk result (MovesTo number boxes.now class self.old self.new) }
+        ensures missed { OnOk result (LeavesRest number boxes.now self.old self.new) }
         ensures spots { OnOk result ((test : AnySpot → Bool) → test Unused ≡ false → test class.spot ≡ false → NoneComes test self.old.classes.items self.new.classes.items) }
         ensures tops { tops_in self.new ≡ tops_in self.old }
         ensures count { OnOk result (length self.old.classes.items ≤ length self.new.classes.items) }
@@ -145,9 +141,9 @@ impl Sheet {
         requires missed { is_unused missed.spot ≡ false }
         requires elsewhere { (c : AnyClass) → slice_get self.old.classes.items number ≡ Some c → c.spot ≢ hit.spot }
         ensures sheet { OnOk result (IsSheet self.new) }
-        ensures divided { OnOk result ((at : ℕ → Transit → Outcome) (next : Stage → Transit → Outcome) (p : List ℕ) → IsWithin (tops_of ground.now.site.now) p → class_at self.old p ≡ number → future at next self.new.classes.items (class_at self.new p) p ≡ (if holds cond.now (view_of ground.now.site.now scene.now p) then meant at next hit.spot (transit_of hit.progress p) else meant at next missed.spot (transit_of missed.progress p))) }
-        ensures others { OnOk result ((at : ℕ → Transit → Outcome) (next : Stage → Transit → Outcome) (p : List ℕ) → IsWithin (tops_of ground.now.site.now) p → class_at self.old p ≢ number → future at next self.new.classes.items (class_at self.new p) p ≡ future at next self.old.classes.items (class_at self.old p) p) }
-        ensures spots { OnOk result ((test : AnySpot → Bool) → test Unused ≡ false → test hit.spot ≡ false → test missed.spot ≡ false → (stands test self.new.classes.items number ≡ false) × NoneComes test self.old.classes.items self.new.classes.items) }
+        ensures divided { OnOk result (SplitsBy ground.now.site.now scene.now cond.now number hit missed self.old self.new) }
+        ensures others { OnOk result (KeepsOthers ground.now.site.now number self.old self.new) }
+        ensures spots { OnOk result (StandsAsThese number hit missed self.old.classes.items self.new.classes.items) }
         ensures tops { tops_in self.new ≡ tops_in self.old }
         ensures count { OnOk result (length self.old.classes.items ≤ length self.new.classes.items) }
     {
@@ -164,6 +160,7 @@ impl Sheet {
         self.put(number, missed);
         Ok(())
     }
+
     /// The points of the class with this number become those of a class like `hit` where the condition
     /// holds, as rules see them in the scene, and those of a class like `missed` elsewhere. The first of these
     /// stands elsewhere than the class does.
@@ -185,9 +182,9 @@ impl Sheet {
         requires missed { is_unused missed.spot ≡ false }
         requires elsewhere { (c : AnyClass) → slice_get self.old.classes.items number ≡ Some c → c.spot ≢ hit.spot }
         ensures sheet { OnOk result (IsSheet self.new) }
-        ensures divided { OnOk result ((at : ℕ → Transit → Outcome) (next : Stage → Transit → Outcome) (p : List ℕ) → IsWithin (tops_of ground.now.site.now) p → class_at self.old p ≡ number → future at next self.new.classes.items (class_at self.new p) p ≡ (if holds cond.now (view_of ground.now.site.now scene.now p) then meant at next hit.spot (transit_of hit.progress p) else meant at next missed.spot (transit_of missed.progress p))) }
-        ensures others { OnOk result ((at : ℕ → Transit → Outcome) (next : Stage → Transit → Outcome) (p : List ℕ) → IsWithin (tops_of ground.now.site.now) p → class_at self.old p ≢ number → future at next self.new.classes.items (class_at self.new p) p ≡ future at next self.old.classes.items (class_at self.old p) p) }
-        ensures spots { OnOk result ((test : AnySpot → Bool) → test Unused ≡ false → test hit.spot ≡ false → test missed.spot ≡ false → (stands test self.new.classes.items number ≡ false) × NoneComes test self.old.classes.items self.new.classes.items) }
+        ensures divided { OnOk result (SplitsBy ground.now.site.now scene.now cond.now number hit missed self.old self.new) }
+        ensures others { OnOk result (KeepsOthers ground.now.site.now number self.old self.new) }
+        ensures spots { OnOk result (StandsAsThese number hit missed self.old.classes.items self.new.classes.items) }
         ensures tops { tops_in self.new ≡ tops_in self.old }
         ensures count { OnOk result (length self.old.classes.items ≤ length self.new.classes.items) }
     {

@@ -1,4 +1,4 @@
-use Rattle.std.proofs.Common.{◌≡◌, ◌≢◌, ◌<◌, ◌-◌, false, nat_eq, length, sym, ◌∙◌, ap, subst, arith}
+use Rattle.std.proofs.Common.{◌≡◌, ◌≢◌, ℕ, ◌<◌, ◌≤◌, ◌-◌, false, nat_eq, length, sym, ◌∙◌, ap, subst, arith}
 use Rattle.std.proofs.lemmas.Bool.{eqb-false, false≢true}
 use Rattle.std.proofs.lemmas.Option.{slice_get_within}
 use Rattle.fws_box.specs.Sides.{IsWithin}
@@ -19,7 +19,7 @@ returns-clause-moved c p w =
     moved_value c.recolour.new.by (values_of c.args.self.now.canvas) c.args.from (class_at c.args.self.now p) (mark_at c.args.marks.now c.args.rest p) (value_at c.recolour.new.self p)
     c.in_ok-recolour.ensures.kept
     (subst (λ k. IsRecoloured (IsMoved c.recolour.new.by.from c.recolour.new.by.met) (values_of c.args.self.now.canvas) k (class_at c.args.self.now p) (mark_at c.args.marks.now c.args.rest p) (value_at c.recolour.new.self p)) wanted (c.in_ok-recolour.ensures.recoloured p w))
-    (λ here. c.requires.sheet.bits c.args.from (subst (λ k. k < length c.args.self.now.classes.items) here (c.requires.sheet.placed p w)))
+    (λ here. let within : c.args.from < length c.args.self.now.classes.items = subst (λ k. k < length c.args.self.now.classes.items) here (c.requires.sheet.placed p w) in c.requires.sheet.bits c.args.from (omega arith))
     (λ some. let target = c.requires.targets p w some in label_small c.args.self.now.classes.items (mark_at c.args.marks.now c.args.rest p) target.0 target.1.0 c.requires.sheet.small)
 
 pub returns-clause-unmet : goal.returns-clause-unmet
@@ -28,7 +28,7 @@ returns-clause-unmet c unmet p w =
     unmet_value c.recolour.new.by (values_of c.args.self.now.canvas) c.args.from (class_at c.args.self.now p) (mark_at c.args.marks.now c.args.rest p) (value_at c.recolour.new.self p)
     c.in_ok-recolour.ensures.kept
     (subst (λ k. IsRecoloured (IsMoved c.recolour.new.by.from c.recolour.new.by.met) (values_of c.args.self.now.canvas) k (class_at c.args.self.now p) (mark_at c.args.marks.now c.args.rest p) (value_at c.recolour.new.self p)) wanted (c.in_ok-recolour.ensures.recoloured p w))
-    (λ here. c.requires.sheet.bits c.args.from (subst (λ k. k < length c.args.self.now.classes.items) here (c.requires.sheet.placed p w)))
+    (λ here. let within : c.args.from < length c.args.self.now.classes.items = subst (λ k. k < length c.args.self.now.classes.items) here (c.requires.sheet.placed p w) in c.requires.sheet.bits c.args.from (omega arith))
     (λ some. let target = c.requires.targets p w some in label_small c.args.self.now.classes.items (mark_at c.args.marks.now c.args.rest p) target.0 target.1.0 c.requires.sheet.small)
     unmet
 
@@ -41,7 +41,11 @@ returns-clause-sheet c = record {
       (λ off. c.requires.sheet.placed p inside)
       (λ on is. let target = c.requires.targets p inside (eqb-false (mark_at c.args.marks.now c.args.rest p) 0 on) in slice_get_within c.args.self.now.classes.items (mark_at c.args.marks.now c.args.rest p - 1) target.0 target.1.0)
       (λ on isnt. c.requires.sheet.placed p inside));
-  counted = counted_more (length c.args.self.now.classes.items) (values_of c.args.self.now.canvas) (values_of c.recolour.new.self) c.in_ok-recolour.ensures.values c.requires.sheet.counted;
+  counted = (
+      let old : ℕ = length (values_of c.args.self.now.canvas) in
+      let more : old ≤ length (values_of c.recolour.new.self) = counted_more old (values_of c.args.self.now.canvas) (values_of c.recolour.new.self) c.in_ok-recolour.ensures.values (omega arith) in
+      let h = c.requires.sheet.counted in
+      omega arith);
   bits = λ n lt none.
       let known : n < length (values_of c.args.self.now.canvas) = (let le = c.requires.sheet.counted in omega arith) in
       c.requires.sheet.bits n lt (sym (bits_more (values_of c.args.self.now.canvas) (values_of c.recolour.new.self) c.in_ok-recolour.ensures.values n known) ∙ none);
