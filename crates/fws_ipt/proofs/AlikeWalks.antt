@@ -20,6 +20,7 @@ use Rattle.fws_net.specs.Fates.{has_ports, written_addr, sent_port}
 use Rattle.fws_net.specs.Routes.{exit_at}
 use Rattle.fws_net.specs.Showing.{receiving, sending, out_of}
 use Rattle.fws_net.specs.Transits.{rewritten, with_rec_dst, with_rec_src}
+use Rattle.fws_rule.specs.Alike.{Alike, AlikeViews, ConditionsHoldAlike}
 use Rattle.fws_ipt.specs.declared.config.IptTable.{IptTable}
 use Rattle.fws_ipt.specs.declared.config.IptTable.TheVariants.{Filter, Nat, Mangle}
 use Rattle.fws_ipt.specs.declared.config.IptGo.{IptGo}
@@ -34,7 +35,6 @@ use Rattle.fws_ipt.specs.declared.passage.ChainEnd.{ChainEnd}
 use Rattle.fws_ipt.specs.declared.passage.ChainEnd.TheVariants.{Accepted, Dropped, Through}
 use Rattle.fws_ipt.specs.Networks.{net_end}
 use Rattle.fws_ipt.specs.Walk.{shows_recv, shows_xmit, view_at, with_wrote, with_src, with_dst, writes_dst_at, writes_src_at, masquerades_at, redirect_addr, masqueraded, back, act, rules_walk, rules_at, chain_walk, by_policy, policy_at, builtin_walk, tracked_at, visit, visits, arriving, delivered, forwarded, sent_out, go_to, routed, entering, way_of, outcome_of, walk}
-use Rattle.fws_ipt.proofs.Alike.{Alike, AlikeViews, holds_alike}
 
 -- alike passages of a packet that entered as p; its protocol is still the same
 pub record AlikePassages (p : Packet) (m n : Passage) : Type 0 where
@@ -152,7 +152,7 @@ module _ (site : Site) (p q : Packet) (a : Alike p q) where
 
   -- What rules do
 
-  module _ (is_est : Bool) (hook : Hook) where
+  module _ (alike : ConditionsHoldAlike) (is_est : Bool) (hook : Hook) where
     abbrev Follows : (Passage → ChainEnd) → (Passage → ChainEnd) → Type 0
     Follows f g = (m n : Passage) → AlikePassages p m n → AlikeEnds p (f m) (g n)
 
@@ -186,7 +186,7 @@ module _ (site : Site) (p q : Packet) (a : Alike p q) where
     rules_alike enter other entered (r ∷ rs) m n h =
         let rest = rules_alike enter other entered rs in
         chosen p (holds r.cond (view_at site is_est hook m)) (holds r.cond (view_at site is_est hook n)) _ _ _ _
-        (holds_alike _ _ (view_alike site is_est hook p m n h) r.cond)
+        (alike _ _ (view_alike site is_est hook p m n h) r.cond)
         (act_alike enter other entered (rules_walk enter site p is_est hook rs) (rules_walk other site q is_est hook rs) rest r.go m n h)
         (rest m n h)
 
@@ -253,13 +253,13 @@ module _ (site : Site) (p q : Packet) (a : Alike p q) where
   tracked_alike r s k Output m n h = rec_dst_alike r s k m n h
   tracked_alike r s k Postrouting m n h = rec_src_alike r s k m n h
 
-  module _ (c : IptConfig) where
+  module _ (alike : ConditionsHoldAlike) (c : IptConfig) where
     visit_alike : (k l : Kind) → AlikeKinds p k l → (table : IptTable) (hook : Hook) (m n : Passage) → AlikePassages p m n
         → AlikeWays p (visit c site p k table hook m) (visit c site q l table hook n)
-    visit_alike New New same table hook m n h = builtin_alike false hook c.chains _ m n h
-    visit_alike (Est r) (Est s) same Filter hook m n h = builtin_alike true hook c.chains _ m n h
+    visit_alike New New same table hook m n h = builtin_alike alike false hook c.chains _ m n h
+    visit_alike (Est r) (Est s) same Filter hook m n h = builtin_alike alike true hook c.chains _ m n h
     visit_alike (Est r) (Est s) same Nat hook m n h = tracked_alike r s same hook m n h
-    visit_alike (Est r) (Est s) same Mangle hook m n h = builtin_alike true hook c.chains _ m n h
+    visit_alike (Est r) (Est s) same Mangle hook m n h = builtin_alike alike true hook c.chains _ m n h
     visit_alike _ _ same table hook m n h = absurd same
 
     module _ (k l : Kind) (same : AlikeKinds p k l) where
@@ -300,5 +300,5 @@ outcome_alike p k l same (Some m) None h = absurd h
 outcome_alike p k l same None (Some n) h = absurd h
 outcome_alike p _ _ same x y h = absurd same
 
-pub walk_alike : (c : IptConfig) (site : Site) (p q : Packet) (k l : Kind) → Alike p q → AlikeKinds p k l → walk c site p k ≡ walk c site q l
-walk_alike c site p q k l a same = outcome_alike p k l same _ _ (way_alike site p q a c k l same)
+pub walk_alike : ConditionsHoldAlike → (c : IptConfig) (site : Site) (p q : Packet) (k l : Kind) → Alike p q → AlikeKinds p k l → walk c site p k ≡ walk c site q l
+walk_alike alike c site p q k l a same = outcome_alike p k l same _ _ (way_alike site p q a alike c k l same)

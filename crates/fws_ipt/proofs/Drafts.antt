@@ -12,6 +12,7 @@ use Rattle.fws_net.specs.declared.site.Site.{Site}
 use Rattle.fws_net.specs.Ends.{host_end}
 use Rattle.fws_net.specs.Causes.{checked, words_read}
 use Rattle.fws_net.specs.Reading.{and_then}
+use Rattle.fws_rule.specs.Literals.{literals}
 use Rattle.fws_ipt.specs.declared.config.IptTable.{IptTable}
 use Rattle.fws_ipt.specs.declared.config.IptTable.TheVariants.{Filter, Nat, Mangle}
 use Rattle.fws_ipt.specs.declared.config.IptGo.{IptGo}
@@ -32,7 +33,7 @@ use Rattle.fws_ipt.specs.declared.draft.Expects.TheVariants as expect
 use Rattle.fws_ipt.specs.declared.draft.RuleDraft.{RuleDraft}
 use Rattle.fws_ipt.specs.Options.{keyword_of, is_module, target_word, is_left_out_target, belongs, needs_option}
 use Rattle.fws_ipt.specs.RuleText.{fresh_rule, closed, limited, once, noted, with_literals, test_begun, test_step, with_source, with_destination, with_protocol, compared_step, value_step, first_act, with_target, user_chain, other_target, target_step, goto_step, is_written, is_bare, behind_option, fits_target, option_step, target_value_step, target_begun, keyword_step, is_target_option, known_step, any_step, negated_keyword, module_step, expected_step, rule_step, is_complete, is_misplaced, logs, is_loose, rule_checks, rule_made, rule_of}
-use Rattle.fws_ipt.specs.Values.{meaning_of, literals, protocol_value, flags_of, xmark_value, set_mark_value, place_of, to_port, network_of}
+use Rattle.fws_ipt.specs.Values.{meaning_of, protocol_value, flags_of, xmark_value, set_mark_value, place_of, to_port, network_of}
 use Rattle.fws_ipt.specs.Soundness.{is_user_chain, fits, is_named}
 use Rattle.fws_ipt.specs.Walk.{is_table}
 use Rattle.fws_ipt.proofs.Outcomes.{then_holds, then_known, either_holds, found_holds, checked_holds, words_hold}

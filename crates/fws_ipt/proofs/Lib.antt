@@ -1,4 +1,3 @@
-pub mod Alike
 pub mod AlikeWalks
 pub mod Apart
 pub mod Drafts

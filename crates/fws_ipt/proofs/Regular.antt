@@ -10,11 +10,11 @@ use Rattle.fws_net.specs.declared.connection.Kind.{Kind}
 use Rattle.fws_net.specs.declared.connection.Kind.TheVariants.{New, Est}
 use Rattle.fws_net.specs.Fates.{has_ports}
 use Rattle.fws_net.specs.Transits.{nothing_written}
+use Rattle.fws_rule.specs.Alike.{Alike, ConditionsHoldAlike}
 use Rattle.fws_ipt.specs.declared.passage.Passage.{Passage}
 use Rattle.fws_ipt.specs.Regular.{is_port_asked, AskedWalksAreRegular, SpelledWalksAreRegular}
 use Rattle.fws_ipt.specs.Spelled.{is_spelled_cond, is_spelled_rule}
 use Rattle.fws_ipt.specs.Walk.{way_of, outcome_of}
-use Rattle.fws_ipt.proofs.Alike.{Alike}
 use Rattle.fws_ipt.proofs.AlikeWalks.{AlikeKinds, walk_alike}
 use Rattle.fws_ipt.proofs.Leaving.{leaves, lost_drops}
 use Rattle.fws_ipt.proofs.Texts.{conditions_are_spelled}
@@ -77,23 +77,23 @@ unwritten : (r : Rec) (way : Option Passage) (w : Rewrite) → outcome_of (Est r
 unwritten r None w e = absurd (cc)
 unwritten r (Some m) w e = cc
 
-pub asked_walks_are_regular : AskedWalksAreRegular
-asked_walks_are_regular site c asking = record {
-  ports = λ p k x y off. walk_alike c site (record p { dport = x; sport = y }) p k k (ports_alike p x y off) (same_kind (record p { dport = x; sport = y }) k);
+pub asked_walks_are_regular : ConditionsHoldAlike → AskedWalksAreRegular
+asked_walks_are_regular alike site c asking = record {
+  ports = λ p k x y off. walk_alike alike c site (record p { dport = x; sport = y }) p k k (ports_alike p x y off) (same_kind (record p { dport = x; sport = y }) k);
   sent_ports = λ p r x y off.
-      walk_alike c site p p (Est (record r { rdport = x; rsport = y })) (Est r) (itself_alike p)
+      walk_alike alike c site p p (Est (record r { rdport = x; rsport = y })) (Est r) (itself_alike p)
       (refl, refl, λ on. absurd (both_ways (has_ports p.proto) off on), λ on. absurd (both_ways (has_ports p.proto) off on));
-  flags = λ p k x off. walk_alike c site (record p { flags = x }) p k k (flags_alike p x off) (same_kind (record p { flags = x }) k);
-  icmp = λ p k x off. walk_alike c site (record p { icmp = x }) p k k (icmp_alike p x off) (same_kind (record p { icmp = x }) k);
+  flags = λ p k x off. walk_alike alike c site (record p { flags = x }) p k k (flags_alike p x off) (same_kind (record p { flags = x }) k);
+  icmp = λ p k x off. walk_alike alike c site (record p { icmp = x }) p k k (icmp_alike p x off) (same_kind (record p { icmp = x }) k);
   written = no_port_written c site asking;
   unwritten = λ p r w e. unwritten r (way_of c site p (Est r)) w e;
   leaves = leaves c site;
   lost = lost_drops c site;
 }
 
-pub spelled_walks_are_regular : SpelledWalksAreRegular
-spelled_walks_are_regular site text c e =
-    asked_walks_are_regular site c
+pub spelled_walks_are_regular : ConditionsHoldAlike → SpelledWalksAreRegular
+spelled_walks_are_regular alike site text c e =
+    asked_walks_are_regular alike site c
     (all_weaker (λ chain. list_all is_spelled_rule chain.rules) (λ chain. list_all is_port_asked chain.rules)
     (λ chain. all_weaker is_spelled_rule is_port_asked (λ rule h. (and_parts (is_spelled_cond rule.cond) (is_port_asked rule) h).1) chain.rules)
     c.chains (conditions_are_spelled site text c e))

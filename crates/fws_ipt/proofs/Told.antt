@@ -12,6 +12,7 @@ use Rattle.fws_iv.specs.declared.iv.Iv.{Iv}
 use Rattle.fws_net.specs.declared.condition.Test.{Test}
 use Rattle.fws_net.specs.declared.condition.Test.TheVariants.{Src, Dst, Sport, Dport, Proto, Icmp, Flags, Recv, Xmit, Tag}
 use Rattle.fws_net.specs.declared.condition.Lit.{Lit}
+use Rattle.fws_net.specs.declared.packet.Lang.TheVariants.{Iptables}
 use Rattle.fws_net.specs.declared.cause.Cause.{Cause}
 use Rattle.fws_net.specs.declared.cause.Cause.TheVariants.{Syntax, LeftOut}
 use Rattle.fws_net.specs.declared.site.Site.{Site}
@@ -19,6 +20,8 @@ use Rattle.fws_net.specs.Causes.{checked, words_read}
 use Rattle.fws_net.specs.Ends.{host_end}
 use Rattle.fws_net.specs.Faces.{prefix_parts}
 use Rattle.fws_net.specs.Reading.{and_then}
+use Rattle.fws_rule.specs.Interfaces.{interfaces_of}
+use Rattle.fws_rule.specs.Literals.{positive, one, literals, protocol_literal}
 use Rattle.fws_ipt.specs.declared.config.IptTable.{IptTable}
 use Rattle.fws_ipt.specs.declared.config.IptGo.{IptGo}
 use Rattle.fws_ipt.specs.declared.config.IptGo.TheVariants as acts
@@ -39,7 +42,7 @@ use Rattle.fws_ipt.specs.declared.draft.RuleDraft.{RuleDraft}
 use Rattle.fws_ipt.specs.Options.{keyword_of, is_module, target_word, is_left_out_target}
 use Rattle.fws_ipt.specs.RuleText.{fresh_rule, closed, limited, once, asks_port, asks_flags, asks_icmp, noted, with_literals, test_begun, test_step, with_source, with_destination, with_protocol, compared_step, value_step, first_act, with_target, user_chain, other_target, target_step, goto_step, is_written, is_bare, behind_option, fits_target, option_step, target_value_step, target_begun, keyword_step, is_target_option, known_step, any_step, negated_keyword, module_step, expected_step, rule_step, is_complete, is_misplaced, logs, is_protocol, lacks_protocol, keeps_network, is_loose, rule_checks, rule_made, rule_of}
 use Rattle.fws_ipt.specs.Spelled.{asks, tests_protocol, asks_protocol, asks_ports, may_stand, is_spelled_cond, may_write, is_spelled_rule, is_block, is_prefix_set, tests_src, tests_dst, names_block, is_network}
-use Rattle.fws_ipt.specs.Values.{positive, one, set_meaning, interfaces_of, interface_meaning, is_address_type, type_meaning, prefix_literal, protocol_value, protocol_literal, flags_of, syn_literal, is_type_and_code, numbered_type, icmp_meaning, is_state, is_translation_state, state_literal, states_meaning, mark_value, meaning_of, literals, xmark_value, set_mark_value, place_of, to_port, network_of}
+use Rattle.fws_ipt.specs.Values.{set_meaning, interface_meaning, is_address_type, type_meaning, prefix_literal, protocol_value, flags_of, syn_literal, is_type_and_code, numbered_type, icmp_meaning, is_state, is_translation_state, state_literal, states_meaning, mark_value, meaning_of, xmark_value, set_mark_value, place_of, to_port, network_of}
 use Rattle.fws_ipt.specs.Walk.{writes_dst_at, writes_src_at}
 use Rattle.fws_ipt.proofs.Drafts.{once_holds}
 use Rattle.fws_ipt.proofs.Outcomes.{then_holds, then_known, either_holds, found_holds, ok_or_holds, passed_holds, words_hold}
@@ -265,7 +268,7 @@ set_stands ports flags icmp test set h = found_holds (Stands ports flags icmp) s
 
 interface_stands : (ports flags icmp : Bool) (site : Site) (test : List Iv → Test) (text : List ℕ) → ((s : List Iv) → may_stand ports flags icmp (test s) ≡ true)
     → IfOk (interface_meaning site test text) (Stands ports flags icmp)
-interface_stands ports flags icmp site test text h = then_holds (Stands ports flags icmp) (interfaces_of site text) (λ set. Ok (Some (positive (test set)))) h
+interface_stands ports flags icmp site test text h = then_holds (Stands ports flags icmp) (interfaces_of Iptables 43 site text) (λ set. Ok (Some (positive (test set)))) h
 
 type_stands : (ports flags icmp : Bool) (site : Site) (test : List Iv → Test) (text : List ℕ) → ((s : List Iv) → may_stand ports flags icmp (test s) ≡ true)
     → IfOk (type_meaning site test text) (Stands ports flags icmp)

@@ -15,6 +15,7 @@ use Rattle.fws_net.specs.declared.site.Site.{Site}
 use Rattle.fws_net.specs.Ends.{host_end}
 use Rattle.fws_net.specs.Causes.{checked, words_read}
 use Rattle.fws_net.specs.Reading.{and_then}
+use Rattle.fws_rule.specs.Literals.{positive, literals, protocol_literal}
 use Rattle.fws_ipt.specs.declared.config.IptTable.{IptTable}
 use Rattle.fws_ipt.specs.declared.config.IptTable.TheVariants.{Filter, Nat, Mangle}
 use Rattle.fws_ipt.specs.declared.config.IptGo.{IptGo}
@@ -35,7 +36,7 @@ use Rattle.fws_ipt.specs.declared.draft.Expects.{Expects}
 use Rattle.fws_ipt.specs.declared.draft.Expects.TheVariants as expect
 use Rattle.fws_ipt.specs.declared.draft.RuleDraft.{RuleDraft}
 use Rattle.fws_ipt.specs.Options.{keyword_of, is_module, target_word, is_left_out_target, belongs, needs_option}
-use Rattle.fws_ipt.specs.Values.{meaning_of, literals, protocol_value, protocol_literal, flags_of, syn_literal, positive, xmark_value, set_mark_value, place_of, to_port, prefix_literal, network_of}
+use Rattle.fws_ipt.specs.Values.{meaning_of, protocol_value, flags_of, syn_literal, xmark_value, set_mark_value, place_of, to_port, prefix_literal, network_of}
 use Rattle.fws_ipt.specs.Hooks.{has_hook, hook_named}
 use Rattle.fws_ipt.specs.Walk.{is_table, writes_dst_at, writes_src_at}
 

@@ -16,21 +16,16 @@ use Rattle.fws_net.specs.declared.condition.Test.{Test}
 use Rattle.fws_net.specs.declared.condition.Test.TheVariants as tests
 use Rattle.fws_net.specs.declared.packet.Lang.TheVariants.{Iptables}
 use Rattle.fws_net.specs.declared.cause.Cause.{Cause}
-use Rattle.fws_net.specs.declared.cause.Cause.TheVariants.{Syntax, LeftOut, NoInterface}
+use Rattle.fws_net.specs.declared.cause.Cause.TheVariants.{Syntax, LeftOut}
 use Rattle.fws_net.specs.declared.site.Site.{Site}
-use Rattle.fws_net.specs.Faces.{prefix_parts, local_parts, entry_named, entries_beginning}
+use Rattle.fws_net.specs.Faces.{prefix_parts, local_parts}
 use Rattle.fws_net.specs.Ports.{in_order, ports_of, address_range, addresses_between}
 use Rattle.fws_net.specs.Reading.{and_then}
+use Rattle.fws_rule.specs.Interfaces.{interfaces_of}
+use Rattle.fws_rule.specs.Literals.{positive, one}
 use Rattle.fws_ipt.specs.declared.words.TestOption.{TestOption}
 use Rattle.fws_ipt.specs.declared.words.TestOption.TheVariants as options
 use Rattle.fws_ipt.specs.Options.{is_one_of}
-
-abbrev pub positive : Test → Lit
-positive test = record { not = false; test = test }
-
--- one interval
-abbrev pub one : ℕ → ℕ → List Iv
-one lo hi = record { lo = lo; hi = hi } ∷ []
 
 -- a literal of a set, where the set is spelled
 abbrev pub set_meaning : (List Iv → Test) → Option (List Iv) → Result (Option Lit) Cause
@@ -46,22 +41,9 @@ range_meaning test range = set_meaning test (option_map (λ r. one r.0 r.1) rang
 abbrev pub prefix_literal : (List Iv → Test) → Prefix → Lit
 prefix_literal test net = positive (test (prefix_parts net))
 
--- what stands ahead of a `+` at the end of a name
-abbrev pub before_plus : List ℕ → Option (List ℕ)
-before_plus [] = None
-before_plus (c ∷ []) = if nat_eq c 43 then Some [] else None
-before_plus (c ∷ d ∷ cs) = option_map (λ front. c ∷ front) (before_plus (d ∷ cs))
-
--- the interface of this name
-abbrev pub interface_named : Site → List ℕ → Result (List Iv) Cause
-interface_named site text = ok_or (option_map (λ entry. one entry entry) (entry_named Iptables site text)) NoInterface
-
 -- the interface of this name, or with a `+` at its end every one whose name begins so
-abbrev pub interfaces_of : Site → List ℕ → Result (List Iv) Cause
-interfaces_of site text = option_map_or (λ front. Ok (entries_beginning Iptables site front)) (before_plus text) (interface_named site text)
-
 abbrev pub interface_meaning : Site → (List Iv → Test) → List ℕ → Result (Option Lit) Cause
-interface_meaning site test text = and_then (interfaces_of site text) (λ set. Ok (Some (positive (test set))))
+interface_meaning site test text = and_then (interfaces_of Iptables 43 site text) (λ set. Ok (Some (positive (test set))))
 
 -- types of addresses
 abbrev pub address_types : List (List ℕ)
@@ -86,10 +68,6 @@ abbrev pub protocol_value : List ℕ → Result (Option ℕ) Cause
 protocol_value text =
     if bytes_eq text (codes "all") then Ok None
     else option_map_or (λ n. if nat_eq n 0 then Ok None else Ok (Some n)) (protocol_of text) (Err Syntax)
-
--- the literal of a protocol; none for every one
-abbrev pub protocol_literal : Option ℕ → Option Lit
-protocol_literal protocol = option_map (λ n. positive (tests.Proto (one n n))) protocol
 
 -- an end of a port range; one that is left empty is the given one
 abbrev pub end_of_range : ℕ → List ℕ → Option ℕ
@@ -308,10 +286,3 @@ meaning_of site options.SourceRange text = range_meaning tests.Src (address_rang
 meaning_of site options.DestinationRange text = range_meaning tests.Dst (address_range text)
 meaning_of site options.SourceType text = type_meaning site tests.Src text
 meaning_of site options.DestinationType text = type_meaning site tests.Dst text
-
--- what stands in the condition for an option: nothing where it holds of every packet, whose negation never holds
-abbrev pub literals : Bool → Option Lit → List Lit
-literals false None = []
-literals true None = positive tests.Never ∷ []
-literals false (Some lit) = lit ∷ []
-literals true (Some lit) = record { not = not lit.not; test = lit.test } ∷ []

@@ -5,6 +5,8 @@ ghost use Rattle.fws_ipt.specs.Regular.{AskedWalksAreRegular, SpelledWalksAreReg
 ghost use Rattle.fws_ipt.specs.Soundness.{SpelledChains, SpelledFits};
 ghost use Rattle.fws_ipt.specs.Spelled.{SpelledConditions, SpelledNetworks};
 
+use fws_rule::conditions_hold_alike;
+
 /// Every configuration that a text spells is fitting: a law, with nothing to do.
 pub fn spelled_fits()
     ensures { SpelledFits }
@@ -82,9 +84,13 @@ pub fn walks_unfold()
 /// nothing to do.
 pub fn asked_walks_are_regular()
     ensures { AskedWalksAreRegular }
-{}
+{
+    conditions_hold_alike();
+}
 
 /// The walk of every configuration that a text spells is regular: a law, with nothing to do.
 pub fn spelled_walks_are_regular()
     ensures { SpelledWalksAreRegular }
-{}
+{
+    conditions_hold_alike();
+}

@@ -24,6 +24,8 @@ use Rattle.fws_ifcl.specs.declared.diagram.Stage.{Stage}
 use Rattle.fws_ifcl.specs.declared.step.ChainEnd.{ChainEnd}
 use Rattle.fws_ifcl.specs.declared.step.ChainEnd.TheVariants.{Accepted}
 use Rattle.fws_ifcl.specs.Walk.{sees}
+use Rattle.fws_rule.specs.Literals.{one, positive, negative}
+use Rattle.fws_draw.specs.Rules.{ruled, always}
 use Rattle.fws_ipt.specs.declared.config.IptTable.TheVariants.{Nat}
 use Rattle.fws_ipt.specs.declared.hook.Hook.{Hook}
 use Rattle.fws_ipt.specs.declared.hook.Hook.TheVariants.{Prerouting, Input, Forward, Output, Postrouting}
@@ -32,7 +34,7 @@ use Rattle.fws_ipt.specs.declared.passage.ChainEnd.{ChainEnd as IptEnd}
 use Rattle.fws_ipt.specs.declared.passage.ChainEnd.TheVariants as ends
 use Rattle.fws_ipt.specs.Networks.{net_end}
 use Rattle.fws_ipt.specs.Walk.{with_src, with_dst, writes_dst_at, writes_src_at, masquerades_at, redirect_addr, masqueraded, back}
-use Rattle.fws_ipt_ifcl.specs.Blocks.{where_holds, where_fails, all_entries, numbers, ruled, always, by_entry, masquerading, redirecting, mapping}
+use Rattle.fws_ipt_ifcl.specs.Blocks.{all_entries, by_entry, masquerading, redirecting, mapping}
 use Rattle.fws_ipt_ifcl.proofs.Guarding.{written_by}
 use Rattle.fws_ipt_ifcl.proofs.Scenes.{shown, shown_end, met, is_place}
 use Rattle.fws_ipt_ifcl.proofs.Standing.{Stands}
@@ -75,7 +77,7 @@ module _ (site : Site) (sound : IsSound site) (entries : RoutesAreEntries) (p : 
 
   -- SNAT
   pub source_met : (hook : Hook) (e : End) (m : Passage) (rest : ChainEnd) (next : IptEnd) → rest ≡ shown_end accepts next
-      → cond (holds (where_holds Outward ∷ []) (sees site New (there hook) (shown accepts m))) (Accepted (writes_src p e (shown accepts m))) rest
+      → cond (holds (positive Outward ∷ []) (sees site New (there hook) (shown accepts m))) (Accepted (writes_src p e (shown accepts m))) rest
       ≡ shown_end accepts (cond (writes_src_at hook) (ends.Accepted (with_src p e m)) next)
   source_met Prerouting e m rest next on = on
   source_met Input e m rest next on = refl
@@ -86,7 +88,7 @@ module _ (site : Site) (sound : IsSound site) (entries : RoutesAreEntries) (p : 
   -- DNAT, and REDIRECT by its address
   pub dest_met : (hook : Hook) → is_place Nat hook ≡ true → (m : Passage) (made : Transit) (end : End) (rest : ChainEnd) (next : IptEnd)
       → (writes_dst_at hook ≡ true → made ≡ shown accepts (with_dst p end m)) → rest ≡ shown_end accepts next
-      → cond (holds (where_fails Outward ∷ []) (sees site New (there hook) (shown accepts m))) (Accepted made) rest
+      → cond (holds (negative Outward ∷ []) (sees site New (there hook) (shown accepts m))) (Accepted made) rest
       ≡ shown_end accepts (cond (writes_dst_at hook) (ends.Accepted (with_dst p end m)) next)
   dest_met Prerouting is m made end rest next here on = ap Accepted (here refl)
   dest_met Input is m made end rest next here on = on
@@ -118,9 +120,9 @@ module _ (site : Site) (sound : IsSound site) (entries : RoutesAreEntries) (p : 
       let act : ℕ → Act = λ entry. Src (host_end (face_addr site entry) None) in
       let still : sending site (with_src p (host_end (face_addr site x) None) m).packet ≡ Some x = ap (sending site) (sym stands) ∙ sent in
       entries_hit site p New (there Postrouting) Xmit act x 1 (length site.faces + 1) (shown accepts m) low (omega (arith, high))
-      (ap (λ o. is_shown o (numbers x x) && true) sent ∙ ap (λ b. b && true) (between x x x (omega arith) (omega arith)))
-      (λ e other. ap (λ o. is_shown o (numbers e e) && true) sent ∙ ap (λ b. b && true) (apart e x other))
-      (λ e other. ap (λ o. is_shown o (numbers e e) && true) still ∙ ap (λ b. b && true) (apart e x other))
+      (ap (λ o. is_shown o (one x x) && true) sent ∙ ap (λ b. b && true) (between x x x (omega arith) (omega arith)))
+      (λ e other. ap (λ o. is_shown o (one e e) && true) sent ∙ ap (λ b. b && true) (apart e x other))
+      (λ e other. ap (λ o. is_shown o (one e e) && true) still ∙ ap (λ b. b && true) (apart e x other))
 
   leaving_met : (m : Passage) → Stands New p m → (o : Option ℕ) → sending site m.packet ≡ o
       → (rest : ChainEnd) (next : Passage → IptEnd) → rest ≡ shown_end accepts (next m)
@@ -133,7 +135,7 @@ module _ (site : Site) (sound : IsSound site) (entries : RoutesAreEntries) (p : 
       ∙ ap Accepted (masquerade_writes m stands x sent within)
 
   pub masquerade_met : (hook : Hook) (m : Passage) → Stands New p m → (rest : ChainEnd) (next : Passage → IptEnd) → rest ≡ shown_end accepts (next m)
-      → cond (holds (where_holds Outward ∷ where_holds (Xmit (all_entries site)) ∷ []) (sees site New (there hook) (shown accepts m)))
+      → cond (holds (positive Outward ∷ positive (Xmit (all_entries site)) ∷ []) (sees site New (there hook) (shown accepts m)))
       (Accepted (written_by site p New (there hook) (masquerading site) (shown accepts m))) rest
       ≡ shown_end accepts (cond (masquerades_at hook) (back next (masqueraded site p (sending site m.packet) m)) (next m))
   masquerade_met Prerouting m stands rest next on = on
@@ -149,10 +151,10 @@ module _ (site : Site) (sound : IsSound site) (entries : RoutesAreEntries) (p : 
       → written_by site p New (there hook) (redirecting site port) (shown accepts m) ≡ shown accepts (with_dst p (host_end loopback_addr port) m)
   redirect_host hook port m none =
       let act : ℕ → Act = λ entry. Dst (host_end (face_addr site entry) port) in
-      let last : Rule = ruled (where_fails (Recv (all_entries site)) ∷ []) (Dst (host_end loopback_addr port)) in
+      let last : Rule = ruled (negative (Recv (all_entries site)) ∷ []) (Dst (host_end loopback_addr port)) in
       written_both site p (there hook) (by_entry Recv act 1 (length site.faces + 1)) (last ∷ []) (shown accepts m)
       ∙ ap (written_by site p New (there hook) (last ∷ []))
-      (entries_missed site p New (there hook) Recv act 1 (length site.faces + 1) (shown accepts m) (λ e le. ap (λ o. is_shown o (numbers e e) && true) none))
+      (entries_missed site p New (there hook) Recv act 1 (length site.faces + 1) (shown accepts m) (λ e le. ap (λ o. is_shown o (one e e) && true) none))
       ∙ ap (λ o. cond (not (is_shown o (all_entries site)) && true) (shown accepts (with_dst p (host_end loopback_addr port) m)) (shown accepts m)) none
 
   -- one is, and stays where the destination is written
@@ -161,14 +163,14 @@ module _ (site : Site) (sound : IsSound site) (entries : RoutesAreEntries) (p : 
       → written_by site p New (there hook) (redirecting site port) (shown accepts m) ≡ shown accepts (with_dst p (host_end (face_addr site x) port) m)
   redirect_entry hook port m x (low, high) came still =
       let act : ℕ → Act = λ entry. Dst (host_end (face_addr site entry) port) in
-      let last : Rule = ruled (where_fails (Recv (all_entries site)) ∷ []) (Dst (host_end loopback_addr port)) in
+      let last : Rule = ruled (negative (Recv (all_entries site)) ∷ []) (Dst (host_end loopback_addr port)) in
       let made = with_dst p (host_end (face_addr site x) port) m in
       written_both site p (there hook) (by_entry Recv act 1 (length site.faces + 1)) (last ∷ []) (shown accepts m)
       ∙ ap (written_by site p New (there hook) (last ∷ []))
       (entries_hit site p New (there hook) Recv act x 1 (length site.faces + 1) (shown accepts m) low (omega (arith, high))
-      (ap (λ o. is_shown o (numbers x x) && true) came ∙ ap (λ b. b && true) (between x x x (omega arith) (omega arith)))
-      (λ e other. ap (λ o. is_shown o (numbers e e) && true) came ∙ ap (λ b. b && true) (apart e x other))
-      (λ e other. ap (λ o. is_shown o (numbers e e) && true) still ∙ ap (λ b. b && true) (apart e x other)))
+      (ap (λ o. is_shown o (one x x) && true) came ∙ ap (λ b. b && true) (between x x x (omega arith) (omega arith)))
+      (λ e other. ap (λ o. is_shown o (one e e) && true) came ∙ ap (λ b. b && true) (apart e x other))
+      (λ e other. ap (λ o. is_shown o (one e e) && true) still ∙ ap (λ b. b && true) (apart e x other)))
       ∙ ap (λ o. cond (not (is_shown o (all_entries site)) && true) (shown accepts (with_dst p (host_end loopback_addr port) made)) (shown accepts made)) still
       ∙ ap (λ b. cond (not b && true) (shown accepts (with_dst p (host_end loopback_addr port) made)) (shown accepts made)) (between 1 (length site.faces + 1) x low high)
 

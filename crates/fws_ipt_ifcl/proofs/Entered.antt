@@ -19,6 +19,8 @@ use Rattle.fws_ifcl.specs.declared.diagram.Stage.{Stage}
 use Rattle.fws_ifcl.specs.declared.step.ChainEnd.{ChainEnd}
 use Rattle.fws_ifcl.specs.declared.step.ChainEnd.TheVariants.{Accepted, Dropped}
 use Rattle.fws_ifcl.specs.Walk.{rules_at, rules_walk, chain_walk, stage_end, stage_walk}
+use Rattle.fws_rule.specs.Literals.{positive}
+use Rattle.fws_draw.specs.Rules.{ruled}
 use Rattle.fws_ipt.specs.declared.config.IptChain.{IptChain}
 use Rattle.fws_ipt.specs.declared.config.IptRule.{IptRule}
 use Rattle.fws_ipt.specs.declared.config.IptTable.{IptTable}
@@ -32,10 +34,9 @@ use Rattle.fws_ipt.specs.Loops.{NoLoop, NamesChains, WalksStandStill}
 use Rattle.fws_ipt.specs.Refusals.{head_width}
 use Rattle.fws_ipt.specs.Soundness.{fits, chain_fits}
 use Rattle.fws_ipt.specs.Walk.{is_table, by_policy, rules_at as ipt_rules_at, rules_walk as ipt_rules, chain_walk as ipt_chain}
-use Rattle.fws_ipt_ifcl.specs.Blocks.{where_holds, ruled}
 use Rattle.fws_ipt_ifcl.specs.Diagram.{own_chains, headed, unfolded_all, chain_for, is_on_source}
 use Rattle.fws_ipt_ifcl.specs.Fitting.{has_sideless_rules, is_netmap, has_netmaps_placed}
-use Rattle.fws_ipt_ifcl.proofs.Alike.{rules_met}
+use Rattle.fws_ipt_ifcl.proofs.RulesMet.{rules_met}
 use Rattle.fws_ipt_ifcl.proofs.Files.{all_at, all_contained, any_moved, file_rules, Suits, named_suits}
 use Rattle.fws_ipt_ifcl.proofs.Guarding.{first_rule}
 use Rattle.fws_ipt_ifcl.proofs.Scenes.{shown, shown_end, met, is_place, branch}
@@ -57,7 +58,7 @@ head_met : (enter : ℕ → Transit → ChainEnd) (site : Site) (p : Packet) (k 
     → (is_table Nat table ≡ true → is_est k ≡ false)
     → rules_walk enter site p k stage 0 (headed table policy ++ rest) 0 t ≡ rules_walk enter site p k stage (head_width table policy) rest 0 t
 head_met enter site p k stage Nat (Some accepts) rest t new =
-    first_rule enter site p k stage 0 (ruled (where_holds Est ∷ []) acts.Accept) rest t
+    first_rule enter site p k stage 0 (ruled (positive Est ∷ []) acts.Accept) rest t
     ∙ ap (λ b. cond (b && true) (Accepted t) (rules_walk enter site p k stage 1 rest 0 t)) (new refl)
 head_met enter site p k stage Nat None rest t new = refl
 head_met enter site p k stage Filter policy rest t new = refl

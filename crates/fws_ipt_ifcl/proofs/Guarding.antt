@@ -16,7 +16,8 @@ use Rattle.fws_ifcl.specs.declared.diagram.Stage.{Stage}
 use Rattle.fws_ifcl.specs.declared.step.ChainEnd.{ChainEnd}
 use Rattle.fws_ifcl.specs.declared.step.ChainEnd.TheVariants.{Accepted}
 use Rattle.fws_ifcl.specs.Walk.{sees, step_of, stepped, rules_walk}
-use Rattle.fws_ipt_ifcl.specs.Blocks.{ruled, always, guarded}
+use Rattle.fws_draw.specs.Rules.{ruled, always}
+use Rattle.fws_ipt_ifcl.specs.Blocks.{guarded}
 
 -- what an act that writes an end does
 abbrev pub written : Packet → Act → Transit → Transit

@@ -4,7 +4,7 @@ mod Writes
 mod Standing
 mod Scenes
 mod Ends
-mod Alike
+mod RulesMet
 mod Files
 mod Entered
 mod Ways

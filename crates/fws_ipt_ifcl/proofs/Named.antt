@@ -17,6 +17,8 @@ use Rattle.fws_ifcl.specs.declared.diagram.Rule.{Rule}
 use Rattle.fws_ifcl.specs.Refusals.{named_by as called_by, all_named as all_called, named_in as called_in}
 use Rattle.fws_ifcl.specs.Soundness.{act_ok, rules_ok, chain_ok, stage_ok, ifcl_ok}
 use Rattle.fws_ifcl.specs.Walk.{rules_at}
+use Rattle.fws_rule.specs.Literals.{positive, negative}
+use Rattle.fws_draw.specs.Rules.{always}
 use Rattle.fws_ipt.specs.declared.config.IptChain.{IptChain}
 use Rattle.fws_ipt.specs.declared.config.IptConfig.{IptConfig}
 use Rattle.fws_ipt.specs.declared.config.IptGo.{IptGo}
@@ -29,9 +31,9 @@ use Rattle.fws_ipt.specs.declared.hook.Hook.TheVariants.{Prerouting, Input, Forw
 use Rattle.fws_ipt.specs.Refusals.{named_by, all_named, named_in, width_of, rules_width, head_width, chain_width, width_at}
 use Rattle.fws_ipt.specs.Soundness.{is_user_chain, fits, chain_fits, is_fitting}
 use Rattle.fws_ipt.specs.Walk.{is_table, builtin_from, arriving, delivered, forwarded, sent_out}
-use Rattle.fws_ipt_ifcl.specs.Blocks.{where_holds, where_fails, all_entries, always, guarded, masquerading, redirecting, mapping, unfolded}
+use Rattle.fws_ipt_ifcl.specs.Blocks.{all_entries, guarded, masquerading, redirecting, mapping, unfolded}
 use Rattle.fws_ipt_ifcl.specs.Diagram.{own_chains, own_stage, headed, unfolded_all, chain_for, is_on_source, tracked_at, stage_for, builtin_stage, stages_for, diagram_of}
-use Rattle.fws_ipt_ifcl.proofs.Alike.{mapping_writes, redirecting_writes, masquerading_writes}
+use Rattle.fws_ipt_ifcl.proofs.RulesMet.{mapping_writes, redirecting_writes, masquerading_writes}
 use Rattle.fws_ipt_ifcl.proofs.Files.{file_rules, built_in, built_within}
 use Rattle.fws_ipt_ifcl.proofs.Guarding.{is_write, are_writes}
 use Rattle.fws_ipt_ifcl.proofs.Widths.{unfolded_width, headed_width, guarded_width}
@@ -184,14 +186,14 @@ unfolded_ok site chains table on_source all at test (goes.Goto c) fit le =
     let within : c < length chains = user_within table chains c fit in
     call_ok (length chains + 3) c (omega (arith, within))
 unfolded_ok site chains table on_source all at test (goes.Mark v) fit le = refl
-unfolded_ok site chains table on_source all at test (goes.Source e) fit le = guarded_ok (length chains + 3) all at (test ++ where_holds Outward ∷ []) (always (Src e) ∷ []) refl le
+unfolded_ok site chains table on_source all at test (goes.Source e) fit le = guarded_ok (length chains + 3) all at (test ++ positive Outward ∷ []) (always (Src e) ∷ []) refl le
 unfolded_ok site chains table on_source all at test goes.Masquerade fit le =
-    guarded_ok (length chains + 3) all at (test ++ where_holds Outward ∷ where_holds (Xmit (all_entries site)) ∷ []) (masquerading site) (masquerading_writes site)
-    (subst (λ w. at + w ≤ all) (sym (sym (guarded_width at (test ++ where_holds Outward ∷ where_holds (Xmit (all_entries site)) ∷ []) (masquerading site)) ∙ unfolded_width site on_source at test goes.Masquerade)) le)
-unfolded_ok site chains table on_source all at test (goes.Dest e) fit le = guarded_ok (length chains + 3) all at (test ++ where_fails Outward ∷ []) (always (Dst e) ∷ []) refl le
+    guarded_ok (length chains + 3) all at (test ++ positive Outward ∷ positive (Xmit (all_entries site)) ∷ []) (masquerading site) (masquerading_writes site)
+    (subst (λ w. at + w ≤ all) (sym (sym (guarded_width at (test ++ positive Outward ∷ positive (Xmit (all_entries site)) ∷ []) (masquerading site)) ∙ unfolded_width site on_source at test goes.Masquerade)) le)
+unfolded_ok site chains table on_source all at test (goes.Dest e) fit le = guarded_ok (length chains + 3) all at (test ++ negative Outward ∷ []) (always (Dst e) ∷ []) refl le
 unfolded_ok site chains table on_source all at test (goes.Redirect port) fit le =
-    guarded_ok (length chains + 3) all at (test ++ where_fails Outward ∷ []) (redirecting site port) (redirecting_writes site port)
-    (subst (λ w. at + w ≤ all) (sym (sym (guarded_width at (test ++ where_fails Outward ∷ []) (redirecting site port)) ∙ unfolded_width site on_source at test (goes.Redirect port))) le)
+    guarded_ok (length chains + 3) all at (test ++ negative Outward ∷ []) (redirecting site port) (redirecting_writes site port)
+    (subst (λ w. at + w ≤ all) (sym (sym (guarded_width at (test ++ negative Outward ∷ []) (redirecting site port)) ∙ unfolded_width site on_source at test (goes.Redirect port))) le)
 unfolded_ok site chains table on_source all at test (goes.Netmap net) fit le =
     guarded_ok (length chains + 3) all at test (always (mapping on_source net) ∷ []) (mapping_writes on_source net) le
 

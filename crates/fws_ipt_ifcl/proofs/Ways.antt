@@ -24,6 +24,8 @@ use Rattle.fws_ifcl.specs.declared.step.ChainEnd.{ChainEnd}
 use Rattle.fws_ifcl.specs.declared.step.ChainEnd.TheVariants as there
 use Rattle.fws_ifcl.specs.declared.diagram.Rule.{Rule}
 use Rattle.fws_ifcl.specs.Walk.{rules_walk, chain_walk, stage_end, stage_walk, stages_walk, way_of as way_there, means}
+use Rattle.fws_rule.specs.Literals.{positive}
+use Rattle.fws_draw.specs.Rules.{ruled}
 use Rattle.fws_ipt.specs.declared.config.IptChain.{IptChain}
 use Rattle.fws_ipt.specs.declared.config.IptConfig.{IptConfig}
 use Rattle.fws_ipt.specs.declared.config.IptTable.{IptTable}
@@ -37,7 +39,6 @@ use Rattle.fws_ipt.specs.Loops.{NoLoop, NamesChains, WalksStandStill}
 use Rattle.fws_ipt.specs.Refusals.{head_width}
 use Rattle.fws_ipt.specs.Soundness.{chain_fits}
 use Rattle.fws_ipt.specs.Walk.{is_table, builtin_from, policy_at, by_policy, builtin_walk, tracked_at as tracks_at, visit, visits, arriving, delivered, forwarded, sent_out, go_to, routed, entering, way_of, outcome_of, walk, chain_walk as ipt_chain}
-use Rattle.fws_ipt_ifcl.specs.Blocks.{where_holds, ruled}
 use Rattle.fws_ipt_ifcl.specs.Diagram.{own_chains, own_stage, headed, unfolded_all, chain_for, is_on_source, tracked_at, stage_for, builtin_stage, stages_for, diagram_of}
 use Rattle.fws_ipt_ifcl.specs.Fitting.{has_sideless_rules, has_netmaps_placed}
 use Rattle.fws_ipt_ifcl.proofs.Entered.{stage_met}
@@ -96,7 +97,7 @@ stages_behind chains site p k (stage ∷ stages) more t =
 headed_est : (enter : ℕ → Transit → ChainEnd) (site : Site) (p : Packet) (r : Rec) (stage : Stage) (policy : Option Bool) (rest : List Rule) (t : Transit) → is_some policy ≡ true
     → rules_walk enter site p (Est r) stage 0 (headed Nat policy ++ rest) 0 t ≡ there.Accepted t
 headed_est enter site p r stage None rest t some = absurd (false≢true some)
-headed_est enter site p r stage (Some accepts) rest t some = first_rule enter site p (Est r) stage 0 (ruled (where_holds tests.Est ∷ []) acts.Accept) rest t
+headed_est enter site p r stage (Some accepts) rest t some = first_rule enter site p (Est r) stage 0 (ruled (positive tests.Est ∷ []) acts.Accept) rest t
 
 -- what is known of a configuration
 pub record Known (site : Site) (chains : List IptChain) : Type 0 where

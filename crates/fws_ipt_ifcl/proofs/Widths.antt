@@ -10,13 +10,15 @@ use Rattle.fws_net.specs.declared.site.Site.{Site}
 use Rattle.fws_ifcl.specs.declared.diagram.Act.{Act}
 use Rattle.fws_ifcl.specs.declared.diagram.Act.TheVariants.{Accept, Src, Dst}
 use Rattle.fws_ifcl.specs.declared.diagram.Rule.{Rule}
+use Rattle.fws_rule.specs.Literals.{one, positive, negative}
+use Rattle.fws_draw.specs.Rules.{ruled, always}
 use Rattle.fws_ipt.specs.declared.config.IptTable.{IptTable}
 use Rattle.fws_ipt.specs.declared.config.IptTable.TheVariants.{Filter, Nat, Mangle}
 use Rattle.fws_ipt.specs.declared.config.IptGo.{IptGo}
 use Rattle.fws_ipt.specs.declared.config.IptGo.TheVariants as goes
 use Rattle.fws_ipt.specs.declared.config.IptRule.{IptRule}
 use Rattle.fws_ipt.specs.Refusals.{width_of, head_width}
-use Rattle.fws_ipt_ifcl.specs.Blocks.{ruled, always, where_holds, where_fails, numbers, all_entries, guarded, by_entry, masquerading, redirecting, mapping, unfolded}
+use Rattle.fws_ipt_ifcl.specs.Blocks.{all_entries, guarded, by_entry, masquerading, redirecting, mapping, unfolded}
 use Rattle.fws_ipt_ifcl.specs.Diagram.{headed, unfolded_all}
 
 pub guarded_width : (at : ℕ) (cond : List Lit) (writes : List Rule) → length (guarded at cond writes) ≡ 3 + length writes
@@ -31,7 +33,7 @@ by_entry_width test act from (suc n) = ap suc (by_entry_width test act (suc from
 pub redirecting_width : (site : Site) (port : Option ℕ) → length (redirecting site port) ≡ length site.faces + 2
 redirecting_width site port =
     let act : ℕ → Act = λ entry. Dst (host_end (face_addr site entry) port) in
-    let last : Rule = ruled (where_fails (Recv (all_entries site)) ∷ []) (Dst (host_end loopback_addr port)) in
+    let last : Rule = ruled (negative (Recv (all_entries site)) ∷ []) (Dst (host_end loopback_addr port)) in
     let both : length (redirecting site port) ≡ length (by_entry Recv act 1 (length site.faces + 1)) + 1 =
     length-append (by_entry Recv act 1 (length site.faces + 1)) (last ∷ []) in
     let entries : length (by_entry Recv act 1 (length site.faces + 1)) ≡ length site.faces + 1 = by_entry_width Recv act 1 (length site.faces + 1) in
@@ -46,17 +48,17 @@ unfolded_width site on_source at cond goes.Next = refl
 unfolded_width site on_source at cond (goes.Jump c) = refl
 unfolded_width site on_source at cond (goes.Goto c) = refl
 unfolded_width site on_source at cond (goes.Mark v) = refl
-unfolded_width site on_source at cond (goes.Source e) = guarded_width at (cond ++ where_holds Outward ∷ []) (always (Src e) ∷ [])
+unfolded_width site on_source at cond (goes.Source e) = guarded_width at (cond ++ positive Outward ∷ []) (always (Src e) ∷ [])
 unfolded_width site on_source at cond goes.Masquerade =
     let entries : length (masquerading site) ≡ length site.faces + 1 = by_entry_width Xmit (λ entry. Src (host_end (face_addr site entry) None)) 1 (length site.faces + 1) in
     let all : length (unfolded site on_source at cond goes.Masquerade) ≡ 3 + length (masquerading site) =
-    guarded_width at (cond ++ where_holds Outward ∷ where_holds (Xmit (all_entries site)) ∷ []) (masquerading site) in
+    guarded_width at (cond ++ positive Outward ∷ positive (Xmit (all_entries site)) ∷ []) (masquerading site) in
     omega (arith, entries, all)
-unfolded_width site on_source at cond (goes.Dest e) = guarded_width at (cond ++ where_fails Outward ∷ []) (always (Dst e) ∷ [])
+unfolded_width site on_source at cond (goes.Dest e) = guarded_width at (cond ++ negative Outward ∷ []) (always (Dst e) ∷ [])
 unfolded_width site on_source at cond (goes.Redirect port) =
     let entries = redirecting_width site port in
     let all : length (unfolded site on_source at cond (goes.Redirect port)) ≡ 3 + length (redirecting site port) =
-    guarded_width at (cond ++ where_fails Outward ∷ []) (redirecting site port) in
+    guarded_width at (cond ++ negative Outward ∷ []) (redirecting site port) in
     omega (arith, entries, all)
 unfolded_width site on_source at cond (goes.Netmap net) = guarded_width at cond (always (mapping on_source net) ∷ [])
 
@@ -80,18 +82,18 @@ unfolded_next site on_source built made r rs is =
 
 -- one entry more
 pub by_entry_next : (test : List Iv → Test) (act : ℕ → Act) (from past : ℕ) → from < past
-    → by_entry test act from (past - from) ≡ ruled (where_holds (test (numbers from from)) ∷ []) (act from) ∷ by_entry test act (from + 1) (past - (from + 1))
+    → by_entry test act from (past - from) ≡ ruled (positive (test (one from from)) ∷ []) (act from) ∷ by_entry test act (from + 1) (past - (from + 1))
 by_entry_next test act from past lt =
     let some : past - from ≡ suc (past - (from + 1)) = omega arith in
     let next : suc from ≡ from + 1 = omega arith in
-    ap (by_entry test act from) some ∙ ap (λ n. ruled (where_holds (test (numbers from from)) ∷ []) (act from) ∷ by_entry test act n (past - (from + 1))) next
+    ap (by_entry test act from) some ∙ ap (λ n. ruled (positive (test (one from from)) ∷ []) (act from) ∷ by_entry test act n (past - (from + 1))) next
 
 -- the loop over entries, one entry further
 pub entry_built : (test : List Iv → Test) (act : ℕ → Act) (from past : ℕ) (built made : List Rule) (rule : Rule) (whole : List Rule) → from < past
-    → made ≡ built ++ rule ∷ [] → rule ≡ ruled (where_holds (test (numbers from from)) ∷ []) (act from)
+    → made ≡ built ++ rule ∷ [] → rule ≡ ruled (positive (test (one from from)) ∷ []) (act from)
     → built ++ by_entry test act from (past - from) ≡ whole → made ++ by_entry test act (from + 1) (past - (from + 1)) ≡ whole
 entry_built test act from past built made rule whole lt put is so_far =
     ap (λ rules. rules ++ by_entry test act (from + 1) (past - (from + 1))) (put ∙ ap (λ r. built ++ r ∷ []) is)
-    ∙ append_assoc built (ruled (where_holds (test (numbers from from)) ∷ []) (act from) ∷ []) (by_entry test act (from + 1) (past - (from + 1)))
+    ∙ append_assoc built (ruled (positive (test (one from from)) ∷ []) (act from) ∷ []) (by_entry test act (from + 1) (past - (from + 1)))
     ∙ ap (λ rules. built ++ rules) (sym (by_entry_next test act from past lt))
     ∙ so_far

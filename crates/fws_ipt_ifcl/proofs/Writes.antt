@@ -12,18 +12,19 @@ use Rattle.fws_net.specs.Conditions.{holds}
 use Rattle.fws_ifcl.specs.declared.diagram.Act.{Act}
 use Rattle.fws_ifcl.specs.declared.diagram.Stage.{Stage}
 use Rattle.fws_ifcl.specs.Walk.{sees}
-use Rattle.fws_ipt_ifcl.specs.Blocks.{where_holds, numbers, by_entry}
+use Rattle.fws_rule.specs.Literals.{one, positive}
+use Rattle.fws_ipt_ifcl.specs.Blocks.{by_entry}
 use Rattle.fws_ipt_ifcl.proofs.Guarding.{written, written_by, is_write, are_writes}
 
 -- a number from lo to hi
-pub between : (lo hi x : ℕ) → lo ≤ x → x ≤ hi → has (numbers lo hi) x ≡ true
+pub between : (lo hi x : ℕ) → lo ≤ x → x ≤ hi → has (one lo hi) x ≡ true
 between lo hi x low high =
     let a : nat_le lo x ≡ true = le-leb lo x low in
     let b : nat_le x hi ≡ true = le-leb x hi high in
     ap (λ c. (c && nat_le x hi) || false) a ∙ ap (λ c. c || false) b
 
 -- another number than the only one
-pub apart : (e x : ℕ) → (e ≡ x → ⊥) → has (numbers e e) x ≡ false
+pub apart : (e x : ℕ) → (e ≡ x → ⊥) → has (one e e) x ≡ false
 apart e x other =
     or_from (nat_le e x && nat_le x e) false
     (false_from_ne_true (nat_le e x && nat_le x e)
@@ -41,32 +42,32 @@ entries_write test act writes from (suc n) =
 module _ (site : Site) (p : Packet) (k : Kind) (stage : Stage) (test : List Iv → Test) (act : ℕ → Act) where
   -- entries from one on at which no rule's test holds
   pub entries_missed : (from n : ℕ) (t : Transit)
-      → ((e : ℕ) → from ≤ e → holds (where_holds (test (numbers e e)) ∷ []) (sees site k stage t) ≡ false)
+      → ((e : ℕ) → from ≤ e → holds (positive (test (one e e)) ∷ []) (sees site k stage t) ≡ false)
       → written_by site p k stage (by_entry test act from n) t ≡ t
   entries_missed from zero t miss = refl
   entries_missed from (suc n) t miss =
-      let same : cond (holds (where_holds (test (numbers from from)) ∷ []) (sees site k stage t)) (written p (act from) t) t ≡ t =
-      cond-false (holds (where_holds (test (numbers from from)) ∷ []) (sees site k stage t)) (written p (act from) t) t (miss from (omega arith)) in
+      let same : cond (holds (positive (test (one from from)) ∷ []) (sees site k stage t)) (written p (act from) t) t ≡ t =
+      cond-false (holds (positive (test (one from from)) ∷ []) (sees site k stage t)) (written p (act from) t) t (miss from (omega arith)) in
       ap (written_by site p k stage (by_entry test act (suc from) n)) same
       ∙ entries_missed (suc from) n t (λ e le. miss e (omega arith))
 
   -- entries of which one is found, ahead of the writing and behind it
   pub entries_hit : (x from n : ℕ) (t : Transit) → from ≤ x → x < from + n
-      → holds (where_holds (test (numbers x x)) ∷ []) (sees site k stage t) ≡ true
-      → ((e : ℕ) → (e ≡ x → ⊥) → holds (where_holds (test (numbers e e)) ∷ []) (sees site k stage t) ≡ false)
-      → ((e : ℕ) → (e ≡ x → ⊥) → holds (where_holds (test (numbers e e)) ∷ []) (sees site k stage (written p (act x) t)) ≡ false)
+      → holds (positive (test (one x x)) ∷ []) (sees site k stage t) ≡ true
+      → ((e : ℕ) → (e ≡ x → ⊥) → holds (positive (test (one e e)) ∷ []) (sees site k stage t) ≡ false)
+      → ((e : ℕ) → (e ≡ x → ⊥) → holds (positive (test (one e e)) ∷ []) (sees site k stage (written p (act x) t)) ≡ false)
       → written_by site p k stage (by_entry test act from n) t ≡ written p (act x) t
   entries_hit x from zero t low high hit miss after = absurd (omega arith)
   entries_hit x from (suc n) t low high hit miss after =
       ⊎_elim
       (λ same. subst
-      (λ e. written_by site p k stage (by_entry test act (suc from) n) (cond (holds (where_holds (test (numbers e e)) ∷ []) (sees site k stage t)) (written p (act e) t) t) ≡ written p (act x) t)
+      (λ e. written_by site p k stage (by_entry test act (suc from) n) (cond (holds (positive (test (one e e)) ∷ []) (sees site k stage t)) (written p (act e) t) t) ≡ written p (act x) t)
       (sym same)
-      (ap (written_by site p k stage (by_entry test act (suc from) n)) (cond-true (holds (where_holds (test (numbers x x)) ∷ []) (sees site k stage t)) (written p (act x) t) t hit)
+      (ap (written_by site p k stage (by_entry test act (suc from) n)) (cond-true (holds (positive (test (one x x)) ∷ []) (sees site k stage t)) (written p (act x) t) t hit)
       ∙ entries_missed (suc from) n (written p (act x) t) (λ e le. after e (λ is. let less : from ≡ x = same in omega (arith, less, is)))))
       (λ other.
       let more : suc from ≤ x = omega (arith, other) in
       let still : x < suc from + n = omega arith in
-      ap (written_by site p k stage (by_entry test act (suc from) n)) (cond-false (holds (where_holds (test (numbers from from)) ∷ []) (sees site k stage t)) (written p (act from) t) t (miss from other))
+      ap (written_by site p k stage (by_entry test act (suc from) n)) (cond-false (holds (positive (test (one from from)) ∷ []) (sees site k stage t)) (written p (act from) t) t (miss from other))
       ∙ entries_hit x (suc from) n t more still hit miss after)
       (cases_eq from x)

@@ -1,5 +1,5 @@
 -- The rules of a diagram to which a rule of iptables is unfolded.
-use Rattle.std.specs.Prelude.{ℕ, zero, suc, ◌+◌, Bool, true, false, Option, None, List, [], ◌∷◌, ◌++◌, length, if◌then◌else◌}
+use Rattle.std.specs.Prelude.{ℕ, zero, suc, ◌+◌, Bool, Option, None, List, [], ◌∷◌, ◌++◌, length, if◌then◌else◌}
 use Rattle.fws_num.specs.declared.prefix.Prefix.{Prefix}
 use Rattle.fws_iv.specs.declared.iv.Iv.{Iv}
 use Rattle.fws_net.specs.declared.condition.Lit.{Lit}
@@ -11,36 +11,15 @@ use Rattle.fws_net.specs.Faces.{face_addr, loopback_addr}
 use Rattle.fws_ifcl.specs.declared.diagram.Act.{Act}
 use Rattle.fws_ifcl.specs.declared.diagram.Act.TheVariants.{Accept, Drop, Return, Skip, Call, Goto, Src, Dst, OnlyTag}
 use Rattle.fws_ifcl.specs.declared.diagram.Rule.{Rule}
+use Rattle.fws_rule.specs.Literals.{one, positive, negative}
+use Rattle.fws_draw.specs.Rules.{ruled, always}
 use Rattle.fws_ipt.specs.declared.config.IptGo.{IptGo}
 use Rattle.fws_ipt.specs.declared.config.IptGo.TheVariants as goes
 use Rattle.fws_ipt.specs.Networks.{net_end}
 
--- Conditions
-
--- the literal that holds where the test does
-abbrev pub where_holds : Test → Lit
-where_holds test = record { not = false; test = test }
-
--- the literal that holds where the test doesn't
-abbrev pub where_fails : Test → Lit
-where_fails test = record { not = true; test = test }
-
--- the numbers from one to another
-abbrev pub numbers : ℕ → ℕ → List Iv
-numbers lo hi = record { lo = lo; hi = hi } ∷ []
-
 -- the entries of loopback and of the interfaces
 abbrev pub all_entries : Site → List Iv
-all_entries site = numbers 1 (length site.faces + 1)
-
--- Rules
-
-abbrev pub ruled : List Lit → Act → Rule
-ruled cond act = record { cond = cond; act = act }
-
--- a rule that acts everywhere
-abbrev pub always : Act → Rule
-always act = ruled [] act
+all_entries site = one 1 (length site.faces + 1)
 
 -- rules of which the first has the place at: where the condition holds they write and end the stage, else the walk goes on
 -- behind them
@@ -51,7 +30,7 @@ guarded at cond writes =
 -- rules for n entries from one on: each acts where the test finds its entry alone
 abbrev pub by_entry : (List Iv → Test) → (ℕ → Act) → ℕ → ℕ → List Rule
 by_entry test act from zero = []
-by_entry test act from (suc n) = ruled (where_holds (test (numbers from from)) ∷ []) (act from) ∷ by_entry test act (suc from) n
+by_entry test act from (suc n) = ruled (positive (test (one from from)) ∷ []) (act from) ∷ by_entry test act (suc from) n
 
 -- MASQUERADE writes the address of the sending interface
 abbrev pub masquerading : Site → List Rule
@@ -61,7 +40,7 @@ masquerading site = by_entry Xmit (λ entry. Src (host_end (face_addr site entry
 abbrev pub redirecting : Site → Option ℕ → List Rule
 redirecting site port =
     by_entry Recv (λ entry. Dst (host_end (face_addr site entry) port)) 1 (length site.faces + 1)
-    ++ ruled (where_fails (Recv (all_entries site)) ∷ []) (Dst (host_end loopback_addr port)) ∷ []
+    ++ ruled (negative (Recv (all_entries site)) ∷ []) (Dst (host_end loopback_addr port)) ∷ []
 
 -- NETMAP writes the source in a chain that packets meet as they leave or are delivered, else the destination
 abbrev pub mapping : Bool → Prefix → Act
@@ -77,9 +56,9 @@ unfolded site on_source at cond goes.Next = ruled cond (Skip (at + 1)) ∷ []
 unfolded site on_source at cond (goes.Jump c) = ruled cond (Call (c + 3)) ∷ []
 unfolded site on_source at cond (goes.Goto c) = ruled cond (Goto (c + 3)) ∷ []
 unfolded site on_source at cond (goes.Mark v) = ruled cond (OnlyTag v) ∷ []
-unfolded site on_source at cond (goes.Source e) = guarded at (cond ++ where_holds Outward ∷ []) (always (Src e) ∷ [])
+unfolded site on_source at cond (goes.Source e) = guarded at (cond ++ positive Outward ∷ []) (always (Src e) ∷ [])
 unfolded site on_source at cond goes.Masquerade =
-    guarded at (cond ++ where_holds Outward ∷ where_holds (Xmit (all_entries site)) ∷ []) (masquerading site)
-unfolded site on_source at cond (goes.Dest e) = guarded at (cond ++ where_fails Outward ∷ []) (always (Dst e) ∷ [])
-unfolded site on_source at cond (goes.Redirect port) = guarded at (cond ++ where_fails Outward ∷ []) (redirecting site port)
+    guarded at (cond ++ positive Outward ∷ positive (Xmit (all_entries site)) ∷ []) (masquerading site)
+unfolded site on_source at cond (goes.Dest e) = guarded at (cond ++ negative Outward ∷ []) (always (Dst e) ∷ [])
+unfolded site on_source at cond (goes.Redirect port) = guarded at (cond ++ negative Outward ∷ []) (redirecting site port)
 unfolded site on_source at cond (goes.Netmap net) = guarded at cond (always (mapping on_source net) ∷ [])

@@ -10,6 +10,8 @@ use Rattle.fws_ifcl.specs.declared.diagram.Rule.{Rule}
 use Rattle.fws_ifcl.specs.declared.diagram.Chain.{Chain}
 use Rattle.fws_ifcl.specs.declared.diagram.Stage.{Stage}
 use Rattle.fws_ifcl.specs.declared.diagram.Ifcl.{Ifcl}
+use Rattle.fws_rule.specs.Literals.{positive}
+use Rattle.fws_draw.specs.Rules.{ruled, always}
 use Rattle.fws_ipt.specs.declared.config.IptTable.{IptTable}
 use Rattle.fws_ipt.specs.declared.config.IptTable.TheVariants.{Nat}
 use Rattle.fws_ipt.specs.declared.config.IptRule.{IptRule}
@@ -19,7 +21,7 @@ use Rattle.fws_ipt.specs.declared.hook.Hook.{Hook}
 use Rattle.fws_ipt.specs.declared.hook.Hook.TheVariants.{Prerouting, Input, Output, Postrouting}
 use Rattle.fws_ipt.specs.Refusals.{width_of, head_width}
 use Rattle.fws_ipt.specs.Walk.{hook_name, is_table, shows_recv, shows_xmit, writes_src_at, policy_at, builtin_from, arriving, delivered, forwarded, sent_out}
-use Rattle.fws_ipt_ifcl.specs.Blocks.{where_holds, ruled, always, unfolded}
+use Rattle.fws_ipt_ifcl.specs.Blocks.{unfolded}
 
 -- Chains
 
@@ -33,7 +35,7 @@ own_chains = own_chain (codes "mark") (OnlyTag 0) ∷ own_chain (codes "destinat
 
 -- a packet of a connection doesn't meet the rules of nat
 abbrev pub headed : IptTable → Option Bool → List Rule
-headed Nat (Some accepts) = ruled (where_holds Est ∷ []) Accept ∷ []
+headed Nat (Some accepts) = ruled (positive Est ∷ []) Accept ∷ []
 headed _ _ = []
 
 -- the rules of rules, of which the first has the place at

@@ -2,17 +2,17 @@
 
 ghost use Rattle.std.specs.Prelude.{◌≡◌, ◌+◌, [], ◌∷◌, ◌++◌, length, IfOk, OnOk};
 ghost use Rattle.fws_net.specs.Routes.{IsSound};
-ghost use Rattle.fws_ipt_ifcl.specs.Blocks.{always, mapping, masquerading, redirecting, unfolded};
+ghost use Rattle.fws_draw.specs.Rules.{always};
+ghost use Rattle.fws_ipt_ifcl.specs.Blocks.{mapping, masquerading, redirecting, unfolded};
 
-use crate::guards::{
-    all_entries, always, narrowed, one_entry, put_guarded, put_rule, ruled_by, where_fails,
-    where_holds,
-};
-use crate::places::{file_chain, place_behind};
+use crate::guards::{all_entries, one_entry, put_guarded};
+use crate::places::file_chain;
+use fws_draw::{always, narrowed, place_behind, put_rule, ruled_by};
 use fws_ifcl::{Act, Rule};
 use fws_ipt::{IptGo, IptRule, net_end};
 use fws_net::{Cond, End, LOOPBACK_ADDR, Site, Test, face_addr};
 use fws_num::{Memory, Prefix};
+use fws_rule::{negative, positive};
 use std::alloc::Global;
 
 /// The entry of the last interface.
@@ -31,7 +31,7 @@ fn masquerading(alloc: Global, site: &Site) -> Result<Vec<Rule>, Memory>
 {
     let mut rules = Vec::new(alloc);
     for entry in 1..last_entry(site) + 1 {
-        let own = where_holds(Test::Xmit(one_entry(alloc, entry)?));
+        let own = positive(Test::Xmit(one_entry(alloc, entry)?));
         let end = End::host(face_addr(site, entry), None);
         rules.push(ruled_by(alloc, own, Act::Src(end))?)?;
     }
@@ -46,11 +46,11 @@ fn redirecting(alloc: Global, site: &Site, port: Option<u16>) -> Result<Vec<Rule
 {
     let mut rules = Vec::new(alloc);
     for entry in 1..last_entry(site) + 1 {
-        let own = where_holds(Test::Recv(one_entry(alloc, entry)?));
+        let own = positive(Test::Recv(one_entry(alloc, entry)?));
         let end = End::host(face_addr(site, entry), port);
         rules.push(ruled_by(alloc, own, Act::Dst(end))?)?;
     }
-    let sent = where_fails(Test::Recv(all_entries(alloc, site)?));
+    let sent = negative(Test::Recv(all_entries(alloc, site)?));
     let end = End::host(LOOPBACK_ADDR, port);
     rules.push(ruled_by(alloc, sent, Act::Dst(end))?)?;
     Ok(rules)
@@ -101,12 +101,12 @@ pub(crate) fn put_unfolded(
         IptGo::Goto(c) => put_rule(rules, cond, Act::Goto(file_chain(c)?)),
         IptGo::Mark(mark) => put_rule(rules, cond, Act::OnlyTag(mark)),
         IptGo::Source(end) => {
-            let there = narrowed(cond, where_holds(Test::Outward))?;
+            let there = narrowed(cond, positive(Test::Outward))?;
             put_guarded(alloc, rules, there, one_rule(alloc, Act::Src(end))?)
         }
         IptGo::Masquerade => {
-            let leaving = narrowed(cond, where_holds(Test::Outward))?;
-            let sent = where_holds(Test::Xmit(all_entries(alloc, site)?));
+            let leaving = narrowed(cond, positive(Test::Outward))?;
+            let sent = positive(Test::Xmit(all_entries(alloc, site)?));
             put_guarded(
                 alloc,
                 rules,
@@ -115,11 +115,11 @@ pub(crate) fn put_unfolded(
             )
         }
         IptGo::Dest(end) => {
-            let there = narrowed(cond, where_fails(Test::Outward))?;
+            let there = narrowed(cond, negative(Test::Outward))?;
             put_guarded(alloc, rules, there, one_rule(alloc, Act::Dst(end))?)
         }
         IptGo::Redirect(port) => {
-            let there = narrowed(cond, where_fails(Test::Outward))?;
+            let there = narrowed(cond, negative(Test::Outward))?;
             put_guarded(alloc, rules, there, redirecting(alloc, site, port)?)
         }
         IptGo::Netmap(net) => {

@@ -5,11 +5,12 @@ ghost use Rattle.fws_net.specs.Routes.{IsSound};
 ghost use Rattle.fws_ipt_ifcl.specs.Diagram.{own_chain, own_chains, headed, is_on_source, chain_for};
 
 use crate::blocks::put_unfolded;
-use crate::guards::{always, ruled_by, where_holds};
+use fws_draw::{always, ruled_by};
 use fws_ifcl::{Act, Chain, Rule};
 use fws_ipt::{Hook, IptChain, IptTable};
 use fws_net::{Site, Test};
 use fws_num::{Items, Memory, Text};
+use fws_rule::positive;
 use std::alloc::Global;
 
 /// A chain of the diagram's own, with one rule. An error is want of memory.
@@ -43,7 +44,7 @@ fn headed(alloc: Global, table: IptTable, policy: Option<bool>) -> Result<Vec<Ru
     let mut rules = Vec::new(alloc);
     match (table, policy) {
         (IptTable::Nat, Some(_)) => {
-            rules.push(ruled_by(alloc, where_holds(Test::Est), Act::Accept)?)?;
+            rules.push(ruled_by(alloc, positive(Test::Est), Act::Accept)?)?;
             Ok(rules)
         }
         (IptTable::Nat, None) => Ok(rules),

@@ -1,3 +1,2 @@
 pub mod Appended
 pub mod Keys
-pub mod Patterns

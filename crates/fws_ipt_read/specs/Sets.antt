@@ -6,7 +6,7 @@ use Rattle.fws_net.specs.declared.condition.Test.{Test}
 use Rattle.fws_net.specs.declared.cause.Cause.{Cause}
 use Rattle.fws_net.specs.declared.answer.LineFault.{LineFault}
 use Rattle.fws_net.specs.Reading.{FaultGiven}
-use Rattle.fws_ipt.specs.Values.{positive}
+use Rattle.fws_rule.specs.Literals.{positive}
 
 -- a set, whichever test is made of it, is what reading gives, unless memory ran out
 abbrev pub SetGiven : Result (List Iv) (LineFault Cause) → ((List Iv → Test) → Result (Option Lit) Cause) → Type 0

@@ -6,11 +6,10 @@ ghost use Rattle.fws_net.specs.Ports.{address_range};
 ghost use Rattle.fws_ipt.specs.Values.{range_meaning, is_address_type, type_meaning};
 ghost use Rattle.fws_ipt_read.specs.Sets.{SetGiven};
 
-use crate::compared::{is, is_one_of};
-use crate::literals::demand;
 use fws_iv::{Ivs, one};
 use fws_net::{Cause, ReadFault, Site, local_set, read_address_range};
 use fws_num::{Text, pieces};
+use fws_rule::{demand, is, is_one_of};
 use std::alloc::Global;
 
 /// The addresses of a range with a dash.

@@ -8,11 +8,11 @@ ghost use Rattle.fws_ipt.specs.FileText.{alone, ends_declaration, with_builtin, 
 
 use crate::counters::is_counters;
 use crate::hooks::{builtin_hook, may_drop};
-use crate::literals::demand;
 use crate::progress::Progress;
 use fws_ipt::{Hook, IptTable, Section};
 use fws_net::{Cause, ReadFault};
 use fws_num::{Memory, Word, value_named};
+use fws_rule::demand;
 use std::alloc::Global;
 
 /// Policies by their names: whether they accept.

@@ -3,9 +3,9 @@
 ghost use Rattle.std.specs.Prelude.{◌≡◌, IfOk};
 ghost use Rattle.fws_ipt.specs.Values.{flag_of, flag_set, with_flags, flags_of, syn_literal};
 
-use crate::literals::positive;
 use fws_net::{Lit, Test};
 use fws_num::{Memory, Text, pieces, value_named};
+use fws_rule::positive;
 use std::alloc::Global;
 
 /// FIN, SYN, RST and ACK.

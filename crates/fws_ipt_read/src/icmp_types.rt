@@ -4,11 +4,10 @@ ghost use Rattle.std.specs.Prelude.{◌≡◌};
 ghost use Rattle.fws_net.specs.Reading.{CauseGiven};
 ghost use Rattle.fws_ipt.specs.Values.{is_type_and_code, numbered_type, icmp_meaning};
 
-use crate::compared::is;
-use crate::literals::positive;
 use fws_iv::one;
 use fws_net::{Cause, Lit, ReadFault, Test};
 use fws_num::{read_dec, split_once};
+use fws_rule::{is, positive};
 use std::alloc::Global;
 
 /// The type that stands for every one, and is left out.

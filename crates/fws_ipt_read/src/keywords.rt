@@ -3,9 +3,9 @@
 ghost use Rattle.std.specs.Prelude.{◌≡◌};
 ghost use Rattle.fws_ipt.specs.Options.{test_option, target_option, other_keyword, keyword_of, is_module, target_word, is_left_out_target, belongs, needs_option};
 
-use crate::compared::is_one_of;
 use fws_ipt::{Keyword, TargetOption, TargetWord, TestOption};
 use fws_num::value_named;
+use fws_rule::is_one_of;
 
 /// Options that test a packet.
 const TEST_OPTIONS: [(&[u8], TestOption); 19] = [

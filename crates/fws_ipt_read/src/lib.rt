@@ -3,16 +3,13 @@
 
 mod addresses;
 mod chain_names;
-mod compared;
 mod counters;
 mod declarations;
 mod flags;
 mod hooks;
 mod icmp_types;
-mod interfaces;
 mod keywords;
 mod lines;
-mod literals;
 mod marks;
 mod options;
 mod places;

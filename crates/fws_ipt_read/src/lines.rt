@@ -5,7 +5,6 @@ ghost use Rattle.fws_net.specs.Reading.{CauseGiven, StepGiven};
 ghost use Rattle.fws_net.specs.Routes.{IsSound};
 ghost use Rattle.fws_ipt.specs.FileText.{opens, table_line, commit_line, rule_line, chain_of_rule, appended_in, appended_to, append_line, out_of_place, counted_line, counters_line, word_line, first_step, words_step};
 
-use crate::compared::is;
 use crate::counters::is_counters;
 use crate::declarations::{alone, chain_line};
 use crate::hooks::{builtin_hook, section_named};
@@ -15,6 +14,7 @@ use crate::rule::read_rule;
 use fws_ipt::{Hook, IptTable, Section};
 use fws_net::{Cause, ReadFault, Site};
 use fws_num::Word;
+use fws_rule::is;
 use std::alloc::Global;
 
 /// Opens a table, which is done outside a table, and once.

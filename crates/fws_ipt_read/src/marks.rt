@@ -5,9 +5,9 @@ ghost use Rattle.std.specs.Option.{option_map_or};
 ghost use Rattle.fws_net.specs.Reading.{CauseGiven};
 ghost use Rattle.fws_ipt.specs.Values.{hex_digit, hex_after, hex_of, number_of, masked_of, is_full_mask, tested_mark, mark_value, set_whole, xmark_value, set_plain, set_mark_value};
 
-use crate::literals::demand;
 use fws_net::{Cause, ReadFault};
 use fws_num::{read_dec, split_once};
+use fws_rule::demand;
 
 /// The value of a hexadecimal digit.
 fn hex_digit(c: u8) -> Option<u8>

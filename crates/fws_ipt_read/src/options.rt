@@ -1,29 +1,19 @@
 //! Options of a rule that test packets, with their values.
 
 ghost use Rattle.std.specs.Prelude.{◌≡◌, OnOk};
-ghost use Rattle.std.specs.List.{list_any};
-ghost use Rattle.std.specs.Str.{bytes_eq};
 ghost use Rattle.fws_net.specs.Reading.{StepGiven};
 ghost use Rattle.fws_net.specs.Routes.{IsSound};
-ghost use Rattle.fws_ipt.specs.Values.{literals};
+ghost use Rattle.fws_rule.specs.Literals.{literals};
 ghost use Rattle.fws_ipt.specs.RuleText.{closed, once, asks_port, asks_flags, asks_icmp, noted, with_literals, test_begun, test_step, from_step, toward_step, with_protocol, protocol_step, mask_step, compared_step, plain_step, value_step};
 
-use crate::compared::is;
 use crate::flags::{read_flags, syn_literal};
-use crate::literals::{demand, positive, put_literals};
-use crate::protocols::{protocol_literal, read_protocol_value};
+use crate::protocols::read_protocol_value;
 use crate::values::read_meaning;
 use fws_ipt::{Expects, RuleDraft, TestOption};
 use fws_net::{Cause, Lit, ReadFault, Site, Test, prefix_set};
 use fws_num::{Memory, Text, read_prefix};
+use fws_rule::{demand, is_given, positive, protocol_literal, put_literals};
 use std::alloc::Global;
-
-/// Whether the option was given.
-fn is_given(given: &[Text], text: &[u8]) -> bool
-    ensures { result ≡ list_any (bytes_eq text.now) given.now }
-{
-    given.iter().any(|other| is(text, other.as_slice()))
-}
 
 /// Notes an option that may come once.
 pub(crate) fn once(alloc: Global, d: &mut RuleDraft, text: &[u8]) -> Result<(), ReadFault>

@@ -5,10 +5,10 @@ ghost use Rattle.fws_net.specs.Ports.{in_order, ports_of};
 ghost use Rattle.fws_ipt.specs.Values.{end_of_range, open_range, range_meaning, set_meaning};
 ghost use Rattle.fws_ipt_read.specs.Sets.{SetGiven};
 
-use crate::literals::demand;
 use fws_iv::{Ivs, one};
 use fws_net::{ReadFault, read_ports};
 use fws_num::{read_port, split_once};
+use fws_rule::demand;
 use std::alloc::Global;
 
 /// An end of a range; one that is left empty is the given one.

@@ -7,7 +7,6 @@ ghost use Rattle.fws_net.specs.Reading.{CauseGiven, StepGiven};
 ghost use Rattle.fws_net.specs.Routes.{IsSound};
 ghost use Rattle.fws_ipt.specs.RuleText.{fresh_rule, target_begun, keyword_step, is_target_option, known_step, any_step, negated_keyword, negated_step, module_step, expected_step, rule_step, is_keyword_next, is_complete, is_misplaced, logs, is_protocol, lacks_protocol, named_len, keeps_network, is_loose, is_rule_left_out, rule_checks, rule_made, rule_of};
 
-use crate::compared::is;
 use crate::keywords::{is_module, read_keyword};
 use crate::options::{compared_step, once, test_step, value_step};
 use crate::progress::Progress;
@@ -15,6 +14,7 @@ use crate::targets::{goto_step, option_step, target_step, target_value_step};
 use fws_ipt::{Expects, Hook, IptGo, IptRule, IptTable, Keyword, RuleDraft, TargetWord};
 use fws_net::{Cause, Checks, Cond, ReadFault, Site};
 use fws_num::{Items, Prefix, Word};
+use fws_rule::is;
 use std::alloc::Global;
 
 /// A rule ahead of its first word.

@@ -2,14 +2,12 @@
 
 ghost use Rattle.std.specs.Prelude.{◌≡◌};
 ghost use Rattle.std.specs.List.{list_all, list_any};
-ghost use Rattle.std.specs.Str.{bytes_eq};
 ghost use Rattle.fws_net.specs.Reading.{CauseGiven};
 ghost use Rattle.fws_ipt.specs.Values.{is_state, is_translation_state, state_literal, states_meaning, state_meaning};
 
-use crate::compared::{is, is_one_of};
-use crate::literals::positive;
 use fws_net::{Cause, Lit, ReadFault, Test};
 use fws_num::{Text, pieces};
+use fws_rule::{is_given, is_one_of, positive};
 use std::alloc::Global;
 
 /// States of connections.
@@ -56,13 +54,6 @@ fn has_translation_state(items: &[Text]) -> bool
         .any(|item| is_translation_state(item.as_slice()))
 }
 
-/// Whether the name is among the items.
-fn has_state(name: &[u8], items: &[Text]) -> bool
-    ensures { result ≡ list_any (bytes_eq name.now) items.now }
-{
-    items.iter().any(|item| is(name, item.as_slice()))
-}
-
 /// The literal of new packets, of established ones, or of both: every packet is one or the other. The
 /// other states are those of no packet.
 fn state_literal(new: bool, established: bool) -> Option<Lit>
@@ -88,7 +79,7 @@ fn states_meaning(items: &[Text]) -> Result<Option<Lit>, ReadFault>
     } else if has_translation_state(items) {
         Err(ReadFault::Bad(Cause::LeftOut))
     } else {
-        Ok(state_literal(has_state(b"NEW", items), has_state(b"ESTABLISHED", items)))
+        Ok(state_literal(is_given(items, b"NEW"), is_given(items, b"ESTABLISHED")))
     }
 }
 

@@ -6,13 +6,12 @@ ghost use Rattle.fws_ipt.specs.Values.{meaning_of};
 
 use crate::addresses::{read_range_set, read_type_set};
 use crate::icmp_types::read_icmp_type;
-use crate::interfaces::read_interfaces;
-use crate::literals::positive;
 use crate::marks::read_mark;
 use crate::ports::{read_port_list, read_port_set};
 use crate::states::read_states;
 use fws_ipt::TestOption;
-use fws_net::{Cause, Lit, ReadFault, Site, Test};
+use fws_net::{Cause, Lang, Lit, ReadFault, Site, Test};
+use fws_rule::{positive, read_interfaces};
 use std::alloc::Global;
 
 /// The literal of an option with one value; none where it holds of every packet. `-s`, `-d`, `-p`,
@@ -28,10 +27,12 @@ pub(crate) fn read_meaning(
 {
     match option {
         TestOption::InInterface => {
-            Ok(Some(positive(Test::Recv(read_interfaces(alloc, site, text)?))))
+            let set = read_interfaces(alloc, site, Lang::Iptables, b'+', text)?;
+            Ok(Some(positive(Test::Recv(set))))
         }
         TestOption::OutInterface => {
-            Ok(Some(positive(Test::Xmit(read_interfaces(alloc, site, text)?))))
+            let set = read_interfaces(alloc, site, Lang::Iptables, b'+', text)?;
+            Ok(Some(positive(Test::Xmit(set))))
         }
         TestOption::SourcePort => Ok(Some(positive(Test::Sport(read_port_set(alloc, text)?)))),
         TestOption::DestinationPort => Ok(Some(positive(Test::Dport(read_port_set(alloc, text)?)))),

@@ -2,4 +2,4 @@ use Rattle.fws_ipt.proofs.Regular.{spelled_walks_are_regular}
 use Rattle.fws_ipt.proofs.laws.spelled_walks_are_regular.Goals as goal
 
 pub returns : goal.returns
-returns c = spelled_walks_are_regular
+returns c = spelled_walks_are_regular c.conditions_hold_alike.ensures

@@ -3,7 +3,8 @@ use Rattle.fws_net.specs.declared.condition.Test.TheVariants.{Recv}
 use Rattle.fws_net.specs.Ends.{host_end}
 use Rattle.fws_net.specs.Faces.{face_addr}
 use Rattle.fws_ifcl.specs.declared.diagram.Act.TheVariants.{Dst}
-use Rattle.fws_ipt_ifcl.specs.Blocks.{ruled, where_holds, numbers}
+use Rattle.fws_rule.specs.Literals.{one, positive}
+use Rattle.fws_draw.specs.Rules.{ruled}
 use Rattle.fws_ipt_ifcl.proofs.Widths.{entry_built}
 use Rattle.fws_ipt_ifcl.proofs.blocks.redirecting.Goals as goal
 
@@ -12,10 +13,10 @@ loop-entry-preserved c =
     let e = c.loop-entry.entry in
     let site = c.args.site.now in
     let within : e < length site.faces + 2 = omega (arith, c.loop-entry-test.true, c.last_entry-entry-end.ensures) in
-    let is : c.in_ok-ruled_by.field-0 ≡ ruled (where_holds (Recv (numbers e e)) ∷ []) (Dst (host_end (face_addr site e) c.args.port)) =
+    let is : c.in_ok-ruled_by.field-0 ≡ ruled (positive (Recv (one e e)) ∷ []) (Dst (host_end (face_addr site e) c.args.port)) =
     c.in_ok-ruled_by.ensures
-    ∙ ap (λ lit. ruled (lit ∷ []) (Dst c.host-end.result)) (c.where_holds-own.ensures ∙ ap (λ set. where_holds (Recv set)) c.in_ok-one_entry.ensures)
-    ∙ ap (λ end. ruled (where_holds (Recv (numbers e e)) ∷ []) (Dst end)) (c.host-end.ensures ∙ ap (λ a. host_end a c.args.port) c.face_addr.ensures) in
+    ∙ ap (λ lit. ruled (lit ∷ []) (Dst c.host-end.result)) (c.positive-own.ensures ∙ ap (λ set. positive (Recv set)) c.in_ok-one_entry.ensures)
+    ∙ ap (λ end. ruled (positive (Recv (one e e)) ∷ []) (Dst end)) (c.host-end.ensures ∙ ap (λ a. host_end a c.args.port) c.face_addr.ensures) in
     record {
       entries = omega (arith, within);
       built = entry_built Recv (λ entry. Dst (host_end (face_addr site entry) c.args.port)) e (length site.faces + 2) c.loop-entry.rules.items _ c.in_ok-ruled_by.field-0 _

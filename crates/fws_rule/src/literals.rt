@@ -3,20 +3,27 @@
 ghost use Rattle.std.specs.Prelude.{◌≡◌, ◌++◌, OnOk};
 ghost use Rattle.std.specs.Option.{ok_or};
 ghost use Rattle.fws_net.specs.Reading.{CauseGiven};
-ghost use Rattle.fws_ipt.specs.Values.{positive, literals};
+ghost use Rattle.fws_rule.specs.Literals.{positive, negative, literals};
 
 use fws_net::{Cause, Cond, Lit, ReadFault, Test};
 use fws_num::Memory;
 
 /// The test as a literal.
-pub(crate) fn positive(test: Test) -> Lit
+pub fn positive(test: Test) -> Lit
     ensures { result ≡ positive test }
 {
     Lit { not: false, test }
 }
 
-/// What was spelled, which has to be there.
-pub(crate) fn demand<T: Drop>(spelled: Option<T>) -> Result<T, ReadFault>
+/// The test as a literal that negates it.
+pub fn negative(test: Test) -> Lit
+    ensures { result ≡ negative test }
+{
+    Lit { not: true, test }
+}
+
+/// What was spelled, which has to be there; else the cause is Syntax.
+pub fn demand<T: Drop>(spelled: Option<T>) -> Result<T, ReadFault>
     ensures { CauseGiven result (ok_or spelled Cause.Syntax) }
 {
     match spelled {
@@ -27,7 +34,7 @@ pub(crate) fn demand<T: Drop>(spelled: Option<T>) -> Result<T, ReadFault>
 
 /// Appends what stands in a condition for an option: nothing where it holds of every packet, and a test
 /// that never holds where that is negated. An error is want of memory.
-pub(crate) fn put_literals(cond: &mut Cond, negated: bool, lit: Option<Lit>) -> Result<(), Memory>
+pub fn put_literals(cond: &mut Cond, negated: bool, lit: Option<Lit>) -> Result<(), Memory>
     ensures { OnOk result (cond.new ≡ cond.old ++ literals negated lit) }
 {
     match lit {

@@ -1,41 +1,20 @@
--- Packets that differ in nothing that a condition can see.
+-- A condition holds of two packets or of neither that differ in nothing that a condition can see.
 use Rattle.std.proofs.Common.{◌≡◌, Bool, true, false, ◌&&◌, cond, nat_eq, List, [], ◌∷◌, refl, ap, ◌∙◌}
 use Rattle.std.specs.Prelude.{not}
 use Rattle.std.specs.List.{list_any}
 use Rattle.std.specs.Int.Bits.{bit_and}
 use Rattle.fws_iv.specs.Ivs.{has}
-use Rattle.fws_net.specs.declared.packet.Packet.{Packet}
 use Rattle.fws_net.specs.declared.condition.Test.{Test}
 use Rattle.fws_net.specs.declared.condition.Test.TheVariants.{Src, Dst, Sport, Dport, Proto, Icmp, Flags, AnyFlag, Recv, Xmit, Via, Outward, Est, Tag, Never}
 use Rattle.fws_net.specs.declared.condition.Lit.{Lit}
 use Rattle.fws_net.specs.declared.view.View.{View}
 use Rattle.fws_net.specs.Conditions.{is_shown, test_holds, lit_holds, holds}
 use Rattle.fws_net.specs.Fates.{has_ports}
-
--- they agree, but for ports, flags and ICMP types at protocols that have none
-pub record Alike (p q : Packet) : Type 0 where
-  pub entry : p.entry ≡ q.entry
-  pub proto : p.proto ≡ q.proto
-  pub dst : p.dst ≡ q.dst
-  pub src : p.src ≡ q.src
-  pub dport : has_ports p.proto ≡ true → p.dport ≡ q.dport
-  pub sport : has_ports p.proto ≡ true → p.sport ≡ q.sport
-  pub flags : nat_eq p.proto 6 ≡ true → p.flags ≡ q.flags
-  pub icmp : nat_eq p.proto 1 ≡ true → p.icmp ≡ q.icmp
-
-pub record AlikeViews (v w : View) : Type 0 where
-  pub packet : Alike v.packet w.packet
-  pub recv : v.recv ≡ w.recv
-  pub xmit : v.xmit ≡ w.xmit
-  pub outward : v.outward ≡ w.outward
-  pub est : v.est ≡ w.est
-  pub tags : v.tags ≡ w.tags
+use Rattle.fws_rule.specs.Alike.{Alike, AlikeViews, ConditionsHoldAlike}
 
 and_alike : (a b c d : Bool) → a ≡ b → (a ≡ true → c ≡ d) → (a && c) ≡ (b && d)
 and_alike true b c d e h = let same : c ≡ d = h refl in cc
 and_alike false b c d e h = ap (λ x. x && d) e
-
--- What holds of one holds of the other
 
 test_alike : (v w : View) → AlikeViews v w → (test : Test) → test_holds v test ≡ test_holds w test
 test_alike v w a (Src set) = ap (has set) a.packet.src
@@ -63,6 +42,7 @@ test_alike v w a Never = refl
 lit_alike : (v w : View) → AlikeViews v w → (lit : Lit) → lit_holds v lit ≡ lit_holds w lit
 lit_alike v w a lit = ap (λ b. cond lit.not (not b) b) (test_alike v w a lit.test)
 
-pub holds_alike : (v w : View) → AlikeViews v w → (lits : List Lit) → holds lits v ≡ holds lits w
-holds_alike v w a [] = refl
-holds_alike v w a (lit ∷ lits) = and_alike (lit_holds v lit) (lit_holds w lit) _ _ (lit_alike v w a lit) (λ on. holds_alike v w a lits)
+pub conditions_hold_alike : ConditionsHoldAlike
+conditions_hold_alike v w a [] = refl
+conditions_hold_alike v w a (lit ∷ lits) =
+    and_alike (lit_holds v lit) (lit_holds w lit) _ _ (lit_alike v w a lit) (λ on. conditions_hold_alike v w a lits)

@@ -27,6 +27,8 @@ use Rattle.fws_ifcl.specs.declared.diagram.Stage.{Stage}
 use Rattle.fws_ifcl.specs.declared.step.ChainEnd.{ChainEnd}
 use Rattle.fws_ifcl.specs.declared.step.ChainEnd.TheVariants.{Accepted}
 use Rattle.fws_ifcl.specs.Walk.{sees, step_of, stepped, rules_walk, back as back_there}
+use Rattle.fws_rule.specs.Literals.{positive, negative}
+use Rattle.fws_draw.specs.Rules.{ruled, always}
 use Rattle.fws_ipt.specs.declared.config.IptChain.{IptChain}
 use Rattle.fws_ipt.specs.declared.config.IptGo.{IptGo}
 use Rattle.fws_ipt.specs.declared.config.IptGo.TheVariants as goes
@@ -41,7 +43,7 @@ use Rattle.fws_ipt.specs.declared.passage.ChainEnd.TheVariants as ends
 use Rattle.fws_ipt.specs.Refusals.{width_of, named_by}
 use Rattle.fws_ipt.specs.Soundness.{fits}
 use Rattle.fws_ipt.specs.Walk.{is_table, view_at, with_dst, with_mark, writes_src_at, redirect_addr, back, act, rules_walk as ipt_rules}
-use Rattle.fws_ipt_ifcl.specs.Blocks.{where_holds, where_fails, all_entries, ruled, always, guarded, by_entry, masquerading, redirecting, mapping, unfolded}
+use Rattle.fws_ipt_ifcl.specs.Blocks.{all_entries, guarded, by_entry, masquerading, redirecting, mapping, unfolded}
 use Rattle.fws_ipt_ifcl.specs.Diagram.{unfolded_all}
 use Rattle.fws_ipt_ifcl.specs.Fitting.{is_sideless, is_netmap}
 use Rattle.fws_ipt_ifcl.proofs.Ends.{source_met, dest_met, netmap_met, masquerade_met, redirect_met}
@@ -154,7 +156,7 @@ module _ (site : Site) (sound : IsSound site) (entries : RoutesAreEntries) (p : 
 
   source_rule : (e : End) → Met (goes.Source e) Nat New
   source_rule e place ent behind at on_source test rest next plain side on m stands =
-      guard_met site p New Nat hook n accepts enter at test (where_holds Outward ∷ []) (always (Src e) ∷ []) rest 4 m _ _ plain refl refl
+      guard_met site p New Nat hook n accepts enter at test (positive Outward ∷ []) (always (Src e) ∷ []) rest 4 m _ _ plain refl refl
       (source_met site sound entries p n accepts hook e m _ (next m) (on m stands)) (on m stands)
 
   masquerade_rule : Met goes.Masquerade Nat New
@@ -162,20 +164,20 @@ module _ (site : Site) (sound : IsSound site) (entries : RoutesAreEntries) (p : 
       let act : ℕ → Act = λ entry. Src (host_end (face_addr site entry) None) in
       let many : length (masquerading site) ≡ length site.faces + 1 = by_entry_width Xmit act 1 (length site.faces + 1) in
       let wide : 3 + length (masquerading site) ≡ length site.faces + 4 = omega (arith, many) in
-      guard_met site p New Nat hook n accepts enter at test (where_holds Outward ∷ where_holds (Xmit (all_entries site)) ∷ []) (masquerading site) rest (length site.faces + 4) m _ _ plain
+      guard_met site p New Nat hook n accepts enter at test (positive Outward ∷ positive (Xmit (all_entries site)) ∷ []) (masquerading site) rest (length site.faces + 4) m _ _ plain
       (entries_write Xmit act (λ e. refl) 1 (length site.faces + 1)) wide
       (masquerade_met site sound entries p n accepts hook m stands _ next (on m stands)) (on m stands)
 
   dest_rule : (e : End) → Met (goes.Dest e) Nat New
   dest_rule e place ent behind at on_source test rest next plain side on m stands =
-      guard_met site p New Nat hook n accepts enter at test (where_fails Outward ∷ []) (always (Dst e) ∷ []) rest 4 m _ _ plain refl refl
+      guard_met site p New Nat hook n accepts enter at test (negative Outward ∷ []) (always (Dst e) ∷ []) rest 4 m _ _ plain refl refl
       (dest_met site sound entries p n accepts hook place m (shown accepts (with_dst p e m)) e _ (next m) (λ is. refl) (on m stands)) (on m stands)
 
   redirect_rule : (port : Option ℕ) → Met (goes.Redirect port) Nat New
   redirect_rule port place ent behind at on_source test rest next plain side on m stands =
       let many : length (redirecting site port) ≡ length site.faces + 2 = redirecting_width site port in
       let wide : 3 + length (redirecting site port) ≡ length site.faces + 5 = omega (arith, many) in
-      guard_met site p New Nat hook n accepts enter at test (where_fails Outward ∷ []) (redirecting site port) rest (length site.faces + 5) m _ _ plain
+      guard_met site p New Nat hook n accepts enter at test (negative Outward ∷ []) (redirecting site port) rest (length site.faces + 5) m _ _ plain
       (redirecting_writes site port) wide
       (dest_met site sound entries p n accepts hook place m _ (host_end (redirect_addr site p) port) _ (next m)
       (redirect_met site sound entries p n accepts hook port m stands of_site own) (on m stands)) (on m stands)

@@ -1,0 +1,44 @@
+//! Rules.
+
+ghost use Rattle.std.specs.Prelude.{◌≡◌, ◌++◌, [], ◌∷◌, IfOk, OnOk};
+ghost use Rattle.fws_draw.specs.Rules.{ruled, always};
+
+use fws_ifcl::{Act, Rule};
+use fws_net::{Cond, Lit};
+use fws_num::Memory;
+use std::alloc::Global;
+
+/// The rule that acts everywhere.
+pub fn always(alloc: Global, act: Act) -> Rule
+    ensures { result ≡ always act }
+{
+    Rule {
+        cond: Cond::new(alloc),
+        act,
+    }
+}
+
+/// The rule that acts where the literal holds. An error is want of memory.
+pub fn ruled_by(alloc: Global, lit: Lit, act: Act) -> Result<Rule, Memory>
+    ensures { IfOk result (λ rule. rule ≡ ruled (lit ∷ []) act) }
+{
+    let mut cond = Cond::new(alloc);
+    cond.put(lit)?;
+    Ok(Rule { cond, act })
+}
+
+/// Puts a rule behind the others. An error is want of memory.
+pub fn put_rule(rules: &mut Vec<Rule>, cond: Cond, act: Act) -> Result<(), Memory>
+    ensures { OnOk result (rules.new.items ≡ rules.old.items ++ ruled cond act ∷ []) }
+{
+    rules.push(Rule { cond, act })?;
+    Ok(())
+}
+
+/// The condition with the literal behind the others. An error is want of memory.
+pub fn narrowed(mut cond: Cond, lit: Lit) -> Result<Cond, Memory>
+    ensures { IfOk result (λ c. c ≡ cond ++ lit ∷ []) }
+{
+    cond.put(lit)?;
+    Ok(cond)
+}

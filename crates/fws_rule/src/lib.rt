@@ -1,0 +1,14 @@
+//! What rules of several systems have in common.
+#![tactic(auto)]
+
+mod compared;
+mod interfaces;
+mod laws;
+mod literals;
+mod protocols;
+
+pub use compared::{is, is_given, is_one_of};
+pub use interfaces::read_interfaces;
+pub use laws::conditions_hold_alike;
+pub use literals::{demand, negative, positive, put_literals};
+pub use protocols::protocol_literal;
