@@ -1,0 +1,13 @@
+pub mod AlikeWalks
+pub mod Counted
+pub mod Drafts
+pub mod Instances
+pub mod Kept
+pub mod Leaving
+pub mod Lists
+pub mod Ordered
+pub mod Outcomes
+pub mod Redirects
+pub mod Regular
+pub mod Texts
+pub mod Written

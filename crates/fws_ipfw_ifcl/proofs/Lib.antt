@@ -1,0 +1,13 @@
+mod Lengths
+mod Running
+mod Matching
+mod Choosing
+mod Acting
+mod Halves
+mod Passing
+mod Numbered
+mod Unfolding
+mod Found
+mod Places
+mod Putting
+mod Whole

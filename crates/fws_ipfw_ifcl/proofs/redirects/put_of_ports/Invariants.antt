@@ -1,0 +1,7 @@
+use Rattle.std.proofs.Common.{◌≡◌, ◌++◌, drop, filter}
+use Rattle.fws_ipfw_ifcl.specs.Translating.{is_of_ports}
+use Rattle.fws_ipfw_ifcl.proofs.redirects.put_of_ports.Given as goal
+
+abbrev pub invariant-loop-redirect : goal.invariant-loop-redirect
+invariant-loop-redirect l =
+    l.tried.items ++ filter is_of_ports (drop l.redirect-index l.redirects) ≡ l.fn.tried.items ++ filter is_of_ports l.redirects

@@ -1,0 +1,294 @@
+//! The diagram of a configuration.
+
+ghost use Rattle.std.specs.Prelude.{◌≡◌, ℕ, ◌+◌, ◌++◌, ◌∷◌, [], List, true, false, None, length, IfOk, OnOk};
+ghost use Rattle.std.specs.List.{list_any};
+ghost use Rattle.fws_net.specs.declared.connection.Kind.{Kind};
+ghost use Rattle.fws_net.specs.declared.packet.Packet.{Packet};
+ghost use Rattle.fws_ifcl.specs.Refusals.{refusal_of};
+ghost use Rattle.fws_ifcl.specs.Soundness.{ifcl_ok};
+ghost use Rattle.fws_ifcl.specs.Walk.{means};
+ghost use Rattle.fws_ipfw.specs.Soundness.{are_apart, are_ordered};
+ghost use Rattle.fws_ipfw.specs.Walk.{walk};
+ghost use Rattle.fws_ipfw_ifcl.specs.Blocks.{place_behind, starts_from};
+ghost use Rattle.fws_ipfw_ifcl.specs.Diagram.{all_rules, chains_of, diagram_of, ending, ending_place, goes_on, half, half_place, pass_stage, destination_stage, second_half, second_place, translates};
+ghost use Rattle.fws_ipfw_ifcl.specs.Fitting.{IsDrawable};
+
+use crate::blocks::{Leads, put_block};
+use crate::instances::Instances;
+use crate::layout::{skipping_to, starts_from};
+use crate::translating::put_always;
+use crate::widths::sum;
+use fws_draw::{always, ruled_by, skips_go_on};
+use fws_ifcl::{Act, Chain, Ifcl, Rule, Stage};
+use fws_ipfw::{IpfwAct, IpfwConfig, IpfwRule};
+use fws_net::{Site, Test};
+use fws_num::{Items, Memory, Text};
+use fws_rule::{negative, positive};
+use std::alloc::Global;
+
+/// Whether an act translates.
+fn translates(act: IpfwAct) -> bool
+    ensures { result ≡ translates act }
+{
+    match act {
+        IpfwAct::Nat(_) => true,
+        IpfwAct::Allow | IpfwAct::Deny | IpfwAct::Count | IpfwAct::Skip(_) | IpfwAct::Check =>
+            false,
+    }
+}
+
+/// Whether some rule translates.
+fn any_translates(rules: &[IpfwRule]) -> bool
+    ensures { result ≡ list_any (λ rule. translates rule.act) rules.now }
+{
+    rules.iter().any(|rule| translates(rule.act))
+}
+
+/// Whether some packet may go on behind a translation.
+fn goes_on(site: &Site, c: &IpfwConfig) -> bool
+    ensures { result ≡ goes_on site.now c.now }
+{
+    !site.one_pass && any_translates(c.rules.as_slice())
+}
+
+/// Where the halves of a diagram's rules stand.
+#[derive(Drop)]
+struct Layout {
+    /// Where the rules of each rule begin in the first half, and the place behind them.
+    first: Vec<usize>,
+    /// The same of the second half, or where it would stand.
+    second: Vec<usize>,
+    /// Whether there is a second half.
+    goes_on: bool,
+    /// The place of the rules that end a pass.
+    ends: usize,
+}
+
+/// The layout of a configuration's diagram. An error is want of memory.
+fn laid_out(
+    alloc: Global,
+    instances: &Instances,
+    c: &IpfwConfig,
+    site: &Site,
+) -> Result<Layout, Memory>
+    requires { are_apart c.now.nats ≡ true }
+    ensures first_count { IfOk result (λ l. length l.first.items ≡ length c.now.rules + 1) }
+    ensures second_count { IfOk result (λ l. length l.second.items ≡ length c.now.rules + 1) }
+    ensures first { IfOk result (λ l. l.first.items ≡ starts_from c.now.nats false 0 c.now.rules) }
+    ensures second { IfOk result (λ l. l.second.items ≡ starts_from c.now.nats true (second_place c.now) c.now.rules) }
+    ensures goes_on { IfOk result (λ l. l.goes_on ≡ goes_on site.now c.now) }
+    ensures ends { IfOk result (λ l. l.ends ≡ ending_place site.now c.now) }
+{
+    let nats = c.nats.as_slice();
+    let rules = c.rules.as_slice();
+    let count = rules.len();
+    let first = starts_from(alloc, instances, nats, false, 0, rules)?;
+    let begin = sum(first[count], 1)?;
+    let second = starts_from(alloc, instances, nats, true, begin, rules)?;
+    let goes_on = goes_on(site, c);
+    let last = if goes_on { second[count] } else { begin };
+    let ends = sum(last, 1)?;
+    Ok(Layout {
+        first,
+        second,
+        goes_on,
+        ends,
+    })
+}
+
+/// Where a packet goes on behind the translation of a rule, of which the next has this place in the second
+/// half. An error is want of memory.
+fn place_behind(one_pass: bool, ends: usize, next: usize) -> Result<usize, Memory>
+    ensures { IfOk result (λ place. place ≡ place_behind one_pass ends next) }
+{
+    if one_pass { sum(ends, 2) } else { Ok(next) }
+}
+
+/// Puts the rules of one half behind the others, which begin at these places, and those of the second half
+/// at the others. An error is want of memory.
+fn put_half(
+    alloc: Global,
+    rules: &mut Vec<Rule>,
+    instances: &Instances,
+    c: &IpfwConfig,
+    site: &Site,
+    translated: bool,
+    starts: &[usize],
+    others: &[usize],
+    ends: usize,
+) -> Result<(), Memory>
+    requires drawable { IsDrawable c.now }
+    requires starts { starts.now ≡ starts_from c.now.nats translated (half_place c.now translated) c.now.rules }
+    requires others { others.now ≡ starts_from c.now.nats true (second_place c.now) c.now.rules }
+    requires starts_count { length starts.now ≡ length c.now.rules + 1 }
+    requires others_count { length others.now ≡ length c.now.rules + 1 }
+    requires ends { ends ≡ ending_place site.now c.now }
+    requires begin { length rules.old.items ≡ half_place c.now translated }
+    ensures { OnOk result (rules.new.items ≡ rules.old.items ++ half site.now c.now translated) }
+{
+    let nats = c.nats.as_slice();
+    let all = c.rules.as_slice();
+    for k in 0..all.len() {
+        let rule = &all[k];
+        let leads = Leads {
+            translated,
+            ends,
+            done: place_behind(site.one_pass, ends, others[k + 1])?,
+            to: skipping_to(starts, all, k + 1, rule.act),
+        };
+        put_block(alloc, rules, instances, nats, leads, rule)?;
+    }
+    Ok(())
+}
+
+/// Puts the rules that end a pass behind the others. An error is want of memory.
+fn put_ending(alloc: Global, rules: &mut Vec<Rule>) -> Result<(), Memory>
+    ensures { OnOk result (rules.new.items ≡ rules.old.items ++ ending) }
+{
+    let inward = ruled_by(alloc, negative(Test::Outward), Act::RecDst)?;
+    rules.push(inward)?;
+    let outward = ruled_by(alloc, positive(Test::Outward), Act::RecSrc)?;
+    rules.push(outward)?;
+    put_always(alloc, rules, Act::Accept)
+}
+
+/// Puts the rules of the second half behind the others, where some packet may go on behind a translation.
+/// An error is want of memory.
+fn put_second_half(
+    alloc: Global,
+    rules: &mut Vec<Rule>,
+    instances: &Instances,
+    c: &IpfwConfig,
+    site: &Site,
+    is_there: bool,
+    others: &[usize],
+    ends: usize,
+) -> Result<(), Memory>
+    requires drawable { IsDrawable c.now }
+    requires is_there { is_there ≡ goes_on site.now c.now }
+    requires others { others.now ≡ starts_from c.now.nats true (second_place c.now) c.now.rules }
+    requires others_count { length others.now ≡ length c.now.rules + 1 }
+    requires ends { ends ≡ ending_place site.now c.now }
+    requires begin { length rules.old.items ≡ second_place c.now }
+    ensures { OnOk result (rules.new.items ≡ rules.old.items ++ second_half site.now c.now) }
+{
+    if is_there {
+        put_half(alloc, rules, instances, c, site, true, others, others, ends)?;
+        return Ok(());
+    }
+    Ok(())
+}
+
+/// All rules of a pass. An error is want of memory.
+fn all_rules(alloc: Global, c: &IpfwConfig, site: &Site) -> Result<Vec<Rule>, Memory>
+    requires { IsDrawable c.now }
+    ensures { IfOk result (λ rules. rules.items ≡ all_rules site.now c.now) }
+{
+    let instances = Instances::of(alloc, c.nats.as_slice())?;
+    let layout = laid_out(alloc, &instances, c, site)?;
+    let first = layout.first.as_slice();
+    let second = layout.second.as_slice();
+    let ends = layout.ends;
+    let mut rules = Vec::new(alloc);
+    put_half(
+        alloc, &mut rules, &instances, c, site, false, first, second, ends,
+    )?;
+    put_always(alloc, &mut rules, Act::Drop)?;
+    put_second_half(
+        alloc,
+        &mut rules,
+        &instances,
+        c,
+        site,
+        layout.goes_on,
+        second,
+        ends,
+    )?;
+    put_always(alloc, &mut rules, Act::Drop)?;
+    put_ending(alloc, &mut rules)?;
+    Ok(rules)
+}
+
+/// The chain of all rules of a pass, and the one that puts the destination of a connection in place. An
+/// error is want of memory.
+fn chains_of(alloc: Global, c: &IpfwConfig, site: &Site) -> Result<Items<Chain>, Memory>
+    requires { IsDrawable c.now }
+    ensures { IfOk result (λ chains. chains ≡ chains_of site.now c.now) }
+{
+    let mut chains = Items::new(alloc);
+    chains.put(Chain {
+        name: Text::of(alloc, b"rules")?,
+        rules: Items::from_vec(all_rules(alloc, c, site)?),
+    })?;
+    let mut own = Items::new(alloc);
+    own.put(always(alloc, Act::RecDst))?;
+    chains.put(Chain {
+        name: Text::of(alloc, b"destination")?,
+        rules: own,
+    })?;
+    Ok(chains)
+}
+
+/// The stage of a pass.
+fn pass_stage(outward: bool) -> Stage
+    ensures { result ≡ pass_stage outward }
+{
+    Stage {
+        chain: 0,
+        shows_recv: true,
+        shows_xmit: outward,
+        outward,
+        end: true,
+    }
+}
+
+/// The stage that puts the destination of a connection in place.
+fn destination_stage() -> Stage
+    ensures { result ≡ destination_stage }
+{
+    Stage {
+        chain: 1,
+        shows_recv: false,
+        shows_xmit: false,
+        outward: false,
+        end: true,
+    }
+}
+
+/// The diagram, put together from its chains and stages. An error is want of memory.
+fn drawn(alloc: Global, c: &IpfwConfig, site: &Site) -> Result<Ifcl, Memory>
+    requires { IsDrawable c.now }
+    ensures { IfOk result (λ d. d ≡ diagram_of site.now c.now) }
+{
+    let mut arrive = Items::new(alloc);
+    arrive.put(pass_stage(false))?;
+    let mut forward = Items::new(alloc);
+    forward.put(pass_stage(true))?;
+    let mut send = Items::new(alloc);
+    send.put(destination_stage())?;
+    send.put(pass_stage(true))?;
+    Ok(Ifcl {
+        chains: chains_of(alloc, c, site)?,
+        arrive,
+        deliver: Items::new(alloc),
+        forward,
+        send,
+    })
+}
+
+/// The control diagram of a configuration on a site. It does with each packet what the configuration does,
+/// new or of a connection, and it can be unfolded. One chain has the rules of all passes, each rule in its
+/// place, and once more for packets that were translated where these go on; another puts the destination
+/// of a connection in place for packets of the host. An error is want of memory, or of numbers for rules.
+/// Linear in the rules and in the redirects of the instances that they name.
+pub fn to_ifcl(alloc: Global, c: &IpfwConfig, site: &Site) -> Result<Ifcl, Memory>
+    requires { IsDrawable c.now }
+    ensures diagram { IfOk result (λ d. d ≡ diagram_of site.now c.now) }
+    ensures ok { IfOk result (λ d. ifcl_ok d ≡ true) }
+    ensures means { IfOk result (λ d. (p : Packet) (k : Kind) → means d site.now p k ≡ walk c.now site.now p k) }
+    ensures unfolds { IfOk result (λ d. refusal_of d ≡ None) }
+{
+    skips_go_on();
+    let d = drawn(alloc, c, site)?;
+    Ok(d)
+}
