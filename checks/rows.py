@@ -15,7 +15,7 @@ PROGRAM = os.environ.get('FWS_PROGRAM', os.path.join(TOP, 'crates/fws/out/fws'))
 EXCERPTS = ('redirect.expected',)
 
 # How many words a job has behind its name.
-LENGTHS = {'table': 2, 'refusal': 3, 'trace': 4}
+LENGTHS = {'table': 3, 'table-at': 4, 'refusal': 4, 'trace': 5}
 
 
 def read(name):
@@ -28,23 +28,27 @@ def answer(*words):
     return ended.returncode, ended.stdout.decode()
 
 
-def table(site, rules, expected):
+def table(site, language, rules, expected):
     text = read(expected)
     head = text.split(' ')[:2]
     if head[0] != 'table' or expected in EXCERPTS:
         return None  # an excerpt, or the rows of a query, whose words aren't told
-    return answer('synth', 'iptables', site, rules, head[1]) == (0, text)
+    return answer('synth', language, site, rules, head[1]) == (0, text)
 
 
-def refusal(site, rules, kind, chain):
-    status, text = answer('synth', 'iptables', site, rules, 'new')
+def table_at(_, site, language, rules, expected):
+    return table(site, language, rules, expected)
+
+
+def refusal(site, language, rules, kind, chain):
+    status, text = answer('synth', language, site, rules, 'new')
     if kind == 'none':
         return status == 0
     return (status, text) == (3, 'refused %s %s %s\n' % (rules, kind, chain))
 
 
-def trace(site, rules, connections, packets, expected):
-    return answer('trace', 'iptables', site, rules, connections, packets) == (0, read(expected))
+def trace(site, language, rules, connections, packets, expected):
+    return answer('trace', language, site, rules, connections, packets) == (0, read(expected))
 
 
 def main():
@@ -55,7 +59,7 @@ def main():
         if word not in LENGTHS:
             continue
         job = words[place + 1:place + 1 + LENGTHS[word]]
-        done = {'table': table, 'refusal': refusal, 'trace': trace}[word](site, *job)
+        done = {'table': table, 'table-at': table_at, 'refusal': refusal, 'trace': trace}[word](site, *job)
         if done:
             right += 1
         elif done is not None:

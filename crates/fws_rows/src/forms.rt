@@ -1,16 +1,13 @@
 //! A configuration in three forms: as it was read, as a control diagram, and as flat code.
 
-ghost use Rattle.std.specs.Prelude.{IfOk};
 ghost use Rattle.fws_net.specs.Routes.{IsSound};
 
+use crate::languages::{Config, Drawn, walk_config};
 use crate::stop::Stop;
 use fws_flat::Flat;
 use fws_flat::model::walk_packet as walk_flat;
 use fws_ifcl::model::walk_packet as walk_diagram;
 use fws_ifcl::{Ifcl, ifcl_ok};
-use fws_ipt::IptConfig;
-use fws_ipt::model::walk_packet as walk_rules;
-use fws_ipt_ifcl::to_ifcl;
 use fws_net::{Kind, Outcome, Packet, Site};
 use fws_unfold::{UnfoldAnswer, unfold};
 use std::alloc::Global;
@@ -18,17 +15,15 @@ use std::alloc::Global;
 /// A configuration that can be unfolded, its diagram, and the flat code.
 #[derive(Drop)]
 pub struct Forms {
-    config: IptConfig,
+    config: Config,
     diagram: Ifcl,
     flat: Flat,
 }
 
 impl Forms {
-    /// The forms of a configuration on a site.
-    pub fn of(alloc: Global, site: &Site, config: IptConfig) -> Result<Forms, Stop>
-        requires { IsSound site.now }
-    {
-        let diagram = to_ifcl(alloc, &config, site)?;
+    /// The forms of a configuration that was drawn.
+    pub fn of(alloc: Global, drawn: Drawn) -> Result<Forms, Stop> {
+        let Drawn { config, diagram } = drawn;
         if !ifcl_ok(&diagram) {
             return Err(Stop::Malformed);
         }
@@ -53,7 +48,7 @@ impl Forms {
     ) -> Result<Option<Outcome>, Stop>
         requires { IsSound site.now }
     {
-        let outcome = walk_rules(alloc, &self.config, site, packet, kind)?;
+        let outcome = walk_config(alloc, &self.config, site, packet, kind)?;
         let drawn = walk_diagram(alloc, &self.diagram, site, packet, kind)?;
         let unfolded = walk_flat(alloc, &self.flat, site, packet, kind)?;
         if outcome == drawn && outcome == unfolded {
@@ -72,30 +67,26 @@ fn chain_name(diagram: &Ifcl, chain: u32) -> &[u8] {
     }
 }
 
-/// Whether the diagram of a configuration is refused for this reason at this chain, where `none` is no refusal.
+/// Whether a diagram is refused for this reason at this chain, where `none` is no refusal.
 pub fn is_diagram_refused_so(
     alloc: Global,
-    site: &Site,
-    config: &IptConfig,
+    diagram: &Ifcl,
     what: &[u8],
     chain: &[u8],
-) -> Result<bool, Stop>
-    requires { IsSound site.now }
-{
-    let diagram = to_ifcl(alloc, config, site)?;
-    if !ifcl_ok(&diagram) {
+) -> Result<bool, Stop> {
+    if !ifcl_ok(diagram) {
         return Err(Stop::Malformed);
     }
-    match unfold(alloc, &diagram) {
+    match unfold(alloc, diagram) {
         Ok(_flat) => Ok(what == b"none".as_slice()),
         Err(UnfoldAnswer::Loop(c)) => Ok(
-            what == b"loop".as_slice() && chain == chain_name(&diagram, c),
+            what == b"loop".as_slice() && chain == chain_name(diagram, c),
         ),
         Err(UnfoldAnswer::Deep(c)) => Ok(
-            what == b"deep".as_slice() && chain == chain_name(&diagram, c),
+            what == b"deep".as_slice() && chain == chain_name(diagram, c),
         ),
         Err(UnfoldAnswer::Long(c)) => Ok(
-            what == b"long".as_slice() && chain == chain_name(&diagram, c),
+            what == b"long".as_slice() && chain == chain_name(diagram, c),
         ),
         Err(UnfoldAnswer::Memory) => Err(Stop::Memory),
     }

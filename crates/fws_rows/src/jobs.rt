@@ -8,6 +8,7 @@ use crate::cases::{judge_lines, judge_texts};
 use crate::forms::Forms;
 use crate::judging::{judge_refusal, judge_table};
 use crate::keeping::judge_keeping;
+use crate::languages::{Drawn, Language, language_of};
 use crate::listing::judge_listing;
 use crate::packets::judge_packets;
 use crate::ranges::judge_ranges;
@@ -18,9 +19,7 @@ use crate::spellings::judge_spellings;
 use crate::stop::Stop;
 use crate::tracing::{judge_looked_up, judge_trace};
 use fws_io::Shelf;
-use fws_ipt::IptConfig;
-use fws_ipt_read::read;
-use fws_net::Site;
+use fws_net::{Site, read_site};
 use fws_num::Text;
 use std::alloc::Global;
 
@@ -31,28 +30,37 @@ pub const LIMIT: usize = 4_194_304;
 pub fn job_length(kind: &Text) -> usize {
     match kind.as_slice() {
         b"lists" | b"boxes" => 1,
-        b"texts" | b"spellings" | b"sets" | b"ranges" | b"packets" | b"listing" => 2,
-        b"refusal" => 4,
-        b"trace" => 5,
-        b"looked-up" => 6,
+        b"spellings" | b"sets" | b"ranges" | b"packets" | b"listing" => 2,
+        b"table" | b"lines" => 4,
+        b"refusal" | b"table-at" => 5,
+        b"trace" | b"looked-up" => 6,
         _ => 3,
     }
 }
 
-/// The configuration of a file.
-fn read_file<S: Shelf>(
+/// The site of a file.
+fn site_of_file<S: Shelf>(alloc: Global, shelf: &mut S, name: &Text) -> Result<Site, Stop>
+    ensures { IfOk result (λ site. IsSound site) }
+{
+    let text = shelf.read(alloc, name.as_slice(), LIMIT)?;
+    match read_site(alloc, text.as_slice()) {
+        Ok(site) => Ok(site),
+        Err(_) => Err(Stop::Malformed),
+    }
+}
+
+/// The configuration of a file, drawn.
+fn draw_file<S: Shelf>(
     alloc: Global,
     shelf: &mut S,
     site: &Site,
+    language: Language,
     name: &Text,
-) -> Result<IptConfig, Stop>
+) -> Result<Drawn, Stop>
     requires { IsSound site.now }
 {
     let text = shelf.read(alloc, name.as_slice(), LIMIT)?;
-    match read(alloc, text.as_slice(), site) {
-        Ok(config) => Ok(config),
-        Err(_) => Err(Stop::Malformed),
-    }
+    language.draw(alloc, site, text.as_slice())
 }
 
 /// Says whether the trace of packets through a configuration is the expected one.
@@ -106,6 +114,82 @@ fn do_look_up<S: Shelf>(
     )
 }
 
+/// Says whether the rows of an expected table are what a configuration makes of their packets.
+fn do_table<S: Shelf>(
+    alloc: Global,
+    shelf: &mut S,
+    site: &Site,
+    language: Language,
+    names: [&Text; 2],
+) -> Result<Text, Stop>
+    requires { IsSound site.now }
+{
+    let [file, expected] = names;
+    let drawn = draw_file(alloc, shelf, site, language, file)?;
+    let expected = shelf.read(alloc, expected.as_slice(), LIMIT)?;
+    let forms = Forms::of(alloc, drawn)?;
+    judge_table(alloc, site, &forms, expected.as_slice())
+}
+
+/// Says the same of another site.
+fn do_table_at<S: Shelf>(
+    alloc: Global,
+    shelf: &mut S,
+    at: &Text,
+    language: Language,
+    names: [&Text; 2],
+) -> Result<Text, Stop> {
+    let site = site_of_file(alloc, shelf, at)?;
+    do_table(alloc, shelf, &site, language, names)
+}
+
+/// Says whether the lines of cases behind an opening read as the cases say.
+fn do_lines<S: Shelf>(
+    alloc: Global,
+    shelf: &mut S,
+    site: &Site,
+    language: Language,
+    names: [&Text; 2],
+) -> Result<Text, Stop>
+    requires { IsSound site.now }
+{
+    let [opening, cases] = names;
+    let opening = shelf.read(alloc, opening.as_slice(), LIMIT)?;
+    let cases = shelf.read(alloc, cases.as_slice(), LIMIT)?;
+    judge_lines(alloc, site, language, opening.as_slice(), cases.as_slice())
+}
+
+/// Does a job about texts of a language, whose words stand behind that of the language.
+fn do_told<S: Shelf>(
+    alloc: Global,
+    shelf: &mut S,
+    site: &Site,
+    language: Language,
+    kind: &[u8],
+    words: &[Text],
+) -> Result<Text, Stop>
+    requires { IsSound site.now }
+{
+    match (kind, words) {
+        (b"table", [file, expected]) => do_table(alloc, shelf, site, language, [file, expected]),
+        (b"lines", [opening, cases]) => do_lines(alloc, shelf, site, language, [opening, cases]),
+        (b"texts", [cases]) => {
+            let cases = shelf.read(alloc, cases.as_slice(), LIMIT)?;
+            judge_texts(alloc, site, language, cases.as_slice())
+        }
+        (b"refusal", [file, what, chain]) => {
+            let drawn = draw_file(alloc, shelf, site, language, file)?;
+            judge_refusal(alloc, site, &drawn, what.as_slice(), chain.as_slice())
+        }
+        (b"trace", [file, connections, packets, expected]) => {
+            let drawn = draw_file(alloc, shelf, site, language, file)?;
+            let forms = Forms::of(alloc, drawn)?;
+            do_trace(alloc, shelf, site, &forms, [connections, packets, expected])
+        }
+        _ => Err(Stop::Malformed),
+    }
+}
+
 /// Does a job about configurations or tables.
 fn do_walk<S: Shelf>(
     alloc: Global,
@@ -116,21 +200,6 @@ fn do_walk<S: Shelf>(
     requires { IsSound site.now }
 {
     match words {
-        [kind, file, expected] if kind.as_slice() == b"table".as_slice() => {
-            let config = read_file(alloc, shelf, site, file)?;
-            let expected = shelf.read(alloc, expected.as_slice(), LIMIT)?;
-            let forms = Forms::of(alloc, site, config)?;
-            judge_table(alloc, site, &forms, expected.as_slice())
-        }
-        [kind, file, what, chain] if kind.as_slice() == b"refusal".as_slice() => {
-            let config = read_file(alloc, shelf, site, file)?;
-            judge_refusal(alloc, site, &config, what.as_slice(), chain.as_slice())
-        }
-        [kind, file, connections, packets, expected] if kind.as_slice() == b"trace".as_slice() => {
-            let config = read_file(alloc, shelf, site, file)?;
-            let forms = Forms::of(alloc, site, config)?;
-            do_trace(alloc, shelf, site, &forms, [connections, packets, expected])
-        }
         [kind, fresh, est, connections, packets, expected]
             if kind.as_slice() == b"looked-up".as_slice() => {
             do_look_up(
@@ -141,16 +210,21 @@ fn do_walk<S: Shelf>(
                 [connections, packets, expected],
             )
         }
+        [kind, at, language, file, expected] if kind.as_slice() == b"table-at".as_slice() => {
+            let language = language_of(language.as_slice())?;
+            do_table_at(alloc, shelf, at, language, [file, expected])
+        }
+        [kind, language, rest @ ..] => {
+            let language = language_of(language.as_slice())?;
+            do_told(alloc, shelf, site, language, kind.as_slice(), rest)
+        }
         _ => Err(Stop::Malformed),
     }
 }
 
 /// Does a job about a file and the cases that are tried with it.
-fn do_pair(alloc: Global, site: &Site, kind: &[u8], base: &[u8], cases: &[u8]) -> Result<Text, Stop>
-    requires { IsSound site.now }
-{
+fn do_pair(alloc: Global, kind: &[u8], base: &[u8], cases: &[u8]) -> Result<Text, Stop> {
     match kind {
-        b"lines" => judge_lines(alloc, site, base, cases),
         b"sites" => judge_sites(alloc, base, cases),
         b"saying" => judge_saying(alloc, base, cases),
         b"spelled" => judge_spelled_site(alloc, base, cases),
@@ -163,7 +237,6 @@ fn do_cases(alloc: Global, site: &Site, kind: &[u8], cases: &[u8]) -> Result<Tex
     requires { IsSound site.now }
 {
     match kind {
-        b"texts" => judge_texts(alloc, site, cases),
         b"spellings" => judge_spellings(alloc, cases),
         b"sets" => judge_sets(alloc, cases),
         b"ranges" => judge_ranges(alloc, cases),
@@ -189,16 +262,10 @@ pub fn do_job<S: Shelf>(
             let cases = shelf.read(alloc, cases.as_slice(), LIMIT)?;
             do_cases(alloc, site, kind.as_slice(), cases.as_slice())
         }
-        [kind, base, cases] if kind.as_slice() != b"table".as_slice() => {
+        [kind, base, cases] if kind.as_slice() != b"texts".as_slice() => {
             let base = shelf.read(alloc, base.as_slice(), LIMIT)?;
             let cases = shelf.read(alloc, cases.as_slice(), LIMIT)?;
-            do_pair(
-                alloc,
-                site,
-                kind.as_slice(),
-                base.as_slice(),
-                cases.as_slice(),
-            )
+            do_pair(alloc, kind.as_slice(), base.as_slice(), cases.as_slice())
         }
         _ => do_walk(alloc, shelf, site, words),
     }

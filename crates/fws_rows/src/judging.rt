@@ -3,6 +3,7 @@
 ghost use Rattle.fws_net.specs.Routes.{IsSound};
 
 use crate::forms::{Forms, is_diagram_refused_so};
+use crate::languages::{Config, Drawn};
 use crate::sampling::{count, kind_of, packet_of, point_at};
 use crate::stop::Stop;
 use crate::table::{Row, read_table};
@@ -76,19 +77,39 @@ fn is_refused_so(
     }
 }
 
+/// Whether a configuration is refused for this reason at this chain by the slow model; those of ipfw, which have no
+/// chains, are refused for none.
+fn is_config_refused_so(
+    alloc: Global,
+    site: &Site,
+    config: &Config,
+    what: &[u8],
+    chain: &[u8],
+) -> Result<bool, Stop>
+    requires { IsSound site.now }
+{
+    match config {
+        Config::Iptables(config) => {
+            let found = refusal(alloc, site, config)?;
+            Ok(is_refused_so(config, found, what, chain))
+        }
+        Config::Ipfw(_) => Ok(what == b"none".as_slice()),
+    }
+}
+
 /// Says whether a configuration and its diagram are refused for this reason at this chain.
 pub fn judge_refusal(
     alloc: Global,
     site: &Site,
-    config: &IptConfig,
+    drawn: &Drawn,
     what: &[u8],
     chain: &[u8],
 ) -> Result<Text, Stop>
     requires { IsSound site.now }
 {
-    let found = refusal(alloc, site, config)?;
-    let drawn = is_diagram_refused_so(alloc, site, config, what, chain)?;
-    let said: &[u8] = if drawn && is_refused_so(config, found, what, chain) {
+    let modelled = is_config_refused_so(alloc, site, &drawn.config, what, chain)?;
+    let unfolded = is_diagram_refused_so(alloc, &drawn.diagram, what, chain)?;
+    let said: &[u8] = if modelled && unfolded {
         b"agrees"
     } else {
         b"differs"

@@ -13,6 +13,7 @@ mod found;
 mod jobs;
 mod judging;
 mod keeping;
+mod languages;
 mod listing;
 mod numbers;
 mod packets;

@@ -8,7 +8,7 @@ use Rattle.fws_top.specs.Asks.{are_asks, are_shown}
 use Rattle.fws_top.specs.declared.form.Form.{Form}
 use Rattle.fws_top.specs.declared.form.Form.TheVariants.{Unknown, Help, Version, Synth, Query, Trace, SecondForm}
 use Rattle.fws_top.specs.declared.lang.SourceLang.{SourceLang}
-use Rattle.fws_top.specs.declared.lang.SourceLang.TheVariants.{Iptables}
+use Rattle.fws_top.specs.declared.lang.SourceLang.TheVariants.{Iptables, Ipfw}
 
 -- What the words ask for, each file by its name
 
@@ -26,7 +26,10 @@ pub data Command : Type 0 where
 
 -- the language of a configuration
 abbrev pub lang_of : List ℕ → Option SourceLang
-lang_of word = if bytes_eq word (codes "iptables") then Some Iptables else None
+lang_of word =
+    if bytes_eq word (codes "iptables") then Some Iptables
+    else if bytes_eq word (codes "ipfw") then Some Ipfw
+    else None
 
 -- which packets a table is about
 abbrev pub state_of : List ℕ → Option State

@@ -6,6 +6,9 @@ use Rattle.fws_ifcl.specs.declared.diagram.Ifcl.{Ifcl}
 use Rattle.fws_ifcl.specs.declared.refusal.UnfoldRefusal.{UnfoldRefusal}
 use Rattle.fws_ifcl.specs.declared.refusal.UnfoldRefusal.TheVariants.{Loop, Deep, Long}
 use Rattle.fws_ifcl.specs.Refusals.{refusal_of}
+use Rattle.fws_ipfw.specs.declared.config.IpfwConfig.{IpfwConfig}
+use Rattle.fws_ipfw.specs.FileText.{spelled as ipfw_spelled}
+use Rattle.fws_ipfw.specs.Walk.{walk as ipfw_walk}
 use Rattle.fws_ipt.specs.declared.config.IptChain.{IptChain}
 use Rattle.fws_ipt.specs.declared.config.IptConfig.{IptConfig}
 use Rattle.fws_ipt.specs.declared.refusal.UnfoldRefusal.{UnfoldRefusal as IptRefusal}
@@ -20,7 +23,7 @@ use Rattle.fws_net.specs.declared.packet.Packet.{Packet}
 use Rattle.fws_net.specs.declared.site.Site.{Site}
 use Rattle.fws_net.specs.Reading.{Refusal}
 use Rattle.fws_top.specs.declared.lang.SourceLang.{SourceLang}
-use Rattle.fws_top.specs.declared.lang.SourceLang.TheVariants.{Iptables}
+use Rattle.fws_top.specs.declared.lang.SourceLang.TheVariants.{Iptables, Ipfw}
 use Rattle.fws_top.specs.Lines.{line_words, loop_words, deep_words, long_words, cause_text}
 
 -- Refusals for the chains
@@ -65,6 +68,10 @@ ipt_named_refusal chains (ipt.Long n) = long_at (ipt_chain_name chains n)
 abbrev pub ipt_refusal : Site → IptConfig → Option ChainRefusal
 ipt_refusal site c = option_map (ipt_named_refusal c.chains) (ipt_refusal_of site c)
 
+-- a configuration of ipfw has no chains, and can always be unfolded
+abbrev pub ipfw_refusal : Site → IpfwConfig → Option ChainRefusal
+ipfw_refusal site c = None
+
 -- Judging
 
 -- a packet of the site: it comes from the host, loopback or an interface
@@ -93,3 +100,4 @@ HasText spelled config = (text : List ℕ) × (spelled text ≡ Ok config)
 -- what a text means in a language at a site
 abbrev pub judge : SourceLang → Site → List ℕ → Judged
 judge Iptables site text = judged_by (ipt_refusal site) (λ config. ipt_walk config site) (ipt_spelled site text)
+judge Ipfw site text = judged_by (ipfw_refusal site) (λ config. ipfw_walk config site) (ipfw_spelled site text)

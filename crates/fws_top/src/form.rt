@@ -41,6 +41,8 @@ fn read_lang(word: &Text) -> Option<SourceLang>
 {
     if is(word, b"iptables") {
         Some(SourceLang::Iptables)
+    } else if is(word, b"ipfw") {
+        Some(SourceLang::Ipfw)
     } else {
         None
     }

@@ -5,4 +5,6 @@
 pub enum SourceLang {
     /// iptables, as iptables-save(8) writes it.
     Iptables,
+    /// ipfw, as `ipfw list` and scripts write its rules (ipfw(8)).
+    Ipfw,
 }

@@ -7,6 +7,7 @@ mod ask;
 mod ask_set;
 mod commands;
 mod form;
+mod ipfw;
 mod iptables;
 mod lang;
 mod lines;
@@ -20,6 +21,7 @@ mod tables;
 mod tests;
 mod texts;
 
+pub use ipfw::Ipfw;
 pub use iptables::Iptables;
 pub use lang::SourceLang;
 pub use running::run;

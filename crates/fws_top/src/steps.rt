@@ -13,6 +13,7 @@ ghost use Rattle.fws_trace.specs.PacketText.{packets_of, IsOfSite};
 
 use crate::answer::{Answer, Stop, refused, refused_for_line, said};
 use crate::ask::are_known;
+use crate::ipfw::Ipfw;
 use crate::iptables::Iptables;
 use crate::lang::SourceLang;
 use crate::lines::{cannot_read_line, site_cause_text};
@@ -95,6 +96,7 @@ fn judge_source(
 {
     match lang {
         SourceLang::Iptables => take_policy::<Iptables>(alloc, site, name, bytes),
+        SourceLang::Ipfw => take_policy::<Ipfw>(alloc, site, name, bytes),
     }
 }
 

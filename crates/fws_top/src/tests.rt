@@ -23,6 +23,12 @@ const CLOSED: &[u8] =
 const ROUND: &[u8] =
     b"*filter\n:INPUT ACCEPT [0:0]\n:A - [0:0]\n:B - [0:0]\n-A A -j B\n-A B -g A\nCOMMIT\n";
 
+/// An ipfw rule that passes everything.
+const PASSING: &[u8] = b"add 100 allow ip from any to any\n";
+
+/// An ipfw rule that goes back.
+const BACKWARD: &[u8] = b"add 200 skipto 200 ip from any to any\n";
+
 const CONNS: &[u8] = b"6 198.51.100.9 443 10.0.0.7 40001 203.0.113.2 40001 198.51.100.9 443\n";
 
 const PACKETS: &[u8] =
@@ -51,6 +57,8 @@ fn full_shelf(alloc: Global, fails: Items<u64>) -> Result<MemShelf, Memory> {
     shelf.hold(b"F", OPEN)?;
     shelf.hold(b"D", CLOSED)?;
     shelf.hold(b"L", ROUND)?;
+    shelf.hold(b"I", PASSING)?;
+    shelf.hold(b"B", BACKWARD)?;
     shelf.hold(b"C", CONNS)?;
     shelf.hold(b"P", PACKETS)?;
     shelf.hold(b"X", b"no such line\n")?;
@@ -68,7 +76,7 @@ fn told(alloc: Global, line: &str) -> Result<(Status, Text), Memory> {
 
 #[test]
 fn answers(rt: HostRuntime) -> Result<(), Fail> {
-    let table: [(&str, Status, &[u8]); 19] = [
+    let table: [(&str, Status, &[u8]); 22] = [
         ("--version", Status::Ok, b"fws 0.1.0\n"),
         ("--help", Status::Ok, HELP),
         ("--help --help", Status::Usage, USAGE_LINE),
@@ -92,6 +100,21 @@ fn answers(rt: HostRuntime) -> Result<(), Fail> {
             "trace iptables S F C P",
             Status::Ok,
             b"est accept src=203.0.113.2:40001 dst=198.51.100.9:443\nnew accept src=10.0.0.7 dst=198.51.100.9\n",
+        ),
+        (
+            "synth ipfw S I new",
+            Status::Ok,
+            b"table new 1\n* * * * * * * * : accept\n",
+        ),
+        (
+            "synth ipfw S I est",
+            Status::Ok,
+            b"table est 1\n* * * * * * * * * * * * : accept\n",
+        ),
+        (
+            "synth ipfw S B new",
+            Status::Refused,
+            b"refused B line 1 backward\n",
         ),
         // what an established packet leaves with isn't asked of new ones
         (

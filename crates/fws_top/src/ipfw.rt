@@ -1,0 +1,36 @@
+//! ipfw as a source of policies.
+
+use crate::source::Source;
+use fws_ifcl::Ifcl;
+use fws_ipfw::IpfwConfig;
+use fws_ipfw_ifcl::spelled_diagrams;
+use fws_net::{ReadAnswer, Site};
+use fws_num::Memory;
+use std::alloc::Global;
+
+/// ipfw, as `ipfw list` and scripts write its rules (ipfw(8)).
+pub struct Ipfw;
+
+impl Source for Ipfw {
+    type Config = IpfwConfig;
+
+    ghost use Rattle.fws_ipfw.specs.FileText.{spelled};
+    ghost use Rattle.fws_ipfw.specs.Walk.{walk};
+    ghost use Rattle.fws_top.specs.Judged.{ipfw_refusal};
+
+    ghost spelled = { λ site text. spelled site text };
+
+    ghost refusal = { λ site config. ipfw_refusal site config };
+
+    ghost walk = { λ config site packet kind. walk config site packet kind };
+
+    fn read(alloc: Global, text: &[u8], site: &Site) -> Result<IpfwConfig, ReadAnswer> {
+        fws_ipfw_read::read(alloc, text, site)
+    }
+
+    fn to_ifcl(alloc: Global, c: &IpfwConfig, site: &Site) -> Result<Ifcl, Memory> {
+        spelled_diagrams();
+        let diagram = fws_ipfw_ifcl::to_ifcl(alloc, c, site)?;
+        Ok(diagram)
+    }
+}
