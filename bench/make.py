@@ -1,6 +1,7 @@
-"""python3 make.py N FAMILY
+"""python3 make.py N FAMILY [LANG]
 
-Writes an iptables file of a family, the same one each time. Of these, N is the number of rules of the chain FORWARD:
+Writes a file of a family in the language LANG, which is `iptables` where it lacks, or `ipfw`; the same one each time. Of
+these, N is the number of rules of the chain FORWARD:
 
 overlapping: sources and destinations are drawn from 64 networks, so that rules overlap.
 apart: each rule has a source and a destination of its own.
@@ -22,6 +23,17 @@ unfolded: N calls of one chain of 1,000 rules, each of which drops the packets o
 marked: N rules of mangle mark packets of sources of their own, and N rules of FORWARD accept some destination by mark.
 crossing: N rules, of which half stand in mangle PREROUTING, before what tracked connections write, and half in FORWARD,
 and each tests a source, a destination, a protocol with ports, and an interface, or some of these.
+
+These two are written in both languages, with the same table; in iptables INPUT, FORWARD and OUTPUT have the same rules, as
+each pass of ipfw goes through all of them:
+
+skipping: N rules in groups of ten. The first rule of a group skips the others but for the packets of a network of the
+group's own, and these accept TCP to one of 256 networks at a port of their own; in iptables the nine are a chain that is called.
+sources: N rules, at most 65,534, of which each accepts the packets of one source address; in iptables they are one chain.
+
+And this one in ipfw alone:
+
+redirected: one instance with N redirects of ports to hosts of the LAN, which translates what comes in and goes out by em1.
 """
 
 import random
@@ -176,13 +188,74 @@ def crossing(rng, count):
     return table('mangle', ['PREROUTING ACCEPT'], before) + filtering('DROP', [], behind)
 
 
-FILES = {family.__name__: family for family in (called, shared, rewritten, services, unfolded, marked, crossing)}
+# Files with the same rules in iptables and ipfw
+
+BUILT_IN = ('INPUT', 'FORWARD', 'OUTPUT')
 
 
-def main(count, family):
+def everywhere(rules, chains, inner):
+    """A filter whose three chains have the same rules; the rules of its other chains are the inner ones."""
+    return table('filter', [name + ' DROP' for name in BUILT_IN] + [chain + ' -' for chain in chains],
+                 ['%s %s' % (name, rule) for name in BUILT_IN for rule in rules] + inner)
+
+
+def grouped(count):
+    """The places of the first rules of the groups, each with its network and the places of its other rules."""
+    return [(k, '10.%d.%d.0/24' % (k // 2560, k // 10 % 256), range(k + 1, min(k + 10, count))) for k in range(0, count, 10)]
+
+
+def group_target(k):
+    return '172.16.%d.0/24' % (7 * k % 256), 1000 + k
+
+
+def skipping(rng, count):
+    groups = grouped(count)
+    chains = ['G%d' % k for k, _, _ in groups]
+    rules = ['-s %s -j G%d' % (source, k) for k, source, _ in groups]
+    inner = ['G%d -d %s -p tcp -m tcp --dport %d -j ACCEPT' % (k, *group_target(other)) for k, _, others in groups for other in others]
+    return everywhere(rules, chains, inner)
+
+
+def skipping_ipfw(rng, count):
+    lines = []
+    for k, source, others in grouped(count):
+        lines.append('add %d skipto %d ip from not %s to any' % (10 * k + 10, 10 * k + 110, source))
+        lines += ['add %d allow tcp from any to %s dst-port %d' % (10 * other + 10, *group_target(other)) for other in others]
+    return lines
+
+
+def drawn_addresses(rng, count):
+    return [quad(address) for address in rng.sample(range(1 << 32), count)]
+
+
+def sources(rng, count):
+    return everywhere(['-j SOURCES'], ['SOURCES'], ['SOURCES -s %s -j ACCEPT' % address for address in drawn_addresses(rng, count)])
+
+
+def sources_ipfw(rng, count):
+    return ['add %d allow ip from %s to any' % (k, address) for k, address in enumerate(drawn_addresses(rng, count), 1)]
+
+
+def redirected_ipfw(rng, count):
+    redirects = ['redirect_port tcp 10.0.0.%d:%d %d' % (2 + k % 250, 8000 + k, 2000 + k) for k in range(count)]
+    return [
+        'nat 1 config if em1 ' + ' '.join(redirects),
+        'add 100 nat 1 ip from any to any in recv em1',
+        'add 200 nat 1 ip from any to any out xmit em1',
+        'add 300 allow ip from any to any',
+    ]
+
+
+FILES = {
+    'iptables': {family.__name__: family for family in (called, shared, rewritten, services, unfolded, marked, crossing, skipping, sources)},
+    'ipfw': {'skipping': skipping_ipfw, 'sources': sources_ipfw, 'redirected': redirected_ipfw},
+}
+
+
+def main(count, family, lang='iptables'):
     rng = random.Random(20181)
-    if family in FILES:
-        lines = FILES[family](rng, count)
+    if lang == 'ipfw' or family in FILES[lang]:
+        lines = FILES[lang][family](rng, count)
     else:
         drawn = networks(rng)
         rules = ['FORWARD ' + RULES[family](rng, drawn, k) for k in range(count)]
@@ -190,4 +263,4 @@ def main(count, family):
     print('\n'.join(lines))
 
 
-main(int(sys.argv[1]), sys.argv[2])
+main(int(sys.argv[1]), *sys.argv[2:])

@@ -1,9 +1,10 @@
 #!/usr/bin/env bash
 # Runs the built programs over growing inputs, and prints a line `family size seconds megabytes counts` for each:
-# filter files of growing length, files with chains of the user's and with rules of nat and mangle, 400 rules at sites of
-# growing size, the writing of these sites by the command site2, texts of up to 4 MiB that are read and not executed,
-# execution alone and that of established packets, trees that are made of rows or recoloured, and diagrams that are
-# unfolded or refused. Exit status 1 where a bound is passed. Build first: ./fws --build
+# filter files of growing length, files with chains of the user's and with rules of nat and mangle, an instance of ipfw with
+# many redirects, the same rules in ipfw and in iptables, 400 rules at sites of growing size, the writing of these sites by
+# the command site2, texts of up to 4 MiB that are read and not executed, execution alone and that of established packets,
+# trees that are made of rows or recoloured, and diagrams that are unfolded or refused. Exit status 1 where a bound is
+# passed. Build first: ./fws --build
 set -u
 top=$(cd "$(dirname "$0")/.." && pwd)
 program=$top/crates/fws/out/fws
@@ -19,13 +20,17 @@ measure() { # family count seconds megabytes command words..
     python3 "$top/bench/measure.py" "$@" || status=1
 }
 
-rules() { # family seconds count..
-    local family=$1 seconds=$2 count
-    shift 2
+rules_in() { # language family seconds count..
+    local lang=$1 family=$2 seconds=$3 count
+    shift 3
     for count in "$@"; do
-        python3 "$top/bench/make.py" "$count" "$family" >"$work/file" || exit 1
-        measure "$family" "$count" "$seconds" 2048 "$program" synth iptables "$site" "$work/file" new
+        python3 "$top/bench/make.py" "$count" "$family" "$lang" >"$work/file" || exit 1
+        measure "$family" "$count" "$seconds" 2048 "$program" synth "$lang" "$site" "$work/file" new
     done
+}
+
+rules() { # family seconds count..
+    rules_in iptables "$@"
 }
 
 echo 'family rules seconds megabytes rows'
@@ -44,6 +49,11 @@ rules unfolded 10 998
 rules marked 2 400
 python3 "$top/bench/growth.py" listed 15 "$program" "$site" || status=1
 python3 "$top/bench/growth.py" partial 15 "$program" "$site" || status=1
+
+echo 'family redirects seconds megabytes rows'
+rules_in ipfw redirected 4 2000
+python3 "$top/bench/ratio.py" skipping 4000 2 "$program" "$site" || status=1
+python3 "$top/bench/ratio.py" sources 65534 2 "$program" "$site" || status=1
 
 echo 'family routes seconds megabytes rows'
 python3 "$top/bench/make.py" 400 routed >"$work/file" || exit 1

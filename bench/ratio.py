@@ -1,0 +1,48 @@
+"""python3 ratio.py FAMILY COUNT TIMES PROGRAM SITE
+
+Makes the tables of a family of make.py from its file in iptables and from its file in ipfw, three times each in turn. Prints
+a line `FAMILY takes N times as long in ipfw as in iptables for COUNT` of the best times. Exit status 1 where that is more than
+TIMES, or where the two tables aren't the same.
+"""
+
+import os
+import subprocess
+import sys
+import tempfile
+import time
+
+MAKE = os.path.join(os.path.dirname(os.path.abspath(__file__)), 'make.py')
+
+
+def made(command):
+    """What the command writes, and the seconds that it takes."""
+    begun = time.monotonic()
+    ended = subprocess.run(command, stdout=subprocess.PIPE, check=True, timeout=120)
+    return ended.stdout, time.monotonic() - begun
+
+
+def table(work, program, site, family, count, lang):
+    """The command that makes the table of the file in this language."""
+    name = os.path.join(work, lang)
+    with open(name, 'w') as f:
+        subprocess.run([sys.executable, MAKE, count, family, lang], stdout=f, check=True)
+    return [program, 'synth', lang, site, name, 'new']
+
+
+def main(family, count, most, program, site):
+    best, tables = {}, set()
+    with tempfile.TemporaryDirectory() as work:
+        commands = {lang: table(work, program, site, family, count, lang) for lang in ('iptables', 'ipfw')}
+        for _ in range(3):
+            for lang, command in commands.items():
+                written, taken = made(command)
+                tables.add(written)
+                best[lang] = min(taken, best.get(lang, taken))
+    times = best['ipfw'] / best['iptables']
+    print(family, 'takes %.1f times as long in ipfw as in iptables for %s' % (times, count))
+    if len(tables) > 1:
+        print(family, count, 'has other tables in ipfw than in iptables')
+    return 0 if times <= most and len(tables) == 1 else 1
+
+
+sys.exit(main(sys.argv[1], sys.argv[2], float(sys.argv[3]), *sys.argv[4:]))
