@@ -104,14 +104,14 @@ module _ (known : List Defined) where
 
   -- Logging, tags and protocols
 
-  protocol_fits : (cause : Cause) (text : List ℕ) (d : RuleDraft) → Acts d → IfOk (protocol_step cause text d) (Begun known)
-  protocol_fits cause text d h = found_holds (Begun known) (protocol_value text) (λ protocol. Ok (with_protocol protocol d)) (Err cause) (λ protocol e. h) tt
+  protocol_fits : (text : List ℕ) (d : RuleDraft) → Acts d → IfOk (protocol_step text d) (Begun known)
+  protocol_fits text d h = found_holds (Begun known) (protocol_value text) (λ protocol. Ok (with_protocol protocol d)) (Err (misspelled text)) (λ protocol e. h) tt
 
   tag_step_fits : (text : List ℕ) (d : RuleDraft) → Acts d → IfOk (tag_step text d) (Begun known)
   tag_step_fits text d h =
       either_holds (Begun known) (is text (codes "tag")) (Ok (expecting (expect.TagNumber true) d)) _ (λ e. h)
-      (λ e. either_holds (Begun known) (is text (codes "untag")) (Ok (expecting (expect.TagNumber false) d)) (protocol_step (misspelled text) text d) (λ k. h)
-      (λ k. protocol_fits (misspelled text) text d h))
+      (λ e. either_holds (Begun known) (is text (codes "untag")) (Ok (expecting (expect.TagNumber false) d)) (protocol_step text d) (λ k. h)
+      (λ k. protocol_fits text d h))
 
   log_fits : (text : List ℕ) (d : RuleDraft) → Acts d → IfOk (log_step text d) (Begun known)
   log_fits text d h =
@@ -243,7 +243,7 @@ module _ (known : List Defined) where
   expected_fits site expect.LogAmount text d h = amount_fits text d h
   expected_fits site expect.Tag text d h = tag_step_fits text d h
   expected_fits site (expect.TagNumber adds) text d h = tag_number_fits adds text d h
-  expected_fits site expect.Protocol text d h = protocol_fits Syntax text d h
+  expected_fits site expect.Protocol text d h = protocol_fits text d h
   expected_fits site expect.From text d h = from_fits text d h
   expected_fits site (expect.Source negated) text d h = source_fits site negated text d h
   expected_fits site expect.SourcePorts text d h = behind_source_fits text d h

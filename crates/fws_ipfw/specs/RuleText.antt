@@ -98,15 +98,15 @@ flow_step text d = if is text (codes ":default") then Ok (expecting expect.Nothi
 abbrev pub with_protocol : Option ℕ → RuleDraft → RuleDraft
 with_protocol protocol d = with_literals (literals false (protocol_literal protocol)) (record d { protocol = protocol; expects = expect.From })
 
--- a protocol; any other word is refused for this cause
-abbrev pub protocol_step : Cause → List ℕ → RuleDraft → Result RuleDraft Cause
-protocol_step cause text d = option_map_or (λ protocol. Ok (with_protocol protocol d)) (protocol_value text) (Err cause)
+-- a protocol
+abbrev pub protocol_step : List ℕ → RuleDraft → Result RuleDraft Cause
+protocol_step text d = option_map_or (λ protocol. Ok (with_protocol protocol d)) (protocol_value text) (Err (misspelled text))
 
 abbrev pub tag_step : List ℕ → RuleDraft → Result RuleDraft Cause
 tag_step text d =
     if is text (codes "tag") then Ok (expecting (expect.TagNumber true) d)
     else if is text (codes "untag") then Ok (expecting (expect.TagNumber false) d)
-    else protocol_step (misspelled text) text d
+    else protocol_step text d
 
 abbrev pub log_step : List ℕ → RuleDraft → Result RuleDraft Cause
 log_step text d = if is text (codes "log") then Ok (expecting expect.Logged d) else tag_step text d
@@ -226,7 +226,7 @@ expected_step site known expect.Logged text d = logged_step text d
 expected_step site known expect.LogAmount text d = amount_step text d
 expected_step site known expect.Tag text d = tag_step text d
 expected_step site known (expect.TagNumber adds) text d = tag_number_step adds text d
-expected_step site known expect.Protocol text d = protocol_step Syntax text d
+expected_step site known expect.Protocol text d = protocol_step text d
 expected_step site known expect.From text d = word_step (codes "from") (expect.Source false) text d
 expected_step site known (expect.Source negated) text d = source_step site negated text d
 expected_step site known expect.SourcePorts text d = source_ports_step text d

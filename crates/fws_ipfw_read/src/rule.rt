@@ -111,17 +111,12 @@ fn flow_step(d: &mut RuleDraft, text: &[u8]) -> Result<(), ReadFault>
     Ok(())
 }
 
-/// Takes a protocol. Any other word is refused for this cause.
-fn protocol_step(
-    alloc: Global,
-    d: &mut RuleDraft,
-    cause: Cause,
-    text: &[u8],
-) -> Result<(), ReadFault>
-    ensures { StepGiven result d.new (protocol_step cause text.now d.old) }
+/// Takes a protocol.
+fn protocol_step(alloc: Global, d: &mut RuleDraft, text: &[u8]) -> Result<(), ReadFault>
+    ensures { StepGiven result d.new (protocol_step text.now d.old) }
 {
     let Some(protocol) = read_protocol_value(text) else {
-        return Err(ReadFault::Bad(cause));
+        return Err(ReadFault::Bad(misspelled(text)));
     };
     d.protocol = protocol;
     d.expects = Expects::From;
@@ -141,7 +136,7 @@ fn tag_step(alloc: Global, d: &mut RuleDraft, text: &[u8]) -> Result<(), ReadFau
         d.expects = Expects::TagNumber(false);
         return Ok(());
     }
-    protocol_step(alloc, d, misspelled(text), text)
+    protocol_step(alloc, d, text)
 }
 
 /// Takes `log`, `tag`, `untag` or a protocol.
@@ -232,7 +227,7 @@ fn expected_step(
         Expects::LogAmount => amount_step(d, text),
         Expects::Tag => tag_step(alloc, d, text),
         Expects::TagNumber(adds) => tag_number_step(d, adds, text),
-        Expects::Protocol => protocol_step(alloc, d, Cause::Syntax, text),
+        Expects::Protocol => protocol_step(alloc, d, text),
         Expects::From => word_step(d, b"from", Expects::Source(false), text),
         Expects::Source(negated) => source_step(alloc, site, d, negated, text),
         Expects::SourcePorts => source_ports_step(alloc, d, text),
