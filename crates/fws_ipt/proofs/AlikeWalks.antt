@@ -33,7 +33,7 @@ use Rattle.fws_ipt.specs.declared.hook.Hook.TheVariants.{Prerouting, Input, Forw
 use Rattle.fws_ipt.specs.declared.passage.Passage.{Passage}
 use Rattle.fws_ipt.specs.declared.passage.ChainEnd.{ChainEnd}
 use Rattle.fws_ipt.specs.declared.passage.ChainEnd.TheVariants.{Accepted, Dropped, Through}
-use Rattle.fws_ipt.specs.Networks.{net_end}
+use Rattle.fws_rule.specs.Networks.{net_end}
 use Rattle.fws_ipt.specs.Walk.{shows_recv, shows_xmit, view_at, with_wrote, with_src, with_dst, writes_dst_at, writes_src_at, masquerades_at, redirect_addr, masqueraded, back, act, rules_walk, rules_at, chain_walk, by_policy, policy_at, builtin_walk, tracked_at, visit, visits, arriving, delivered, forwarded, sent_out, go_to, routed, entering, way_of, outcome_of, walk}
 
 -- alike passages of a packet that entered as p; its protocol is still the same

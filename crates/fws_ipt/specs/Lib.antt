@@ -3,7 +3,6 @@ pub mod FilterOnly
 pub mod Hooks
 pub mod Levels
 pub mod Loops
-pub mod Networks
 pub mod Options
 pub mod Refusals
 pub mod Regular

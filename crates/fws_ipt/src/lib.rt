@@ -7,7 +7,6 @@ mod draft;
 mod hook;
 mod laws;
 pub mod model;
-mod networks;
 mod passage;
 mod plainness;
 mod refusal;
@@ -23,7 +22,6 @@ pub use laws::{
     spelled_fits, spelled_networks, spelled_walks_are_regular, unrefused_have_no_loop,
     walks_stand_still, walks_unfold,
 };
-pub use networks::net_end;
 pub use passage::{ChainEnd, Passage};
 pub use plainness::filter_only;
 pub use refusal::UnfoldRefusal;

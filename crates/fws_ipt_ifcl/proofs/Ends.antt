@@ -32,7 +32,7 @@ use Rattle.fws_ipt.specs.declared.hook.Hook.TheVariants.{Prerouting, Input, Forw
 use Rattle.fws_ipt.specs.declared.passage.Passage.{Passage}
 use Rattle.fws_ipt.specs.declared.passage.ChainEnd.{ChainEnd as IptEnd}
 use Rattle.fws_ipt.specs.declared.passage.ChainEnd.TheVariants as ends
-use Rattle.fws_ipt.specs.Networks.{net_end}
+use Rattle.fws_rule.specs.Networks.{net_end}
 use Rattle.fws_ipt.specs.Walk.{with_src, with_dst, writes_dst_at, writes_src_at, masquerades_at, redirect_addr, masqueraded, back}
 use Rattle.fws_ipt_ifcl.specs.Blocks.{all_entries, by_entry, masquerading, redirecting, mapping}
 use Rattle.fws_ipt_ifcl.proofs.Guarding.{written_by}

@@ -15,7 +15,7 @@ use Rattle.fws_rule.specs.Literals.{one, positive, negative}
 use Rattle.fws_draw.specs.Rules.{ruled, always}
 use Rattle.fws_ipt.specs.declared.config.IptGo.{IptGo}
 use Rattle.fws_ipt.specs.declared.config.IptGo.TheVariants as goes
-use Rattle.fws_ipt.specs.Networks.{net_end}
+use Rattle.fws_rule.specs.Networks.{net_end}
 
 -- the entries of loopback and of the interfaces
 abbrev pub all_entries : Site → List Iv

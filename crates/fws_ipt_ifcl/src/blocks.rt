@@ -9,10 +9,10 @@ use crate::guards::{all_entries, one_entry, put_guarded};
 use crate::places::file_chain;
 use fws_draw::{always, narrowed, place_behind, put_rule, ruled_by};
 use fws_ifcl::{Act, Rule};
-use fws_ipt::{IptGo, IptRule, net_end};
+use fws_ipt::{IptGo, IptRule};
 use fws_net::{Cond, End, LOOPBACK_ADDR, Site, Test, face_addr};
 use fws_num::{Memory, Prefix};
-use fws_rule::{negative, positive};
+use fws_rule::{negative, net_end, positive};
 use std::alloc::Global;
 
 /// The entry of the last interface.

@@ -1,3 +1,4 @@
 pub mod Alike
 pub mod Interfaces
 pub mod Literals
+pub mod Networks

@@ -14,10 +14,10 @@ use crate::config::{IptChain, IptGo, IptRule};
 use crate::hook::Hook;
 use crate::model::seeing::view_at;
 use crate::model::writing::{masqueraded, redirect_addr, with_dst, with_mark, with_src};
-use crate::networks::net_end;
 use crate::passage::{ChainEnd, Passage};
 use fws_net::{End, Packet, Site, holds, sending_entry};
 use fws_num::Memory;
+use fws_rule::net_end;
 use std::alloc::Global;
 
 /// Where rules are walked, and for which packet.

@@ -1,6 +1,6 @@
 use Rattle.std.proofs.Common.{◌≡◌, ℕ, ◌-◌, ◌*◌, ◌/◌, ◌%◌, ◌^◌, ap, ◌∙◌, subst}
 use Rattle.std.proofs.Math.Nat.{mul-mod_left}
-use Rattle.fws_ipt.proofs.networks.net_end.Goals as goal
+use Rattle.fws_rule.proofs.networks.net_end.Goals as goal
 
 -- src/networks.rt:24:5
 pub net-requires-clause-clear : goal.net-requires-clause-clear

@@ -1,4 +1,4 @@
--- The end that NETMAP writes (iptables-extensions(8)).
+-- The end that a mapped network writes: NETMAP (iptables-extensions(8)) and `bitmask` (pf.conf(5)).
 use Rattle.std.specs.Prelude.{ℕ, ◌-◌, ◌*◌, ◌/◌, ◌^◌, None, max, min, refl}
 use Rattle.std.proofs.Math.Nat.{le-min, le-max_left, min-le_left, mul-mod_left}
 use Rattle.std.proofs.lemmas.Bool.{leb-true}

@@ -1,7 +1,7 @@
-//! The end that NETMAP writes (iptables-extensions(8)).
+//! The end that a mapped network writes: NETMAP (iptables-extensions(8)) and `bitmask` (pf.conf(5)).
 
 ghost use Rattle.std.specs.Prelude.{◌≡◌};
-ghost use Rattle.fws_ipt.specs.Networks.{written_len, net_end};
+ghost use Rattle.fws_rule.specs.Networks.{written_len, net_end};
 
 use fws_net::End;
 use fws_num::Prefix;
@@ -13,7 +13,7 @@ fn written_len(len: u8) -> u8
     len.max(1).min(32)
 }
 
-/// The end that NETMAP writes: the first bits of the network, without a port. A length that isn't 1 to
+/// The end that a mapped network writes: its first bits, without a port. A length that isn't 1 to
 /// 32 counts as the nearest of these.
 pub fn net_end(net: Prefix) -> End
     ensures { result ≡ net_end net }
