@@ -1,0 +1,13 @@
+pub mod AlikeWalks
+pub mod Crossed
+pub mod Kept
+pub mod Leaving
+pub mod Lists
+pub mod Outcomes
+pub mod Readings
+pub mod Regular
+pub mod RuleWords
+pub mod Skipped
+pub mod StatementWords
+pub mod Texts
+pub mod Written

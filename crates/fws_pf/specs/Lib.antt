@@ -1,0 +1,14 @@
+pub mod Drafts
+pub mod Drawn
+pub mod FileText
+pub mod Keywords
+pub mod Macros
+pub mod Regular
+pub mod RuleText
+pub mod Soundness
+pub mod Statements
+pub mod StatementText
+pub mod Tables
+pub mod TargetText
+pub mod Values
+pub mod Walk
