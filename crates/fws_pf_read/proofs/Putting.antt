@@ -1,0 +1,90 @@
+-- Rules that are put behind others.
+use Rattle.std.proofs.Common.{◌≡◌, ℕ, suc, ◌+◌, ◌*◌, Option, None, Result, Ok, List, [], ◌∷◌, ◌++◌, length, length-append, map, refl, sym, ap, ◌∙◌, subst, arith}
+use Rattle.std.proofs.lemmas.List.{length-map}
+use Rattle.fws_net.specs.declared.answer.LineFault.{LineFault}
+use Rattle.fws_net.specs.declared.cause.Cause.{Cause}
+use Rattle.fws_net.specs.declared.cause.Checks.{Checks}
+use Rattle.fws_net.specs.declared.condition.Lit.{Lit}
+use Rattle.fws_net.specs.declared.site.Site.{Site}
+use Rattle.fws_net.specs.Causes.{first_cause, unless}
+use Rattle.fws_net.specs.Reading.{StepGiven}
+use Rattle.fws_pf.specs.declared.tables.Table.{Table}
+use Rattle.fws_pf_read.specs.declared.statement.Statement.{Statement}
+use Rattle.fws_pf_read.specs.declared.statement.Statement.TheVariants as own
+use Rattle.fws_pf_read.specs.Statements.{seen}
+use Rattle.fws_pf.specs.declared.config.PfConfig.{PfConfig}
+use Rattle.fws_pf.specs.declared.rule_draft.Choice.{Choice}
+use Rattle.fws_pf.specs.declared.rule_draft.RuleDraft.{RuleDraft}
+use Rattle.fws_pf.specs.declared.rule_draft.Verb.{Verb}
+use Rattle.fws_pf.specs.declared.rule_draft.Verb.TheVariants as verbs
+use Rattle.fws_pf.specs.declared.text_draft.PfDraft.{PfDraft}
+use Rattle.fws_pf.specs.Drawn.{choices, condition_count, conditions, crossed, expanded_with, rule_checks}
+use Rattle.fws_pf.specs.FileText.{rule_put, statement_put, with_rule, with_rules}
+use Rattle.fws_pf_read.specs.Texts.{put, with_tags}
+
+-- How many conditions there are
+
+length-crossed : (fronts rests : List (List Lit)) → length (crossed fronts rests) ≡ length fronts * length rests
+length-crossed [] rests = none_at_all (length rests)
+  where
+    none_at_all : (b : ℕ) → 0 ≡ 0 * b
+    none_at_all b = omega arith
+length-crossed (front ∷ fronts) rests =
+    length-append (map (λ rest. front ++ rest) rests) (crossed fronts rests)
+    ∙ ap (λ n. n + length (crossed fronts rests)) (length-map rests (λ rest. front ++ rest))
+    ∙ ap (λ n. length rests + n) (length-crossed fronts rests)
+    ∙ sym (one_more (length fronts) (length rests))
+  where
+    one_more : (a b : ℕ) → suc a * b ≡ b + a * b
+    one_more a b = omega arith
+
+pub length-conditions : (cs : List Choice) → length (conditions cs) ≡ condition_count cs
+length-conditions [] = refl
+length-conditions (c ∷ cs) = length-crossed c.conds (conditions cs) ∙ ap (λ n. length c.conds * n) (length-conditions cs)
+
+-- Tags ahead of a rule don't matter, since it has its own
+
+retagged : (v : Verb) (d : RuleDraft) (conds : List (List Lit)) (tags : List (List ℕ)) (c : PfConfig) → with_rules v d conds (record c { tags = tags }) ≡ with_rules v d conds c
+retagged verbs.Rdr d conds tags c = refl
+retagged verbs.Nat d conds tags c = refl
+retagged verbs.Block d conds tags c = refl
+retagged verbs.Pass d conds tags c = refl
+
+own_tags : (v : Verb) (d : RuleDraft) (conds : List (List Lit)) (c : PfConfig) → record (with_rules v d conds c) { tags = d.tags } ≡ with_rules v d conds c
+own_tags verbs.Rdr d conds c = refl
+own_tags verbs.Nat d conds c = refl
+own_tags verbs.Block d conds c = refl
+own_tags verbs.Pass d conds c = refl
+
+-- a rule that was counted and put by its verb, and whose tags were put
+pub put_all : (d : RuleDraft) (tags : List (List ℕ)) (conds : List (List Lit)) (old counted made new : PfDraft) → counted ≡ record old { expanded = expanded_with old.expanded (length conds) } →
+    made ≡ with_tags counted.config.tags (record counted { config = with_rules d.verb d conds counted.config }) → tags ≡ d.tags → new ≡ with_tags tags made →
+    new ≡ put d conds old
+put_all d tags conds old counted made new a b k e =
+    e ∙ ap (λ (l : List (List ℕ)). with_tags l made) k ∙ ap (with_tags d.tags) b
+    ∙ ap (λ (t : PfDraft). with_tags d.tags (with_tags t.config.tags (record t { config = with_rules d.verb d conds t.config }))) a
+    ∙ ap (λ (c : PfConfig). record old { expanded = expanded_with old.expanded (length conds); config = c }) (own_tags d.verb d conds old.config)
+
+-- the rule of choices
+pub put_choices : (d : RuleDraft) (cs : List Choice) (conds : List (List Lit)) (tags : List (List ℕ)) (old t new : PfDraft) → conds ≡ conditions cs → old ≡ with_tags tags t →
+    new ≡ put d conds old → new ≡ with_rule cs d t
+put_choices d cs conds tags old t new is from e =
+    e ∙ ap (put d conds) from
+    ∙ ap (λ (c : PfConfig). record t { expanded = expanded_with t.expanded (length conds); config = c }) (retagged d.verb d conds tags t.config)
+    ∙ ap (λ (l : List (List Lit)). put d l t) is
+    ∙ ap (λ n. record t { expanded = expanded_with t.expanded n; config = with_rules d.verb d (conditions cs) t.config }) (length-conditions cs)
+
+-- a rule whose checks pass
+pub put_checked : (tables : List Table) (d : RuleDraft) (checks : Checks) (expanded : ℕ) (tags : List (List ℕ)) (old t new : PfDraft) → None ≡ first_cause checks →
+    checks ≡ rule_checks tables expanded d → expanded ≡ old.expanded → old ≡ with_tags tags t → new ≡ with_rule (choices tables d) d t → rule_put tables d t ≡ Ok new
+put_checked tables d checks expanded tags old t new none is n from e =
+    let counted : expanded ≡ t.expanded = n ∙ ap (λ (x : PfDraft). x.expanded) from in
+    let passes : first_cause (rule_checks tables t.expanded d) ≡ None = sym (none ∙ ap first_cause (is ∙ ap (λ i. rule_checks tables i d) counted)) in
+    let check : Option Cause → Result PfDraft Cause = λ o. unless o (with_rule (choices tables d) d t) in
+    let said : PfDraft → Result PfDraft Cause = λ x. Ok x in
+    ap check passes ∙ ap said (sym e)
+
+-- a statement that is a rule
+pub rule_said : (site : Site) (tables : List Table) (s : Statement) (d : RuleDraft) (t : PfDraft) (r : Result (Unit {0}) (LineFault Cause)) (new : PfDraft) → s ≡ own.Rule d →
+    StepGiven r new (rule_put tables d t) → StepGiven r new (statement_put site tables (seen s) t)
+rule_said site tables s d t r new is h = subst (λ (x : Statement). StepGiven r new (statement_put site tables (seen x) t)) (sym is) h

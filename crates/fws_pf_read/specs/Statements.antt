@@ -1,0 +1,30 @@
+-- What was read so far of a statement, as the reader has it.
+use Rattle.std.specs.Prelude.{◌≡◌, ℕ, Result, Ok, Err, List}
+use Rattle.fws_net.specs.declared.answer.LineFault.{LineFault}
+use Rattle.fws_net.specs.declared.cause.Cause.{Cause}
+use Rattle.fws_net.specs.Reading.{FaultGiven}
+use Rattle.fws_pf.specs.declared.statement.Statement.{Statement as AnyStatement}
+use Rattle.fws_pf.specs.declared.statement.Statement.TheVariants as any
+use Rattle.fws_pf_read.specs.declared.statement.Statement.{Statement}
+use Rattle.fws_pf_read.specs.declared.statement.Statement.TheVariants as own
+
+-- the statement
+abbrev pub seen : Statement → AnyStatement
+seen own.Begun = any.Begun
+seen own.Negated = any.Negated
+seen (own.Rule d) = any.Rule d
+seen (own.Table d) = any.Table d
+seen own.Set = any.Set
+seen own.Skip = any.Skip
+seen (own.SkipOn v) = any.SkipOn v
+seen own.Idle = any.Idle
+
+-- a statement is what reading gives, unless memory ran out
+abbrev pub StatementGiven : Result Statement (LineFault Cause) → Result AnyStatement Cause → Type 0
+StatementGiven (Ok s) read = read ≡ Ok (seen s)
+StatementGiven (Err fault) read = FaultGiven fault read
+
+-- these are the tags of the text, unless a rule has them already
+abbrev pub AreTags : List (List ℕ) → Statement → List (List ℕ) → Type 0
+AreTags tags (own.Rule d) kept = Unit {0}
+AreTags tags _ kept = kept ≡ tags

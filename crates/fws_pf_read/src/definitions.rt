@@ -1,0 +1,158 @@
+//! The tables that the statements of a text define, known ahead of the text.
+
+ghost use Rattle.std.specs.Prelude.{◌≡◌, [], ◌∷◌, List, Ok, option_to_list, IfOk, OnOk};
+ghost use Rattle.fws_num.specs.declared.lines.Line.{Line as AnyLine};
+ghost use Rattle.fws_net.specs.Routes.{IsSound};
+ghost use Rattle.fws_pf.specs.FileText.{all_tables, name_defined, table_of, tables_from, unknowing, value_behind, with_read, with_value};
+ghost use Rattle.fws_pf.specs.Macros.{value_defined};
+ghost use Rattle.fws_pf.specs.StatementText.{statement_read};
+ghost use Rattle.fws_pf.specs.Tables.{empty_table};
+ghost use Rattle.fws_pf_read.specs.Statements.{seen};
+
+use crate::defining::table_defined;
+use crate::macros::{Macros, is_definition, value_defined};
+use crate::members::with_members;
+use crate::setting::{Names, Setting, Tables};
+use crate::statement::{Statement, statement_read};
+use crate::tags::Tags;
+use fws_iv::Ivs;
+use fws_net::{ReadFault, Site};
+use fws_num::{Items, Line, Memory, Text, Word};
+use fws_pf::Table;
+use std::alloc::Global;
+
+/// The name of the macro that words define; empty where there are none.
+pub(crate) fn name_defined(words: &[Word]) -> &[u8]
+    ensures { result.now ≡ name_defined words.now }
+{
+    match words {
+        [] => b"",
+        [name, ..] => name.text.as_slice(),
+    }
+}
+
+/// The words behind the name of a macro and `=`.
+pub(crate) fn value_behind(words: &[Word]) -> &[Word]
+    ensures { result.now ≡ value_behind words.now }
+{
+    match words {
+        [_, _, value @ ..] => value,
+        _ => &[],
+    }
+}
+
+/// The table of this name in which nothing stands.
+fn empty_table(alloc: Global, name: Text) -> Table
+    ensures { result ≡ empty_table name }
+{
+    Table {
+        name,
+        own: Ivs::none(alloc),
+        named: Items::new(alloc),
+    }
+}
+
+/// What a whole statement puts into its table.
+fn table_said(alloc: Global, name: Text, s: Statement) -> Result<Table, Memory>
+    ensures { IfOk result (λ t. t ≡ with_read (Ok (seen s)) (empty_table name)) }
+{
+    match s {
+        Statement::Begun => Ok(empty_table(alloc, name)),
+        Statement::Negated => Ok(empty_table(alloc, name)),
+        Statement::Rule(_) => Ok(empty_table(alloc, name)),
+        Statement::Table(d) => with_members(alloc, name, d.members.items.as_slice()),
+        Statement::Set => Ok(empty_table(alloc, name)),
+        Statement::Skip => Ok(empty_table(alloc, name)),
+        Statement::SkipOn(_) => Ok(empty_table(alloc, name)),
+        Statement::Idle => Ok(empty_table(alloc, name)),
+    }
+}
+
+/// The table of this name that a statement defines; nothing stands in it where the statement is refused.
+fn table_read(
+    alloc: Global,
+    site: &Site,
+    macros: &Macros,
+    name: Text,
+    words: &[Word],
+) -> Result<Table, Memory>
+    requires { IsSound site.now }
+    ensures { IfOk result (λ t. t ≡ with_read (statement_read (unknowing site.now) macros.now [] words.now) (empty_table name)) }
+{
+    let taken = Names::new(alloc);
+    let setting = Setting::new(site, None, &taken);
+    let mut tags = Tags::new(alloc);
+    match statement_read(alloc, &setting, macros, &mut tags, words) {
+        Ok(s) => table_said(alloc, name, s),
+        Err(ReadFault::Bad(_)) => Ok(empty_table(alloc, name)),
+        Err(ReadFault::Memory) => Err(Memory),
+    }
+}
+
+/// The table that a statement of these words defines, if it defines one.
+fn table_of(
+    alloc: Global,
+    site: &Site,
+    macros: &Macros,
+    words: &[Word],
+) -> Result<Option<Table>, Memory>
+    requires { IsSound site.now }
+    ensures { IfOk result (λ t. option_to_list t ≡ table_of site.now macros.now words.now) }
+{
+    match table_defined(alloc, macros, words)? {
+        Some(name) => Ok(Some(table_read(alloc, site, macros, name, words)?)),
+        None => Ok(None),
+    }
+}
+
+/// Notes the macro that these words define; a refused definition changes none.
+fn define(alloc: Global, macros: &mut Macros, words: &[Word]) -> Result<(), Memory>
+    ensures { OnOk result (macros.new ≡ with_value (name_defined words.now) (value_defined macros.old (value_behind words.now)) macros.old) }
+{
+    match value_defined(alloc, macros, value_behind(words)) {
+        Ok(value) => {
+            macros.put(Text::of(alloc, name_defined(words))?, value)?;
+            Ok(())
+        }
+        Err(ReadFault::Bad(_)) => Ok(()),
+        Err(ReadFault::Memory) => Err(Memory),
+    }
+}
+
+/// Notes what a statement defines.
+fn note(
+    alloc: Global,
+    site: &Site,
+    macros: &mut Macros,
+    tables: &mut Tables,
+    line: &Line,
+) -> Result<(), Memory>
+    requires { IsSound site.now }
+    ensures { OnOk result ((lines : List AnyLine) → tables_from site.now macros.old tables.old (line.now ∷ lines) ≡ tables_from site.now macros.new tables.new lines) }
+{
+    let words = line.words.as_slice();
+    if is_definition(words) {
+        define(alloc, macros, words)?;
+        return Ok(());
+    }
+    match table_of(alloc, site, macros, words)? {
+        Some(table) => {
+            tables.put(alloc, table)?;
+            Ok(())
+        }
+        None => Ok(()),
+    }
+}
+
+/// The tables that statements define, in their order, refused ones among them. An error is want of memory.
+pub(crate) fn all_tables(alloc: Global, site: &Site, lines: &[Line]) -> Result<Tables, Memory>
+    requires { IsSound site.now }
+    ensures { IfOk result (λ tables. tables ≡ all_tables site.now lines.now) }
+{
+    let mut macros = Macros::new(alloc);
+    let mut tables = Tables::new(alloc);
+    for line in lines {
+        note(alloc, site, &mut macros, &mut tables, line)?;
+    }
+    Ok(tables)
+}

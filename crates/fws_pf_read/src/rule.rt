@@ -1,0 +1,158 @@
+//! A rule that is read: a filter rule or a translation behind its first word (pf.conf(5)).
+
+ghost use Rattle.std.specs.Prelude.{◌≡◌, IfOk};
+ghost use Rattle.fws_net.specs.Reading.{CauseGiven, StepGiven};
+ghost use Rattle.fws_net.specs.Routes.{IsSound};
+ghost use Rattle.fws_pf.specs.Drawn.{choices, filter_rule, rule_checks, rule_ended, translation};
+ghost use Rattle.fws_pf.specs.RuleText.{fresh_rule, rule_step};
+
+use crate::checks::draft_checks;
+use crate::draft::Draft;
+use crate::drawn::draft_choices;
+use crate::ended::draft_ended;
+use crate::made;
+use crate::setting::{Setting, Tables};
+use crate::steps::draft_step;
+use crate::tags::Tags;
+use crate::values::fresh_value;
+use fws_net::{Checks, Cond, ReadFault};
+use fws_num::{Items, Memory, Word};
+use fws_pf::{Choice, Expects, PfNat, PfRule, ValueKind, Verb, Way};
+use std::alloc::Global;
+use std::marker::Model;
+
+/// A rule that is read. Contracts see its draft, in which the names of tags are a list.
+#[derive(Drop)]
+pub(crate) struct Rule {
+    draft: Draft,
+}
+
+impl Model for Rule {
+    ghost use Rattle.fws_pf.specs.declared.rule_draft.RuleDraft.{RuleDraft};
+
+    ghost Value = { RuleDraft };
+
+    ghost use Rattle.fws_pf_read.specs.Views.{draft_of};
+
+    ghost view = { λ r. draft_of r.draft };
+}
+
+impl Rule {
+    /// What it does.
+    pub(crate) fn verb(&self) -> Verb
+        ensures { result ≡ self.now.verb }
+    {
+        self.draft.verb
+    }
+
+    /// What its next word is taken for.
+    pub(crate) fn expects(&self) -> Expects
+        ensures { result ≡ self.now.expects }
+    {
+        self.draft.expects
+    }
+
+    /// The names of all tags so far.
+    pub(crate) fn into_tags(self) -> Tags
+        ensures { result ≡ self.tags }
+    {
+        self.draft.tags
+    }
+
+    /// The filter rule with this condition.
+    pub(crate) fn filter_rule(&self, cond: Cond) -> PfRule
+        ensures { result ≡ filter_rule self.now cond }
+    {
+        made::filter_rule(&self.draft, cond)
+    }
+
+    /// The translation with this condition.
+    pub(crate) fn translation(&self, cond: Cond) -> PfNat
+        ensures { result ≡ translation self.now cond }
+    {
+        made::translation(&self.draft, cond)
+    }
+}
+
+/// A rule before its words, in a text that has had these tags.
+pub(crate) fn fresh_rule(
+    alloc: Global,
+    verb: Verb,
+    negated: bool,
+    expects: Expects,
+    tags: Tags,
+) -> Rule
+    ensures { result ≡ fresh_rule verb negated expects tags }
+{
+    Rule {
+        draft: Draft {
+            verb,
+            negated,
+            expects,
+            value: fresh_value(alloc, ValueKind::Interface),
+            past: false,
+            way: Way::Both,
+            quick: false,
+            faces: Items::new(alloc),
+            protocols: Items::new(alloc),
+            sources: Items::new(alloc),
+            source_ports: Items::new(alloc),
+            destinations: Items::new(alloc),
+            destination_ports: Items::new(alloc),
+            options: Items::new(alloc),
+            has_flags: false,
+            tests_flags: false,
+            has_icmp_type: false,
+            has_state: false,
+            stateless: false,
+            has_tag: false,
+            has_tagged: false,
+            has_label: false,
+            tag: None,
+            target: None,
+            tags,
+        },
+    }
+}
+
+/// Takes a word of a rule.
+pub(crate) fn rule_step(
+    alloc: Global,
+    setting: &Setting<'_>,
+    w: &Word,
+    rule: &mut Rule,
+) -> Result<(), ReadFault>
+    requires { IsSound setting.now.site }
+    ensures { StepGiven result rule.new (rule_step setting.now w.now rule.old) }
+{
+    draft_step(alloc, setting, w, &mut rule.draft)
+}
+
+/// The rule of all its words. One that ends too early is refused.
+pub(crate) fn rule_ended(alloc: Global, rule: Rule) -> Result<Rule, ReadFault>
+    ensures { CauseGiven result (rule_ended rule) }
+{
+    let mut draft = rule.draft;
+    draft_ended(alloc, &mut draft)?;
+    Ok(Rule { draft })
+}
+
+/// What a rule asks for, in the order of its words, and last what it implies. An error is want of memory.
+pub(crate) fn choices(alloc: Global, tables: &Tables, rule: &Rule) -> Result<Items<Choice>, Memory>
+    ensures { IfOk result (λ cs. cs ≡ choices tables.now rule.now) }
+{
+    draft_choices(alloc, tables, &rule.draft)
+}
+
+/// The checks of a whole rule, behind statements that made so many rules where they made more than one. An error is want
+/// of memory.
+pub(crate) fn rule_checks(
+    alloc: Global,
+    tables: &Tables,
+    expanded: u64,
+    rule: &Rule,
+) -> Result<Checks, Memory>
+    ensures { IfOk result (λ c. c ≡ rule_checks tables.now expanded rule.now) }
+{
+    draft_checks(alloc, tables, expanded, &rule.draft)
+}

@@ -1,0 +1,147 @@
+//! What the statements of a text say.
+
+ghost use Rattle.std.specs.Prelude.{◌≡◌, ℕ, suc, Ok, List, [], ◌∷◌, ◌++◌, length, OnOk};
+ghost use Rattle.fws_net.specs.Reading.{StepGiven};
+ghost use Rattle.fws_net.specs.Routes.{IsSound};
+ghost use Rattle.fws_pf.specs.declared.text_draft.PfDraft.{PfDraft};
+ghost use Rattle.fws_pf.specs.FileText.{definition_step, rule_put, statement_put, with_rule, with_skipped, words_step};
+ghost use Rattle.fws_pf.specs.Drawn.{choices};
+ghost use Rattle.fws_pf_read.specs.Statements.{AreTags, seen};
+ghost use Rattle.fws_pf_read.specs.Texts.{plain_step, with_tags};
+
+use crate::definitions::{name_defined, value_behind};
+use crate::drawn::conditions;
+use crate::macros::{is_definition, value_defined};
+use crate::progress::Progress;
+use crate::rule::{Rule, choices, rule_checks};
+use crate::setting::Tables;
+use crate::skipped::with_skipped;
+use crate::statement::{Statement, statement_read};
+use fws_net::{ReadFault, Site};
+use fws_num::{Memory, Text, Word};
+use fws_pf::{TableDraft, ValueDraft};
+use std::alloc::Global;
+
+/// Takes a rule without a check that fails. The tags so far don't matter, since it has its own.
+fn put_rule(alloc: Global, tables: &Tables, rule: Rule, reader: &mut Progress) -> Result<(), Memory>
+    ensures { (t : PfDraft) (k : List (List ℕ)) → reader.old ≡ with_tags k t → OnOk result (reader.new ≡ with_rule (choices tables.now rule) rule t) }
+{
+    let choices = choices(alloc, tables, &rule)?;
+    let conds = conditions(alloc, choices.as_slice())?;
+    reader.put_rule(rule, conds)?;
+    Ok(())
+}
+
+/// Takes a whole rule, unless a check of the statement fails.
+fn rule_put(
+    alloc: Global,
+    tables: &Tables,
+    rule: Rule,
+    reader: &mut Progress,
+) -> Result<(), ReadFault>
+    ensures { (t : PfDraft) (k : List (List ℕ)) → reader.old ≡ with_tags k t → StepGiven result reader.new (rule_put tables.now rule t) }
+{
+    match rule_checks(alloc, tables, reader.expanded(), &rule)?.first() {
+        Some(cause) => Err(ReadFault::Bad(cause)),
+        None => {
+            put_rule(alloc, tables, rule, reader)?;
+            Ok(())
+        }
+    }
+}
+
+/// Notes a table by its name.
+fn put_table(alloc: Global, d: TableDraft, reader: &mut Progress) -> Result<(), ReadFault>
+    ensures { StepGiven result reader.new (Ok (record reader.old { tables = reader.old.tables ++ d.name ∷ [] })) }
+{
+    reader.put_table(alloc, d.name)?;
+    Ok(())
+}
+
+/// Notes the interfaces that are skipped.
+fn put_skip(
+    alloc: Global,
+    site: &Site,
+    v: ValueDraft,
+    reader: &mut Progress,
+) -> Result<(), ReadFault>
+    requires { IsSound site.now }
+    ensures { StepGiven result reader.new (Ok (record reader.old { config = record reader.old.config { skip = with_skipped (suc (length site.now.faces)) reader.old.config.skip v.items } })) }
+{
+    let last = site.faces.len() as u32 + 1;
+    let skip = with_skipped(alloc, last, reader.skip(), v.items.as_slice())?;
+    reader.put_skip(skip);
+    Ok(())
+}
+
+/// Takes a whole statement. The tags so far are those of the text, unless a rule has them.
+fn statement_put(
+    alloc: Global,
+    site: &Site,
+    tables: &Tables,
+    s: Statement,
+    reader: &mut Progress,
+) -> Result<(), ReadFault>
+    requires { IsSound site.now }
+    ensures { (t : PfDraft) (k : List (List ℕ)) → AreTags t.config.tags s k → reader.old ≡ with_tags k t → StepGiven result reader.new (statement_put site.now tables.now (seen s) t) }
+{
+    match s {
+        Statement::Begun => Ok(()),
+        Statement::Negated => Ok(()),
+        Statement::Rule(rule) => rule_put(alloc, tables, rule, reader),
+        Statement::Table(d) => put_table(alloc, d, reader),
+        Statement::Set => Ok(()),
+        Statement::Skip => Ok(()),
+        Statement::SkipOn(v) => put_skip(alloc, site, v, reader),
+        Statement::Idle => Ok(()),
+    }
+}
+
+/// Takes the definition of a macro.
+fn definition_step(alloc: Global, words: &[Word], reader: &mut Progress) -> Result<(), ReadFault>
+    ensures { StepGiven result reader.new (definition_step words.now reader.old) }
+{
+    let value = value_defined(alloc, reader.macros(), value_behind(words))?;
+    reader.put_macro(Text::of(alloc, name_defined(words))?, value)?;
+    Ok(())
+}
+
+/// Takes a statement that defines no macro.
+fn plain_step(
+    alloc: Global,
+    site: &Site,
+    tables: &Tables,
+    words: &[Word],
+    reader: &mut Progress,
+) -> Result<(), ReadFault>
+    requires { IsSound site.now }
+    ensures { StepGiven result reader.new (plain_step site.now tables.now words.now reader.old) }
+{
+    let mut tags = reader.take_tags(alloc);
+    let s = statement_read(
+        alloc,
+        &reader.setting(site, tables),
+        reader.macros(),
+        &mut tags,
+        words,
+    )?;
+    reader.put_tags(tags);
+    statement_put(alloc, site, tables, s, reader)
+}
+
+/// Takes the words of a statement.
+pub(crate) fn words_step(
+    alloc: Global,
+    site: &Site,
+    tables: &Tables,
+    words: &[Word],
+    reader: &mut Progress,
+) -> Result<(), ReadFault>
+    requires { IsSound site.now }
+    ensures { StepGiven result reader.new (words_step site.now tables.now words.now reader.old) }
+{
+    if is_definition(words) {
+        return definition_step(alloc, words, reader);
+    }
+    plain_step(alloc, site, tables, words, reader)
+}
