@@ -1,0 +1,103 @@
+-- The rules of filter rules walk as these do.
+use Rattle.std.proofs.Common.{◌≡◌, ℕ, ◌+◌, Bool, true, false, cond, ◌&&◌, Option, Some, None, List, [], ◌∷◌, length, drop, arith, refl, sym, ap, ◌∙◌}
+use Rattle.std.proofs.lemmas.List.{drop-drop}
+use Rattle.std.proofs.Math.Seq.{drop-append_seam}
+use Rattle.fws_net.specs.declared.condition.Lit.{Lit}
+use Rattle.fws_net.specs.declared.connection.Kind.TheVariants.{New}
+use Rattle.fws_net.specs.declared.transit.Transit.{Transit}
+use Rattle.fws_net.specs.Conditions.{holds}
+use Rattle.fws_net.specs.Transits.{with_only_tag, with_verdict, decided}
+use Rattle.fws_ifcl.specs.declared.diagram.Act.TheVariants.{Accept, Drop, Hold, OnlyTag}
+use Rattle.fws_ifcl.specs.declared.diagram.Rule.{Rule}
+use Rattle.fws_ifcl.specs.declared.step.ChainEnd.{ChainEnd}
+use Rattle.fws_ifcl.specs.declared.step.ChainEnd.TheVariants.{Accepted, Dropped}
+use Rattle.fws_ifcl.specs.Walk.{rules_walk as walk_rules}
+use Rattle.fws_draw.specs.Rules.{ruled, always}
+use Rattle.fws_pf.specs.declared.config.PfRule.{PfRule}
+use Rattle.fws_pf.specs.Walk.{tagged, is_met, acted, rules_walk}
+use Rattle.fws_pf_ifcl.specs.Blocks.{guard, passing_at_once, holding, filter_rule, met_rule, filter_from}
+use Rattle.fws_pf_ifcl.specs.Diagram.{pass_stage}
+use Rattle.fws_pf_ifcl.proofs.Running.{Course, sight, run, Stands, second_part, step, step_in, guarded_walk}
+use Rattle.fws_pf_ifcl.proofs.Settling.{settled, left, left_by, settled_by}
+
+-- a rule that passes packets at once
+passing_walk : (outward : Bool) (w : Course New outward) (at : ℕ) (test : List Lit) (tag : Option ℕ) → Stands w at (passing_at_once at test tag) → (t : Transit)
+    → left (run w at t) ≡ cond (holds test (sight w t)) (Some (with_verdict true (tagged tag t))) (left (run w (at + length (passing_at_once at test tag)) t))
+passing_walk outward w at test None s t = ap left (step w at test Accept s t) ∙ left_by (holds test (sight w t)) (Accepted t) (run w (at + 1) t)
+passing_walk outward w at test (Some n) s t =
+    let inner = always (OnlyTag n) ∷ always Accept ∷ [] in
+    let inside : Stands w (at + 2) inner = second_part w at (guard at test (length inner)) inner s in
+    let same : at + 2 ≡ (at + 2) + 0 = omega arith in
+    ap left
+    (guarded_walk w at test inner s t (Accepted (with_only_tag n t))
+    (ap (λ place. run w place t) same
+    ∙ step_in w (at + 2) inner 0 [] (OnlyTag n) inside refl t
+    ∙ step_in w (at + 2) inner 1 [] Accept inside refl (with_only_tag n t)))
+    ∙ left_by (holds test (sight w t)) (Accepted (with_only_tag n t)) (run w (at + 4) t)
+
+-- two rules with the same condition
+twice : (b : Bool) (x y z v : ChainEnd) → cond b (cond b x y) (cond b z v) ≡ cond b x v
+twice true x y z v = refl
+twice false x y z v = refl
+
+-- a rule whose verdict holds so far
+holding_walk : (outward : Bool) (w : Course New outward) (at : ℕ) (passes : Bool) (test : List Lit) (tag : Option ℕ) → Stands w at (holding passes test tag) → (t : Transit)
+    → run w at t
+    ≡ cond (holds test (sight w t)) (run w (at + length (holding passes test tag)) (with_verdict passes (tagged tag t))) (run w (at + length (holding passes test tag)) t)
+holding_walk outward w at passes test None s t = step w at test (Hold passes) s t
+holding_walk outward w at passes test (Some n) s t =
+    let rules = ruled test (Hold passes) ∷ ruled test (OnlyTag n) ∷ [] in
+    let b = holds test (sight w t) in
+    let held = with_verdict passes t in
+    let same : at ≡ at + 0 = omega arith in
+    ap (λ place. run w place t) same
+    ∙ step_in w at rules 0 test (Hold passes) s refl t
+    ∙ ap (λ end. cond b end (run w (at + 1) t)) (step_in w at rules 1 test (OnlyTag n) s refl held)
+    ∙ ap (cond b (cond b (run w (at + 2) (with_only_tag n held)) (run w (at + 2) held))) (step_in w at rules 1 test (OnlyTag n) s refl t)
+    ∙ twice b (run w (at + 2) (with_only_tag n held)) (run w (at + 2) held) (run w (at + 2) (with_only_tag n t)) (run w (at + 2) t)
+
+-- the rules of a rule, by what it does
+abbrev pub rules_by : Bool → Bool → ℕ → List Lit → Option ℕ → List Rule
+rules_by quick pass at test tag = cond quick (cond pass (passing_at_once at test tag) (ruled test Drop ∷ [])) (holding pass test tag)
+
+-- a rule
+rule_walk : (outward : Bool) (w : Course New outward) (at : ℕ) (quick pass : Bool) (test : List Lit) (tag : Option ℕ) (go : Transit → Option Transit)
+    → Stands w at (rules_by quick pass at test tag)
+    → ((u : Transit) → left (run w (at + length (rules_by quick pass at test tag)) u) ≡ settled (go u)) → (t : Transit)
+    → left (run w at t)
+    ≡ cond (holds test (sight w t)) (settled (cond quick (decided (with_verdict pass (tagged tag t))) (go (with_verdict pass (tagged tag t))))) (settled (go t))
+rule_walk outward w at true true test tag go s next t =
+    passing_walk outward w at test tag s t ∙ ap (cond (holds test (sight w t)) (Some (with_verdict true (tagged tag t)))) (next t)
+rule_walk outward w at true false test tag go s next t =
+    ap left (step w at test Drop s t) ∙ left_by (holds test (sight w t)) Dropped (run w (at + 1) t) ∙ ap (cond (holds test (sight w t)) None) (next t)
+rule_walk outward w at false pass test tag go s next t =
+    let b = holds test (sight w t) in
+    let past = at + length (holding pass test tag) in
+    let after = with_verdict pass (tagged tag t) in
+    ap left (holding_walk outward w at pass test tag s t)
+    ∙ left_by b (run w past after) (run w past t)
+    ∙ ap (λ end. cond b end (left (run w past t))) (next after)
+    ∙ ap (cond b (settled (go after))) (next t)
+
+-- a rule that may be met
+met_walk : (outward : Bool) (w : Course New outward) (at : ℕ) (met : Bool) (r : PfRule) (go : Transit → Option Transit)
+    → Stands w at (cond met (filter_rule at r) [])
+    → ((u : Transit) → left (run w (at + length (cond met (filter_rule at r) [])) u) ≡ settled (go u)) → (t : Transit)
+    → left (run w at t) ≡ settled (cond (met && holds r.cond (sight w t)) (cond r.quick (decided (acted r t)) (go (acted r t))) (go t))
+met_walk outward w at false r go s next t =
+    let same : at ≡ at + 0 = omega arith in
+    ap (λ place. left (run w place t)) same ∙ next t
+met_walk outward w at true r go s next t =
+    rule_walk outward w at r.quick r.pass r.cond r.tag go s next t
+    ∙ settled_by (holds r.cond (sight w t)) (cond r.quick (decided (acted r t)) (go (acted r t))) (go t)
+
+-- rules to the end of the pass
+pub filter_walk : (outward : Bool) (w : Course New outward) (at : ℕ) (rs : List PfRule) → drop at w.full ≡ filter_from outward at rs → (t : Transit)
+    → left (run w at t) ≡ settled (rules_walk w.site outward rs t)
+filter_walk outward w at [] are t = ap (λ rules. left (walk_rules w.enter w.site w.p New (pass_stage outward) at rules 0 t)) are
+filter_walk outward w at (r ∷ rs) are t =
+    let here = met_rule outward at r in
+    let next = at + length here in
+    let behind = filter_from outward next rs in
+    let rest : drop next w.full ≡ behind = sym (drop-drop (length here) at w.full) ∙ ap (drop (length here)) are ∙ drop-append_seam here behind in
+    met_walk outward w at (is_met r.way outward) r (rules_walk w.site outward rs) (record { rest = behind; are = are }) (filter_walk outward w next rs rest) t

@@ -1,0 +1,9 @@
+mod Filtering
+mod Lengths
+mod Numbered
+mod Passing
+mod Putting
+mod Running
+mod Settling
+mod Translated
+mod Unfolding

@@ -1,0 +1,160 @@
+-- Each skip of the diagram goes forward, to at most one past the last rule.
+use Rattle.std.proofs.Common.{◌≡◌, ℕ, suc, ◌+◌, ◌<◌, ◌≤◌, Bool, true, false, cond, ◌&&◌, nat_lt, nat_le, Option, Some, None, List, [], ◌∷◌, ◌++◌, length, arith, refl, ap, ◌∙◌, subst, length-append}
+use Rattle.std.proofs.lemmas.Bool.{le-leb, lt-ltb, and_from, and_parts}
+use Rattle.fws_net.specs.declared.condition.Lit.{Lit}
+use Rattle.fws_net.specs.declared.outcome.End.{End}
+use Rattle.fws_ifcl.specs.declared.diagram.Act.TheVariants as rules
+use Rattle.fws_ifcl.specs.declared.diagram.Rule.{Rule}
+use Rattle.fws_ifcl.specs.Soundness.{act_ok, rules_ok, ifcl_ok}
+use Rattle.fws_draw.specs.Rules.{ruled, always}
+use Rattle.fws_pf.specs.declared.config.PfConfig.{PfConfig}
+use Rattle.fws_pf.specs.declared.config.PfNat.{PfNat}
+use Rattle.fws_pf.specs.declared.config.PfRule.{PfRule}
+use Rattle.fws_pf.specs.Walk.{is_met, translations}
+use Rattle.fws_pf_ifcl.specs.Blocks.{guarded, tagging, writing, translating, translation, width_with, translation_width, translation_widths, translations_from, passing_at_once, holding, filter_rule, met_rule, filter_from}
+use Rattle.fws_pf_ifcl.specs.Diagram.{tracking, skipping, translations_place, filter_place, pass_rules, diagram_of}
+use Rattle.fws_pf_ifcl.proofs.Lengths.{translation_length, first_length, front_length}
+use Rattle.fws_pf_ifcl.proofs.Translated.{leaver, changing_by}
+use Rattle.fws_pf_ifcl.proofs.Filtering.{rules_by}
+
+-- among so many chains, and in a chain of so many rules
+module _ (chains total : ℕ) where
+  -- rules of which the first has the place at are right
+  abbrev Right : ℕ → List Rule → Type 0
+  Right at xs = rules_ok chains total at xs ≡ true
+
+  -- a skip forward within the rules
+  skip_ok : (at to : ℕ) → at < to → to ≤ total → act_ok chains total at (rules.Skip to) ≡ true
+  skip_ok at to lt le = and_from (nat_lt at to) (nat_le to total) (lt-ltb at to lt) (le-leb to total le)
+
+  -- a rule in front
+  right_first : (at : ℕ) (r : Rule) (rs : List Rule) → act_ok chains total at r.act ≡ true → Right (at + 1) rs → Right at (r ∷ rs)
+  right_first at r rs here rest =
+      let next : at + 1 ≡ suc at = omega arith in
+      and_from (act_ok chains total at r.act) (rules_ok chains total (suc at) rs) here (subst (λ n. Right n rs) next rest)
+
+  -- rules behind rules
+  right_joined : (at : ℕ) (xs ys : List Rule) → Right at xs → Right (at + length xs) ys → Right at (xs ++ ys)
+  right_joined at [] ys first second =
+      let same : at + 0 ≡ at = omega arith in
+      subst (λ n. Right n ys) same second
+  right_joined at (x ∷ xs) ys first second =
+      let both = and_parts (act_ok chains total at x.act) (rules_ok chains total (suc at) xs) first in
+      let next : at + suc (length xs) ≡ suc at + length xs = omega arith in
+      and_from (act_ok chains total at x.act) (rules_ok chains total (suc at) (xs ++ ys)) both.0
+      (right_joined (suc at) xs ys both.1 (subst (λ n. Right n ys) next second))
+
+  -- rules at the same place
+  right_at : (from to : ℕ) (xs : List Rule) → Right from xs → from ≡ to → Right to xs
+  right_at from to xs right same = subst (λ n. Right n xs) same right
+
+  -- rules met where a condition holds
+  guarded_right : (at : ℕ) (test : List Lit) (inner : List Rule) → Right (at + 2) inner → at + (2 + length inner) ≤ total → Right at (guarded at test inner)
+  guarded_right at test inner right far =
+      let next : at + 2 ≡ (at + 1) + 1 = omega arith in
+      right_first at (ruled test (rules.Skip (at + 2))) (always (rules.Skip (at + (2 + length inner))) ∷ inner) (skip_ok at (at + 2) (omega arith) (omega (arith, far)))
+      (right_first (at + 1) (always (rules.Skip (at + (2 + length inner)))) inner (skip_ok (at + 1) (at + (2 + length inner)) (omega arith) far)
+      (right_at (at + 2) ((at + 1) + 1) inner right next))
+
+  -- Translations
+
+  -- what leaves one
+  leave_right : (at filter : ℕ) (past : Bool) (test : List Lit) → at < filter → filter ≤ total → Right at (ruled test (leaver past filter) ∷ [])
+  leave_right at filter true test lt le = refl
+  leave_right at filter false test lt le = right_first at (ruled test (rules.Skip filter)) [] (skip_ok at filter lt le) refl
+
+  -- a tag, and what leaves
+  tag_right : (at filter : ℕ) (past : Bool) (tag : Option ℕ) → at + length (tagging tag) < filter → filter ≤ total → Right at (tagging tag ++ always (leaver past filter) ∷ [])
+  tag_right at filter past None lt le = leave_right at filter past [] (omega (arith, lt)) le
+  tag_right at filter past (Some n) lt le =
+      right_first at (always (rules.OnlyTag n)) (always (leaver past filter) ∷ []) refl (leave_right (at + 1) filter past [] lt le)
+
+  -- an end
+  write_ok : (outward : Bool) (at : ℕ) (e : End) → act_ok chains total at (writing outward e) ≡ true
+  write_ok true at e = refl
+  write_ok false at e = refl
+
+  -- a translation, by what it changes
+  translating_right : (outward : Bool) (at filter : ℕ) (past : Bool) (to : Option End) (tag : Option ℕ) (test : List Lit)
+      → at + width_with (changing_by outward to tag) ≤ filter → filter ≤ total → Right at (translating at test (leaver past filter) (changing_by outward to tag))
+  translating_right outward at filter past None None test near far = leave_right at filter past test (omega (arith, near)) far
+  translating_right outward at filter past None (Some n) test near far =
+      guarded_right at test (always (rules.OnlyTag n) ∷ always (leaver past filter) ∷ []) (tag_right (at + 2) filter past (Some n) (omega (arith, near)) far) (omega (arith, near, far))
+  translating_right outward at filter past (Some e) tag test near far =
+      let others = tagging tag ++ always (leaver past filter) ∷ [] in
+      let long : length others ≡ length (tagging tag) + 1 = length-append (tagging tag) (always (leaver past filter) ∷ []) in
+      guarded_right at test (always (writing outward e) ∷ others)
+      (right_first (at + 2) (always (writing outward e)) others (write_ok outward (at + 2) e) (tag_right ((at + 2) + 1) filter past tag (omega (arith, near)) far))
+      (omega (arith, near, far, long))
+
+  -- translations
+  translations_right : (outward : Bool) (filter at : ℕ) (nats : List PfNat) → at + translation_widths outward nats ≡ filter → filter ≤ total
+      → Right at (translations_from outward filter at nats)
+  translations_right outward filter at [] wide le = refl
+  translations_right outward filter at (nat ∷ nats) wide le =
+      let next = at + translation_width outward nat in
+      let here = translation outward filter at nat in
+      let more = translations_from outward filter next nats in
+      let many : length here ≡ translation_width outward nat = translation_length outward filter at nat in
+      right_joined at here more (translating_right outward at filter nat.past nat.to nat.tag nat.cond (omega (arith, wide)) le)
+      (right_at next (at + length here) more (translations_right outward filter next nats (omega (arith, wide)) le) (omega (arith, many)))
+
+  -- Filter rules
+
+  passing_right : (at : ℕ) (test : List Lit) (tag : Option ℕ) → at + length (passing_at_once at test tag) ≤ total → Right at (passing_at_once at test tag)
+  passing_right at test None le = refl
+  passing_right at test (Some n) le = guarded_right at test (always (rules.OnlyTag n) ∷ always rules.Accept ∷ []) refl le
+
+  holding_right : (at : ℕ) (passes : Bool) (test : List Lit) (tag : Option ℕ) → Right at (holding passes test tag)
+  holding_right at passes test None = refl
+  holding_right at passes test (Some n) = refl
+
+  rule_right : (at : ℕ) (quick pass : Bool) (test : List Lit) (tag : Option ℕ) → at + length (rules_by quick pass at test tag) ≤ total → Right at (rules_by quick pass at test tag)
+  rule_right at true true test tag le = passing_right at test tag le
+  rule_right at true false test tag le = refl
+  rule_right at false pass test tag le = holding_right at pass test tag
+
+  met_right : (at : ℕ) (met : Bool) (r : PfRule) → at + length (cond met (filter_rule at r) []) ≤ total → Right at (cond met (filter_rule at r) [])
+  met_right at true r le = rule_right at r.quick r.pass r.cond r.tag le
+  met_right at false r le = refl
+
+  filter_right : (outward : Bool) (at : ℕ) (rs : List PfRule) → at + length (filter_from outward at rs) ≤ total → Right at (filter_from outward at rs)
+  filter_right outward at [] le = refl
+  filter_right outward at (r ∷ rs) le =
+      let here = met_rule outward at r in
+      let next = at + length here in
+      let more = filter_from outward next rs in
+      let many : length (here ++ more) ≡ length here + length more = length-append here more in
+      right_joined at here more (met_right at (is_met r.way outward) r (omega (arith, le, many))) (filter_right outward next rs (omega (arith, le, many)))
+
+  -- Passes
+
+  first_right : (outward : Bool) (c : PfConfig) → Right 0 (tracking outward ++ skipping c)
+  first_right true c = refl
+  first_right false c = refl
+
+  pub all_right : (outward : Bool) (c : PfConfig) → length (pass_rules outward c) ≤ total → Right 0 (pass_rules outward c)
+  all_right outward c le =
+      let first = tracking outward ++ skipping c in
+      let nats = translations c outward in
+      let place = translations_place outward in
+      let filter = filter_place outward c in
+      let middle = translations_from outward filter place nats in
+      let last = filter_from outward filter c.filter in
+      let few : length first ≡ place = first_length outward c in
+      let front : length (first ++ middle) ≡ filter = front_length outward c in
+      let all : length (pass_rules outward c) ≡ length (first ++ middle) + length last = length-append (first ++ middle) last in
+      right_joined 0 (first ++ middle) last
+      (right_joined 0 first middle (first_right outward c)
+      (right_at place (0 + length first) middle (translations_right outward filter place nats refl (omega (arith, le, front, all))) (omega (arith, few))))
+      (right_at filter (0 + length (first ++ middle)) last (filter_right outward filter c.filter (omega (arith, le, front, all))) (omega (arith, front)))
+
+-- the rules of a pass are right among any number of chains
+pub rules_right : (chains : ℕ) (outward : Bool) (c : PfConfig) → rules_ok chains (length (pass_rules outward c)) 0 (pass_rules outward c) ≡ true
+rules_right chains outward c = all_right chains (length (pass_rules outward c)) outward c (omega arith)
+
+-- every number in the diagram is right
+pub diagram_ok : (c : PfConfig) → ifcl_ok (diagram_of c) ≡ true
+diagram_ok c =
+    ap (λ b. (b && (rules_ok 2 (length (pass_rules true c)) 0 (pass_rules true c) && true)) && true && true && true && true) (rules_right 2 false c)
+    ∙ ap (λ b. (b && true) && true && true && true && true) (rules_right 2 true c)

@@ -1,0 +1,198 @@
+-- The diagram's stages are pf's passes.
+use Rattle.std.proofs.Common.{◌≡◌, ℕ, ◌+◌, Bool, true, false, cond, ◌&&◌, nat_eq, Option, Some, None, option_and_then, List, [], ◌∷◌, ◌++◌, length, drop, arith, refl, sym, ap, ◌∙◌, append-nil}
+use Rattle.std.proofs.Math.Seq.{drop-append_seam}
+use Rattle.std.specs.Option.{option_map_or}
+use Rattle.fws_net.specs.declared.condition.Test.TheVariants as tests
+use Rattle.fws_net.specs.declared.connection.Kind.{Kind}
+use Rattle.fws_net.specs.declared.connection.Kind.TheVariants.{New, Est}
+use Rattle.fws_net.specs.declared.exit.Exit.{Exit}
+use Rattle.fws_net.specs.declared.exit.Exit.TheVariants.{Deliver, Out, Lost}
+use Rattle.fws_net.specs.declared.outcome.End.{End}
+use Rattle.fws_net.specs.declared.packet.Packet.{Packet}
+use Rattle.fws_net.specs.declared.site.Site.{Site}
+use Rattle.fws_net.specs.declared.transit.Transit.{Transit}
+use Rattle.fws_net.specs.Conditions.{is_shown}
+use Rattle.fws_net.specs.Routes.{exit_at}
+use Rattle.fws_net.specs.Transits.{with_verdict, with_tracked_dst, decided, entered, onwards, outcome_of}
+use Rattle.fws_ifcl.specs.declared.diagram.Act.TheVariants.{Accept, RecDst}
+use Rattle.fws_ifcl.specs.declared.diagram.Stage.{Stage}
+use Rattle.fws_ifcl.specs.declared.step.ChainEnd.{ChainEnd}
+use Rattle.fws_ifcl.specs.declared.step.ChainEnd.TheVariants.{Accepted}
+use Rattle.fws_ifcl.specs.Walk.{chain_walk, stage_walk, stages_walk, means}
+use Rattle.fws_rule.specs.Literals.{positive}
+use Rattle.fws_draw.specs.Skips.{SkipsGoOn}
+use Rattle.fws_pf.specs.declared.config.PfConfig.{PfConfig}
+use Rattle.fws_pf.specs.declared.config.PfNat.{PfNat}
+use Rattle.fws_pf.specs.declared.config.PfRule.{PfRule}
+use Rattle.fws_pf.specs.Walk.{written, tagged, translated_by, translations, chosen, matches, acted, rules_walk, behind, interface_of, pass_of, walk}
+use Rattle.fws_pf_ifcl.specs.Blocks.{translations_from, filter_from}
+use Rattle.fws_pf_ifcl.specs.Diagram.{tracking, skipping, translations_place, filter_place, pass_rules, chains_of, pass_stage, diagram_of}
+use Rattle.fws_pf_ifcl.proofs.Lengths.{first_length, front_length}
+use Rattle.fws_pf_ifcl.proofs.Running.{Course, run, Stands, first_part, second_part, moved, step_in}
+use Rattle.fws_pf_ifcl.proofs.Settling.{settled, left, left_by, settled_by, is_settled, either, decided_settled}
+use Rattle.fws_pf_ifcl.proofs.Filtering.{filter_walk}
+use Rattle.fws_pf_ifcl.proofs.Translated.{translations_walk}
+
+-- Passes
+
+-- a packet on its pass through the diagram's rules
+abbrev course : SkipsGoOn → (ℕ → Transit → ChainEnd) → (site : Site) → Packet → (k : Kind) (outward : Bool) → PfConfig → Course k outward
+course law enter site p k outward c = record { law = law; enter = enter; site = site; p = p; full = pass_rules outward c }
+
+and_true : (b : Bool) → (b && true) ≡ b
+and_true true = refl
+and_true false = refl
+
+-- the first rules, for a new packet
+first_rules : (outward : Bool) (w : Course New outward) (c : PfConfig) → Stands w 0 (tracking outward ++ skipping c) → (t : Transit)
+    → run w 0 t ≡ cond (is_shown (interface_of w.site outward t) c.skip) (Accepted t) (run w (translations_place outward) t)
+first_rules true w c s t =
+    let rules = tracking true ++ skipping c in
+    step_in w 0 rules 0 (positive tests.Est ∷ []) Accept s refl t
+    ∙ step_in w 0 rules 1 (positive (tests.Via c.skip) ∷ []) Accept s refl t
+    ∙ ap (λ b. cond b (Accepted t) (run w 2 t)) (and_true (is_shown (interface_of w.site true t) c.skip))
+first_rules false w c s t =
+    let rules = tracking false ++ skipping c in
+    step_in w 0 rules 0 (positive tests.Est ∷ []) RecDst s refl t
+    ∙ step_in w 0 rules 1 (positive tests.Est ∷ []) Accept s refl t
+    ∙ step_in w 0 rules 2 (positive (tests.Via c.skip) ∷ []) Accept s refl t
+    ∙ ap (λ b. cond b (Accepted t) (run w 3 t)) (and_true (is_shown (interface_of w.site false t) c.skip))
+
+-- a pass through all rules
+pub pass_drawn : (law : SkipsGoOn) (enter : ℕ → Transit → ChainEnd) (site : Site) (p : Packet) (k : Kind) (outward : Bool) (c : PfConfig) (t : Transit)
+    → left (run (course law enter site p k outward c) 0 t) ≡ settled (pass_of c site p k outward t)
+pass_drawn law enter site p (Est r) true c t =
+    let w = course law enter site p (Est r) true c in
+    ap left (step_in w 0 (pass_rules true c) 0 (positive tests.Est ∷ []) Accept (record { rest = []; are = sym (append-nil (pass_rules true c)) }) refl t)
+pass_drawn law enter site p (Est r) false c t =
+    let w = course law enter site p (Est r) false c in
+    let all : Stands w 0 (pass_rules false c) = record { rest = []; are = sym (append-nil (pass_rules false c)) } in
+    ap left
+    (step_in w 0 (pass_rules false c) 0 (positive tests.Est ∷ []) RecDst all refl t
+    ∙ step_in w 0 (pass_rules false c) 1 (positive tests.Est ∷ []) Accept all refl (with_tracked_dst (Est r) t))
+pass_drawn law enter site p New outward c t =
+    let w = course law enter site p New outward c in
+    let first = tracking outward ++ skipping c in
+    let nats = translations c outward in
+    let place = translations_place outward in
+    let filter = filter_place outward c in
+    let middle = translations_from outward filter place nats in
+    let last = filter_from outward filter c.filter in
+    let all : Stands w 0 (pass_rules outward c) = record { rest = []; are = sym (append-nil (pass_rules outward c)) } in
+    let front : Stands w 0 (first ++ middle) = first_part w 0 (first ++ middle) last all in
+    let few : length first ≡ place = first_length outward c in
+    let stand : Stands w place middle = moved w (0 + length first) place middle (second_part w 0 first middle front) (omega (arith, few)) in
+    let rest : drop filter w.full ≡ last = ap (λ n. drop n (pass_rules outward c)) (sym (front_length outward c)) ∙ drop-append_seam (first ++ middle) last in
+    let b = is_shown (interface_of site outward t) c.skip in
+    ap left (first_rules outward w c (first_part w 0 first middle front) t)
+    ∙ left_by b (Accepted t) (run w place t)
+    ∙ ap (cond b (settled (Some t))) (translations_walk outward w c filter (filter_walk outward w filter c.filter rest) place nats stand refl t)
+    ∙ settled_by b (Some t) (behind c site p outward (chosen site outward nats t) t)
+
+-- What a pass accepts is settled
+
+-- filter rules
+rules_settle : (site : Site) (outward : Bool) (rs : List PfRule) (t : Transit) → settled (rules_walk site outward rs t) ≡ rules_walk site outward rs t
+rules_settle site outward [] t = decided_settled t
+rules_settle site outward (r ∷ rs) t =
+    let go = rules_walk site outward rs in
+    either (matches site outward r t) (cond r.quick (decided (acted r t)) (go (acted r t))) (go t)
+    (either r.quick (decided (acted r t)) (go (acted r t)) (decided_settled (acted r t)) (rules_settle site outward rs (acted r t)))
+    (rules_settle site outward rs t)
+
+-- a translation keeps the verdict
+changes_keep : (p : Packet) (outward : Bool) (to : Option End) (tag : Option ℕ) (t : Transit)
+    → (tagged tag (option_map_or (λ e. written p outward e t) to t)).verdict ≡ t.verdict
+changes_keep p outward None None t = refl
+changes_keep p outward None (Some n) t = refl
+changes_keep p true (Some e) None t = refl
+changes_keep p true (Some e) (Some n) t = refl
+changes_keep p false (Some e) None t = refl
+changes_keep p false (Some e) (Some n) t = refl
+
+-- behind a translation, or none
+behind_settles : (c : PfConfig) (site : Site) (p : Packet) (outward : Bool) (nat : Option PfNat) (t : Transit) → t.verdict ≡ true
+    → settled (behind c site p outward nat t) ≡ behind c site p outward nat t
+behind_settles c site p outward None t is = rules_settle site outward c.filter t
+behind_settles c site p outward (Some nat) t is =
+    let after = translated_by p outward nat t in
+    either nat.past (Some after) (rules_walk site outward c.filter after)
+    (is_settled after (changes_keep p outward nat.to nat.tag t ∙ is)) (rules_settle site outward c.filter after)
+
+-- a pass
+pass_settles : (c : PfConfig) (site : Site) (p : Packet) (k : Kind) (outward : Bool) (t : Transit) → t.verdict ≡ true
+    → settled (pass_of c site p k outward t) ≡ pass_of c site p k outward t
+pass_settles c site p New outward t is =
+    let nat = chosen site outward (translations c outward) t in
+    either (is_shown (interface_of site outward t) c.skip) (Some t) (behind c site p outward nat t)
+    (is_settled t is) (behind_settles c site p outward nat t is)
+pass_settles c site p (Est r) true t is = is_settled t is
+pass_settles c site p (Est r) false t is = is_settled (with_tracked_dst (Est r) t) is
+
+-- Stages
+
+-- a last stage
+all_of : (o : Option Transit) → option_and_then (λ t. Some t) o ≡ o
+all_of None = refl
+all_of (Some t) = refl
+
+-- the verdict doesn't count in what becomes of a packet
+outcome_settles : (k : Kind) (o : Option Transit) → outcome_of k o ≡ outcome_of k (settled o)
+outcome_settles k None = refl
+outcome_settles New (Some t) = refl
+outcome_settles (Est r) (Some t) = refl
+
+module _ (law : SkipsGoOn) (site : Site) (c : PfConfig) (p : Packet) (k : Kind) where
+  abbrev drawn : List Stage → Transit → Option Transit
+  drawn stages t = stages_walk (chains_of c) site p k stages t
+
+  -- a stage begins with its own verdict
+  stage_passes : (outward : Bool) (t : Transit)
+      → settled (stage_walk (chains_of c) site p k (pass_stage outward) t) ≡ settled (pass_of c site p k outward (with_verdict true t))
+  stage_passes true t = pass_drawn law (chain_walk (chains_of c) site p k (pass_stage true) 1 (1 ∷ [])) site p k true c (with_verdict true t)
+  stage_passes false t = pass_drawn law (chain_walk (chains_of c) site p k (pass_stage false) 1 (0 ∷ [])) site p k false c (with_verdict true t)
+
+  -- one stage alone
+  passes : (outward : Bool) (t : Transit) → settled (drawn (pass_stage outward ∷ []) t) ≡ settled (pass_of c site p k outward (with_verdict true t))
+  passes outward t = ap settled (all_of (stage_walk (chains_of c) site p k (pass_stage outward) t)) ∙ stage_passes outward t
+
+  -- how a packet goes on behind routing, in the diagram and under pf
+  abbrev drawn_on : Transit → Option Transit
+  drawn_on t = onwards (drawn []) (drawn (pass_stage true ∷ [])) (exit_at site p.entry t.packet.dst) t
+
+  abbrev goes_on : Transit → Option Transit
+  goes_on t = onwards Some (pass_of c site p k true) (exit_at site p.entry t.packet.dst) t
+
+  -- an exit
+  routed : (e : Exit) (t : Transit)
+      → settled (onwards (drawn []) (drawn (pass_stage true ∷ [])) e t) ≡ settled (onwards Some (pass_of c site p k true) e (with_verdict true t))
+  routed Deliver t = refl
+  routed (Out entry) t = passes true t
+  routed Lost t = refl
+
+  -- a packet that comes to routing
+  routed_all : (o : Option Transit) → settled (option_and_then drawn_on o) ≡ settled (option_and_then goes_on (settled o))
+  routed_all None = refl
+  routed_all (Some t) = routed (exit_at site p.entry t.packet.dst) t
+
+  -- a packet that arrives
+  arrived : settled (option_and_then drawn_on (drawn (pass_stage false ∷ []) (entered p))) ≡ settled (option_and_then goes_on (pass_of c site p k false (entered p)))
+  arrived =
+      routed_all (drawn (pass_stage false ∷ []) (entered p))
+      ∙ ap (λ o. settled (option_and_then goes_on o)) (passes false (entered p) ∙ pass_settles c site p k false (entered p) refl)
+
+  -- a test in front of two ways
+  two_ways : (b : Bool) (x y z v : Option Transit) → settled x ≡ settled z → settled y ≡ settled v → settled (cond b x y) ≡ settled (cond b z v)
+  two_ways true x y z v first second = first
+  two_ways false x y z v first second = second
+
+  -- every packet
+  pub means_kept : means (diagram_of c) site p k ≡ walk c site p k
+  means_kept =
+      outcome_settles k _
+      ∙ ap (outcome_of k) (two_ways (nat_eq p.entry 0) _ _ _ _ (passes true (entered p)) arrived)
+      ∙ sym (outcome_settles k _)
+
+-- what the diagram says of a packet is what becomes of it
+pub keeps_walks : (law : SkipsGoOn) (site : Site) (c : PfConfig) (p : Packet) (k : Kind) → means (diagram_of c) site p k ≡ walk c site p k
+keeps_walks law site c p k = means_kept law site c p k

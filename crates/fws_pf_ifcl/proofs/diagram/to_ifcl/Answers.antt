@@ -1,0 +1,23 @@
+use Rattle.std.proofs.Common.{◌≡◌, true, None, sym, subst}
+use Rattle.fws_net.specs.declared.connection.Kind.{Kind}
+use Rattle.fws_net.specs.declared.packet.Packet.{Packet}
+use Rattle.fws_ifcl.specs.Refusals.{refusal_of}
+use Rattle.fws_ifcl.specs.Soundness.{ifcl_ok}
+use Rattle.fws_ifcl.specs.Walk.{means}
+use Rattle.fws_pf.specs.Walk.{walk}
+use Rattle.fws_pf_ifcl.proofs.Numbered.{diagram_ok}
+use Rattle.fws_pf_ifcl.proofs.Passing.{keeps_walks}
+use Rattle.fws_pf_ifcl.proofs.Unfolding.{diagram_unfolds}
+use Rattle.fws_pf_ifcl.proofs.diagram.to_ifcl.Goals as goal
+
+pub returns-clause-ok : goal.returns-clause-ok
+returns-clause-ok c = subst (λ d. ifcl_ok d ≡ true) (sym c.in_ok-d.ensures) (diagram_ok c.args.c.now)
+
+pub returns-clause-means : goal.returns-clause-means
+returns-clause-means c =
+    let f = c.args.c.now in
+    let site = c.args.site.now in
+    subst (λ d. (p : Packet) (k : Kind) → means d site p k ≡ walk f site p k) (sym c.in_ok-d.ensures) (keeps_walks c.skips_go_on.ensures site f)
+
+pub returns-clause-unfolds : goal.returns-clause-unfolds
+returns-clause-unfolds c = subst (λ d. refusal_of d ≡ None) (sym c.in_ok-d.ensures) (diagram_unfolds c.args.c.now)

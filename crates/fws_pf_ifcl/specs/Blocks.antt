@@ -1,0 +1,90 @@
+-- The rules of a diagram to which rules of pf are unfolded.
+use Rattle.std.specs.Prelude.{ℕ, ◌+◌, Bool, Option, Some, None, List, [], ◌∷◌, ◌++◌, length, if◌then◌else◌}
+use Rattle.std.specs.Option.{option_map_or}
+use Rattle.fws_net.specs.declared.condition.Lit.{Lit}
+use Rattle.fws_net.specs.declared.outcome.End.{End}
+use Rattle.fws_ifcl.specs.declared.diagram.Act.{Act}
+use Rattle.fws_ifcl.specs.declared.diagram.Act.TheVariants.{Accept, Drop, Hold, Skip, Src, Dst, OnlyTag}
+use Rattle.fws_ifcl.specs.declared.diagram.Rule.{Rule}
+use Rattle.fws_draw.specs.Rules.{ruled, always}
+use Rattle.fws_pf.specs.declared.config.PfNat.{PfNat}
+use Rattle.fws_pf.specs.declared.config.PfRule.{PfRule}
+use Rattle.fws_pf.specs.Walk.{is_met}
+
+-- rules of which the first has the place at, ahead of so many inner ones: where the condition holds the walk comes to those,
+-- else it goes on behind them
+abbrev pub guard : ℕ → List Lit → ℕ → List Rule
+guard at cond inner = ruled cond (Skip (at + 2)) ∷ always (Skip (at + (2 + inner))) ∷ []
+
+-- the inner rules, met where the condition holds
+abbrev pub guarded : ℕ → List Lit → List Rule → List Rule
+guarded at cond inner = guard at cond (length inner) ++ inner
+
+-- a tag becomes the only one
+abbrev pub tagging : Option ℕ → List Rule
+tagging tag = option_map_or (λ n. always (OnlyTag n) ∷ []) tag []
+
+-- Translations
+
+-- the end over the source as packets go out, and over the destination as they come in
+abbrev pub writing : Bool → End → Act
+writing outward e = if outward then Src e else Dst e
+
+-- what a translation writes, and the tag that it puts
+abbrev pub changing : Bool → PfNat → List Rule
+changing outward nat = option_map_or (λ e. always (writing outward e) ∷ []) nat.to [] ++ tagging nat.tag
+
+-- behind a translation the pass ends, or goes on at the filter, whose rules begin at this place
+abbrev pub leaving : ℕ → PfNat → Act
+leaving filter nat = if nat.past then Accept else Skip filter
+
+-- the rules of a translation with changes, and of one without
+abbrev pub translating : ℕ → List Lit → Act → List Rule → List Rule
+translating at cond leave [] = ruled cond leave ∷ []
+translating at cond leave (change ∷ changes) = guarded at cond (change ∷ changes ++ always leave ∷ [])
+
+abbrev pub translation : Bool → ℕ → ℕ → PfNat → List Rule
+translation outward filter at nat = translating at nat.cond (leaving filter nat) (changing outward nat)
+
+-- how many these are
+abbrev pub width_with : List Rule → ℕ
+width_with [] = 1
+width_with (change ∷ changes) = 4 + length changes
+
+abbrev pub translation_width : Bool → PfNat → ℕ
+translation_width outward nat = width_with (changing outward nat)
+
+abbrev pub translation_widths : Bool → List PfNat → ℕ
+translation_widths outward [] = 0
+translation_widths outward (nat ∷ nats) = translation_width outward nat + translation_widths outward nats
+
+-- the rules of translations, of which the first has the place at: the first whose condition holds is the pass's one
+abbrev pub translations_from : Bool → ℕ → ℕ → List PfNat → List Rule
+translations_from outward filter at [] = []
+translations_from outward filter at (nat ∷ nats) =
+    translation outward filter at nat ++ translations_from outward filter (at + translation_width outward nat) nats
+
+-- Filter rules
+
+-- a rule that passes packets at once, whose tag is put first
+abbrev pub passing_at_once : ℕ → List Lit → Option ℕ → List Rule
+passing_at_once at cond None = ruled cond Accept ∷ []
+passing_at_once at cond (Some n) = guarded at cond (always (OnlyTag n) ∷ always Accept ∷ [])
+
+-- a rule whose verdict holds so far; no condition tells what was held, so that the tag can be put behind it
+abbrev pub holding : Bool → List Lit → Option ℕ → List Rule
+holding passes cond None = ruled cond (Hold passes) ∷ []
+holding passes cond (Some n) = ruled cond (Hold passes) ∷ ruled cond (OnlyTag n) ∷ []
+
+abbrev pub filter_rule : ℕ → PfRule → List Rule
+filter_rule at r =
+    if r.quick then (if r.pass then passing_at_once at r.cond r.tag else ruled r.cond Drop ∷ []) else holding r.pass r.cond r.tag
+
+-- the rules of a filter rule that is met on the pass; none of one that isn't
+abbrev pub met_rule : Bool → ℕ → PfRule → List Rule
+met_rule outward at r = if is_met r.way outward then filter_rule at r else []
+
+-- the rules of filter rules, of which the first has the place at
+abbrev pub filter_from : Bool → ℕ → List PfRule → List Rule
+filter_from outward at [] = []
+filter_from outward at (r ∷ rs) = met_rule outward at r ++ filter_from outward (at + length (met_rule outward at r)) rs

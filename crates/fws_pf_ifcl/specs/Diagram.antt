@@ -1,0 +1,51 @@
+-- The control diagram of a pf configuration.
+use Rattle.std.specs.Prelude.{ℕ, ◌+◌, Bool, true, false, List, [], ◌∷◌, ◌++◌, codes, if◌then◌else◌}
+use Rattle.fws_net.specs.declared.condition.Test.TheVariants.{Est, Via}
+use Rattle.fws_ifcl.specs.declared.diagram.Act.TheVariants.{Accept, RecDst}
+use Rattle.fws_ifcl.specs.declared.diagram.Rule.{Rule}
+use Rattle.fws_ifcl.specs.declared.diagram.Chain.{Chain}
+use Rattle.fws_ifcl.specs.declared.diagram.Stage.{Stage}
+use Rattle.fws_ifcl.specs.declared.diagram.Ifcl.{Ifcl}
+use Rattle.fws_rule.specs.Literals.{positive}
+use Rattle.fws_draw.specs.Rules.{ruled}
+use Rattle.fws_pf.specs.declared.config.PfConfig.{PfConfig}
+use Rattle.fws_pf.specs.Walk.{translations}
+use Rattle.fws_pf_ifcl.specs.Blocks.{filter_from, translation_widths, translations_from}
+
+-- a packet of a connection passes, behind the in pass with the destination with which it leaves
+abbrev pub tracking : Bool → List Rule
+tracking outward = (if outward then [] else ruled (positive Est ∷ []) RecDst ∷ []) ++ ruled (positive Est ∷ []) Accept ∷ []
+
+-- on an interface that is skipped nothing is met
+abbrev pub skipping : PfConfig → List Rule
+skipping c = ruled (positive (Via c.skip) ∷ []) Accept ∷ []
+
+-- where the translations of a pass begin, and where its filter rules do
+abbrev pub translations_place : Bool → ℕ
+translations_place outward = if outward then 2 else 3
+
+abbrev pub filter_place : Bool → PfConfig → ℕ
+filter_place outward c = translations_place outward + translation_widths outward (translations c outward)
+
+abbrev pub pass_rules : Bool → PfConfig → List Rule
+pass_rules outward c =
+    tracking outward ++ skipping c ++ translations_from outward (filter_place outward c) (translations_place outward) (translations c outward)
+    ++ filter_from outward (filter_place outward c) c.filter
+
+-- the in pass and the out pass
+abbrev pub chains_of : PfConfig → List Chain
+chains_of c = record { name = codes "in"; rules = pass_rules false c } ∷ record { name = codes "out"; rules = pass_rules true c } ∷ []
+
+-- a packet passes where no rule decides
+abbrev pub pass_stage : Bool → Stage
+pass_stage outward = record { chain = if outward then 1 else 0; shows_recv = true; shows_xmit = outward; outward = outward; end = true }
+
+-- the whole diagram
+abbrev pub diagram_of : PfConfig → Ifcl
+diagram_of c = record {
+  chains = chains_of c;
+  arrive = pass_stage false ∷ [];
+  deliver = [];
+  forward = pass_stage true ∷ [];
+  send = pass_stage true ∷ [];
+}

@@ -1,0 +1,144 @@
+//! The diagram of a configuration.
+
+ghost use Rattle.std.specs.Prelude.{◌≡◌, ◌++◌, true, None, IfOk, OnOk};
+ghost use Rattle.fws_net.specs.declared.connection.Kind.{Kind};
+ghost use Rattle.fws_net.specs.declared.packet.Packet.{Packet};
+ghost use Rattle.fws_ifcl.specs.Refusals.{refusal_of};
+ghost use Rattle.fws_ifcl.specs.Soundness.{ifcl_ok};
+ghost use Rattle.fws_ifcl.specs.Walk.{means};
+ghost use Rattle.fws_pf.specs.Walk.{translations, walk};
+ghost use Rattle.fws_pf_ifcl.specs.Diagram.{chains_of, diagram_of, filter_place, pass_rules, pass_stage, skipping, tracking};
+
+use crate::blocks::sum;
+use crate::filter::put_filter;
+use crate::translating::{put_translations, translation_widths};
+use fws_draw::{ruled_by, skips_go_on};
+use fws_ifcl::{Act, Chain, Ifcl, Rule, Stage};
+use fws_net::{Site, Test};
+use fws_num::{Items, Memory, Text};
+use fws_pf::{PfConfig, PfNat};
+use fws_rule::positive;
+use std::alloc::Global;
+
+/// Puts the rules behind the others at which packets of connections pass. An error is want of memory.
+fn put_tracking(alloc: Global, rules: &mut Vec<Rule>, outward: bool) -> Result<(), Memory>
+    ensures { OnOk result (rules.new.items ≡ rules.old.items ++ tracking outward) }
+{
+    let passing = ruled_by(alloc, positive(Test::Est), Act::Accept)?;
+    if outward {
+        rules.push(passing)?;
+        return Ok(());
+    }
+    let tracked = ruled_by(alloc, positive(Test::Est), Act::RecDst)?;
+    rules.push(tracked)?;
+    rules.push(passing)?;
+    Ok(())
+}
+
+/// Puts the rule behind the others at which packets pass on the interfaces that are skipped. An error is
+/// want of memory.
+fn put_skipping(alloc: Global, rules: &mut Vec<Rule>, c: &PfConfig) -> Result<(), Memory>
+    ensures { OnOk result (rules.new.items ≡ rules.old.items ++ skipping c.now) }
+{
+    let skipped = positive(Test::Via(c.skip.copy(alloc)?));
+    let passing = ruled_by(alloc, skipped, Act::Accept)?;
+    rules.push(passing)?;
+    Ok(())
+}
+
+/// The translations of a pass.
+fn translations(c: &PfConfig, outward: bool) -> &[PfNat]
+    ensures { result.now ≡ translations c.now outward }
+{
+    if outward {
+        c.nat.as_slice()
+    } else {
+        c.rdr.as_slice()
+    }
+}
+
+/// The place at which the filter rules of a pass begin. An error is want of memory.
+fn filter_place(outward: bool, c: &PfConfig) -> Result<usize, Memory>
+    ensures { IfOk result (λ n. n ≡ filter_place outward c.now) }
+{
+    let first = if outward { 2 } else { 3 };
+    let width = translation_widths(translations(c, outward))?;
+    sum(first, width)
+}
+
+/// All rules of a pass. An error is want of memory.
+fn pass_rules(alloc: Global, outward: bool, c: &PfConfig) -> Result<Vec<Rule>, Memory>
+    ensures { IfOk result (λ rules. rules.items ≡ pass_rules outward c.now) }
+{
+    let filter = filter_place(outward, c)?;
+    let mut rules = Vec::new(alloc);
+    put_tracking(alloc, &mut rules, outward)?;
+    put_skipping(alloc, &mut rules, c)?;
+    put_translations(alloc, &mut rules, outward, filter, translations(c, outward))?;
+    put_filter(alloc, &mut rules, outward, c.filter.as_slice())?;
+    Ok(rules)
+}
+
+/// The chains of the two passes. An error is want of memory.
+fn chains_of(alloc: Global, c: &PfConfig) -> Result<Items<Chain>, Memory>
+    ensures { IfOk result (λ chains. chains ≡ chains_of c.now) }
+{
+    let mut chains = Items::new(alloc);
+    chains.put(Chain {
+        name: Text::of(alloc, b"in")?,
+        rules: Items::from_vec(pass_rules(alloc, false, c)?),
+    })?;
+    chains.put(Chain {
+        name: Text::of(alloc, b"out")?,
+        rules: Items::from_vec(pass_rules(alloc, true, c)?),
+    })?;
+    Ok(chains)
+}
+
+/// The stage of a pass.
+fn pass_stage(outward: bool) -> Stage
+    ensures { result ≡ pass_stage outward }
+{
+    Stage {
+        chain: u32::from(outward),
+        shows_recv: true,
+        shows_xmit: outward,
+        outward,
+        end: true,
+    }
+}
+
+/// The diagram, put together from its chains and stages. An error is want of memory.
+fn drawn(alloc: Global, c: &PfConfig) -> Result<Ifcl, Memory>
+    ensures { IfOk result (λ d. d ≡ diagram_of c.now) }
+{
+    let mut arrive = Items::new(alloc);
+    arrive.put(pass_stage(false))?;
+    let mut forward = Items::new(alloc);
+    forward.put(pass_stage(true))?;
+    let mut send = Items::new(alloc);
+    send.put(pass_stage(true))?;
+    Ok(Ifcl {
+        chains: chains_of(alloc, c)?,
+        arrive,
+        deliver: Items::new(alloc),
+        forward,
+        send,
+    })
+}
+
+/// The control diagram of a configuration. On every site it does with each packet what the configuration
+/// does, new or of a connection, and it can be unfolded. One chain has the rules of packets that come in,
+/// and one those of packets that go out: translations, the first of which that matches skips to the filter
+/// rules, and these, whose verdict so far is held. An error is want of memory, or of numbers for rules.
+/// Linear in the rules.
+pub fn to_ifcl(alloc: Global, c: &PfConfig, site: &Site) -> Result<Ifcl, Memory>
+    ensures diagram { IfOk result (λ d. d ≡ diagram_of c.now) }
+    ensures ok { IfOk result (λ d. ifcl_ok d ≡ true) }
+    ensures means { IfOk result (λ d. (p : Packet) (k : Kind) → means d site.now p k ≡ walk c.now site.now p k) }
+    ensures unfolds { IfOk result (λ d. refusal_of d ≡ None) }
+{
+    skips_go_on();
+    let d = drawn(alloc, c)?;
+    Ok(d)
+}

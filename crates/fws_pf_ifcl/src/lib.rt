@@ -1,0 +1,9 @@
+//! The control diagram of a pf configuration.
+#![tactic(auto)]
+
+mod blocks;
+mod diagram;
+mod filter;
+mod translating;
+
+pub use diagram::to_ifcl;
