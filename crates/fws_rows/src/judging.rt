@@ -93,7 +93,7 @@ fn is_config_refused_so(
             let found = refusal(alloc, site, config)?;
             Ok(is_refused_so(config, found, what, chain))
         }
-        Config::Ipfw(_) => Ok(what == b"none".as_slice()),
+        Config::Ipfw(_) | Config::Pf(_) => Ok(what == b"none".as_slice()),
     }
 }
 

@@ -15,6 +15,10 @@ use fws_ipt::model::walk_packet as walk_ipt;
 use fws_ipt_ifcl::to_ifcl as draw_ipt;
 use fws_ipt_read::read as read_ipt;
 use fws_net::{Kind, Outcome, Packet, ReadAnswer, Site};
+use fws_pf::PfConfig;
+use fws_pf::model::walk_packet as walk_pf;
+use fws_pf_ifcl::to_ifcl as draw_pf;
+use fws_pf_read::read as read_pf;
 use std::alloc::Global;
 
 /// A language of configurations.
@@ -24,15 +28,19 @@ pub enum Language {
     Iptables,
     /// ipfw, as `ipfw list` and scripts write its rules (ipfw(8)).
     Ipfw,
+    /// pf of FreeBSD, as pf.conf(5) writes its rules.
+    Pf,
 }
 
-/// A configuration of either language.
+/// A configuration of one of the languages.
 #[derive(Drop)]
 pub enum Config {
     /// Of iptables.
     Iptables(IptConfig),
     /// Of ipfw.
     Ipfw(IpfwConfig),
+    /// Of pf.
+    Pf(PfConfig),
 }
 
 /// A configuration and its control diagram.
@@ -49,6 +57,7 @@ pub fn language_of(word: &[u8]) -> Result<Language, Stop> {
     match word {
         b"iptables" => Ok(Language::Iptables),
         b"ipfw" => Ok(Language::Ipfw),
+        b"pf" => Ok(Language::Pf),
         _ => Err(Stop::Malformed),
     }
 }
@@ -73,6 +82,16 @@ fn try_ipfw(alloc: Global, site: &Site, text: &[u8]) -> Result<(), ReadAnswer>
     }
 }
 
+/// Reads a text of pf, and gives how it is refused.
+fn try_pf(alloc: Global, site: &Site, text: &[u8]) -> Result<(), ReadAnswer>
+    requires { IsSound site.now }
+{
+    match read_pf(alloc, text, site) {
+        Ok(_) => Ok(()),
+        Err(answer) => Err(answer),
+    }
+}
+
 impl Language {
     /// Reads a text, and gives how it is refused.
     pub fn try_text(self, alloc: Global, site: &Site, text: &[u8]) -> Result<(), ReadAnswer>
@@ -81,6 +100,7 @@ impl Language {
         match self {
             Language::Iptables => try_ipt(alloc, site, text),
             Language::Ipfw => try_ipfw(alloc, site, text),
+            Language::Pf => try_pf(alloc, site, text),
         }
     }
 
@@ -91,6 +111,7 @@ impl Language {
         match self {
             Language::Iptables => drawn_ipt(alloc, site, text),
             Language::Ipfw => drawn_ipfw(alloc, site, text),
+            Language::Pf => drawn_pf(alloc, site, text),
         }
     }
 }
@@ -133,6 +154,20 @@ fn drawn_ipfw(alloc: Global, site: &Site, text: &[u8]) -> Result<Drawn, Stop>
     })
 }
 
+/// The configuration of a text of pf, with its diagram.
+fn drawn_pf(alloc: Global, site: &Site, text: &[u8]) -> Result<Drawn, Stop>
+    requires { IsSound site.now }
+{
+    let Ok(config) = read_pf(alloc, text, site) else {
+        return Err(Stop::Malformed);
+    };
+    let diagram = draw_pf(alloc, &config, site)?;
+    Ok(Drawn {
+        config: Config::Pf(config),
+        diagram,
+    })
+}
+
 /// What a configuration makes of a packet of a class, by the slow model.
 pub fn walk_config(
     alloc: Global,
@@ -146,5 +181,6 @@ pub fn walk_config(
     match config {
         Config::Iptables(config) => Ok(walk_ipt(alloc, config, site, packet, kind)?),
         Config::Ipfw(config) => Ok(walk_ipfw(alloc, config, site, packet, kind)?),
+        Config::Pf(config) => Ok(walk_pf(alloc, config, site, packet, kind)?),
     }
 }

@@ -8,7 +8,7 @@ use Rattle.fws_top.specs.Asks.{are_asks, are_shown}
 use Rattle.fws_top.specs.declared.form.Form.{Form}
 use Rattle.fws_top.specs.declared.form.Form.TheVariants.{Unknown, Help, Version, Synth, Query, Trace, SecondForm}
 use Rattle.fws_top.specs.declared.lang.SourceLang.{SourceLang}
-use Rattle.fws_top.specs.declared.lang.SourceLang.TheVariants.{Iptables, Ipfw}
+use Rattle.fws_top.specs.declared.lang.SourceLang.TheVariants.{Iptables, Ipfw, Pf}
 
 -- What the words ask for, each file by its name
 
@@ -29,6 +29,7 @@ abbrev pub lang_of : List ℕ → Option SourceLang
 lang_of word =
     if bytes_eq word (codes "iptables") then Some Iptables
     else if bytes_eq word (codes "ipfw") then Some Ipfw
+    else if bytes_eq word (codes "pf") then Some Pf
     else None
 
 -- which packets a table is about

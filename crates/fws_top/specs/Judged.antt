@@ -22,8 +22,11 @@ use Rattle.fws_net.specs.declared.outcome.Outcome.{Outcome}
 use Rattle.fws_net.specs.declared.packet.Packet.{Packet}
 use Rattle.fws_net.specs.declared.site.Site.{Site}
 use Rattle.fws_net.specs.Reading.{Refusal}
+use Rattle.fws_pf.specs.declared.config.PfConfig.{PfConfig}
+use Rattle.fws_pf.specs.FileText.{spelled as pf_spelled}
+use Rattle.fws_pf.specs.Walk.{walk as pf_walk}
 use Rattle.fws_top.specs.declared.lang.SourceLang.{SourceLang}
-use Rattle.fws_top.specs.declared.lang.SourceLang.TheVariants.{Iptables, Ipfw}
+use Rattle.fws_top.specs.declared.lang.SourceLang.TheVariants.{Iptables, Ipfw, Pf}
 use Rattle.fws_top.specs.Lines.{line_words, loop_words, deep_words, long_words, cause_text}
 
 -- Refusals for the chains
@@ -72,6 +75,10 @@ ipt_refusal site c = option_map (ipt_named_refusal c.chains) (ipt_refusal_of sit
 abbrev pub ipfw_refusal : Site → IpfwConfig → Option ChainRefusal
 ipfw_refusal site c = None
 
+-- nor has one of pf
+abbrev pub pf_refusal : Site → PfConfig → Option ChainRefusal
+pf_refusal site c = None
+
 -- Judging
 
 -- a packet of the site: it comes from the host, loopback or an interface
@@ -101,3 +108,4 @@ HasText spelled config = (text : List ℕ) × (spelled text ≡ Ok config)
 abbrev pub judge : SourceLang → Site → List ℕ → Judged
 judge Iptables site text = judged_by (ipt_refusal site) (λ config. ipt_walk config site) (ipt_spelled site text)
 judge Ipfw site text = judged_by (ipfw_refusal site) (λ config. ipfw_walk config site) (ipfw_spelled site text)
+judge Pf site text = judged_by (pf_refusal site) (λ config. pf_walk config site) (pf_spelled site text)

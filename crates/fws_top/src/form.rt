@@ -43,6 +43,8 @@ fn read_lang(word: &Text) -> Option<SourceLang>
         Some(SourceLang::Iptables)
     } else if is(word, b"ipfw") {
         Some(SourceLang::Ipfw)
+    } else if is(word, b"pf") {
+        Some(SourceLang::Pf)
     } else {
         None
     }

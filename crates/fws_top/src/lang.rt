@@ -7,4 +7,6 @@ pub enum SourceLang {
     Iptables,
     /// ipfw, as `ipfw list` and scripts write its rules (ipfw(8)).
     Ipfw,
+    /// pf of FreeBSD, as pf.conf(5) writes its rules.
+    Pf,
 }

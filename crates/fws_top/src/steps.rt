@@ -17,6 +17,7 @@ use crate::ipfw::Ipfw;
 use crate::iptables::Iptables;
 use crate::lang::SourceLang;
 use crate::lines::{cannot_read_line, site_cause_text};
+use crate::pf::Pf;
 use crate::policy::take_policy;
 use crate::status::Status;
 use crate::texts::{FILE_LIMIT, USAGE};
@@ -97,6 +98,7 @@ fn judge_source(
     match lang {
         SourceLang::Iptables => take_policy::<Iptables>(alloc, site, name, bytes),
         SourceLang::Ipfw => take_policy::<Ipfw>(alloc, site, name, bytes),
+        SourceLang::Pf => take_policy::<Pf>(alloc, site, name, bytes),
     }
 }
 

@@ -26,6 +26,9 @@ const ROUND: &[u8] =
 /// An ipfw rule that passes everything.
 const PASSING: &[u8] = b"add 100 allow ip from any to any\n";
 
+/// A pf rule that passes everything.
+const PASSED: &[u8] = b"pass flags any\n";
+
 /// An ipfw rule that goes back.
 const BACKWARD: &[u8] = b"add 200 skipto 200 ip from any to any\n";
 
@@ -59,6 +62,7 @@ fn full_shelf(alloc: Global, fails: Items<u64>) -> Result<MemShelf, Memory> {
     shelf.hold(b"L", ROUND)?;
     shelf.hold(b"I", PASSING)?;
     shelf.hold(b"B", BACKWARD)?;
+    shelf.hold(b"Q", PASSED)?;
     shelf.hold(b"C", CONNS)?;
     shelf.hold(b"P", PACKETS)?;
     shelf.hold(b"X", b"no such line\n")?;
@@ -76,7 +80,7 @@ fn told(alloc: Global, line: &str) -> Result<(Status, Text), Memory> {
 
 #[test]
 fn answers(rt: HostRuntime) -> Result<(), Fail> {
-    let table: [(&str, Status, &[u8]); 22] = [
+    let table: [(&str, Status, &[u8]); 24] = [
         ("--version", Status::Ok, b"fws 0.1.0\n"),
         ("--help", Status::Ok, HELP),
         ("--help --help", Status::Usage, USAGE_LINE),
@@ -116,6 +120,16 @@ fn answers(rt: HostRuntime) -> Result<(), Fail> {
             Status::Refused,
             b"refused B line 1 backward\n",
         ),
+        (
+            "synth pf S Q new",
+            Status::Ok,
+            b"table new 1\n* * * * * * * * : accept\n",
+        ),
+        (
+            "synth pf S F new",
+            Status::Refused,
+            b"refused F line 1 left-out\n",
+        ),
         // what an established packet leaves with isn't asked of new ones
         (
             "query iptables S F new rdst=10.0.0.5",
@@ -123,7 +137,7 @@ fn answers(rt: HostRuntime) -> Result<(), Fail> {
             USAGE_LINE,
         ),
         ("synth iptables S F", Status::Usage, USAGE_LINE),
-        ("synth pf S F new", Status::Usage, USAGE_LINE),
+        ("synth ios S F new", Status::Usage, USAGE_LINE),
         (
             "synth iptables S F new dst=1.2.3.4",
             Status::Usage,

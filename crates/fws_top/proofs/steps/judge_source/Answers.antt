@@ -13,3 +13,8 @@ pub returns-in-Ipfw-clause-refused : goal.returns-in-Ipfw-clause-refused
 returns-in-Ipfw-clause-refused c =
     subst (λ lang. IfErr c.take_policy-in-Ipfw.result (EndsIn (judged c.args.name.now (judge lang c.args.site.now c.args.bytes.now))))
     (sym c.in-Ipfw.is) c.take_policy-in-Ipfw.ensures.refused
+
+pub returns-in-Pf-clause-refused : goal.returns-in-Pf-clause-refused
+returns-in-Pf-clause-refused c =
+    subst (λ lang. IfErr c.take_policy-in-Pf.result (EndsIn (judged c.args.name.now (judge lang c.args.site.now c.args.bytes.now))))
+    (sym c.in-Pf.is) c.take_policy-in-Pf.ensures.refused
