@@ -1,8 +1,8 @@
 """python3 growth.py FAMILY TIMES PROGRAM SITE
 python3 growth.py FAMILY TIMES PROGRAM SMALL LARGE
 
-The first form makes the tables of 400 and of 4,000 rules of a family of make.py, the second runs the program with the words
-FAMILY SMALL and FAMILY LARGE; three times each in turn. Prints a line `FAMILY takes N times as long for LARGE as for SMALL` of
+The first form makes the tables of 1,000 and of 10,000 rules of a family of make.py, the second runs the program with the words
+FAMILY SMALL and FAMILY LARGE; five times each in turn. Prints a line `FAMILY takes N times as long for LARGE as for SMALL` of
 the best times. Exit status 1 where that is more than TIMES.
 """
 
@@ -32,7 +32,7 @@ def table(work, program, site, family, rules):
 def compare(family, most, commands):
     """Runs a command for each of two sizes."""
     best = {}
-    for _ in range(3):
+    for _ in range(5):
         for size, command in commands.items():
             taken = seconds(command)
             best[size] = min(taken, best.get(size, taken))
@@ -47,7 +47,7 @@ def main(family, most, program, *given):
         sizes = [int(size) for size in given]
         return compare(family, most, {size: [program, family, str(size)] for size in sizes})
     with tempfile.TemporaryDirectory() as work:
-        return compare(family, most, {rules: table(work, program, given[0], family, rules) for rules in (400, 4000)})
+        return compare(family, most, {rules: table(work, program, given[0], family, rules) for rules in (1000, 10000)})
 
 
 sys.exit(main(sys.argv[1], float(sys.argv[2]), *sys.argv[3:]))

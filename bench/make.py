@@ -1,6 +1,6 @@
 """python3 make.py N FAMILY [LANG]
 
-Writes a file of a family in the language LANG, which is `iptables` where it lacks, or `ipfw`; the same one each time. Of
+Writes a file of a family in the language LANG, which is `iptables` where it lacks, `ipfw` or `pf`; the same one each time. Of
 these, N is the number of rules of the chain FORWARD:
 
 overlapping: sources and destinations are drawn from 64 networks, so that rules overlap.
@@ -31,9 +31,19 @@ skipping: N rules in groups of ten. The first rule of a group skips the others b
 group's own, and these accept TCP to one of 256 networks at a port of their own; in iptables the nine are a chain that is called.
 sources: N rules, at most 65,534, of which each accepts the packets of one source address; in iptables they are one chain.
 
+This one is written in iptables and pf, with the same table; in iptables INPUT, FORWARD and OUTPUT have the same rules:
+
+decided: N rules that pass or block packets of a source and a destination drawn from the 64 networks, or some of the two, of
+TCP at a port or of any protocol; about half of them are quick. In iptables the quick ones stand first, in their order, and
+the others behind them, the last one first.
+
 And this one in ipfw alone:
 
 redirected: one instance with N redirects of ports to hosts of the LAN, which translates what comes in and goes out by em1.
+
+And this one in pf alone:
+
+expanded: one rule with a list of N sources and one of 500 ports, which stands for a rule for each choice.
 """
 
 import random
@@ -246,15 +256,60 @@ def redirected_ipfw(rng, count):
     ]
 
 
+# Files with the same rules in iptables and pf
+
+
+def decisions(rng, count):
+    """What rules decide: whether they are quick, whether they pass, and what they test."""
+    drawn = networks(rng)
+    found = []
+    for _ in range(count):
+        source = spelled(rng.choice(drawn))
+        destination = spelled(rng.choice(drawn)) if rng.random() < 0.7 else None
+        port = rng.randrange(65536) if rng.random() < 0.5 else None
+        if port is not None and rng.random() < 0.3:
+            source = None
+        found.append((rng.random() < 0.5, rng.random() < 0.5, source, destination, port))
+    return found
+
+
+def decided(rng, count):
+    def rule(passes, source, destination, port):
+        tests = ['-s ' + source] if source else []
+        tests += ['-d ' + destination] if destination else []
+        tests += ['-p tcp -m tcp --dport %d' % port] if port is not None else []
+        return ' '.join(tests + ['-j ' + ('ACCEPT' if passes else 'DROP')])
+
+    drawn = decisions(rng, count)
+    ordered = [found for found in drawn if found[0]] + [found for found in reversed(drawn) if not found[0]]
+    return everywhere([rule(*found[1:]) for found in ordered] + ['-j ACCEPT'], [], [])
+
+
+def decided_pf(rng, count):
+    def rule(quick, passes, source, destination, port):
+        words = ['pass' if passes else 'block'] + (['quick'] if quick else []) + (['proto tcp'] if port is not None else [])
+        words += ['from ' + (source or 'any'), 'to ' + (destination or 'any')] + (['port %d' % port] if port is not None else [])
+        return ' '.join(words + (['flags any'] if passes else []))
+
+    return [rule(*found) for found in decisions(rng, count)]
+
+
+def expanded_pf(rng, count):
+    sources = ' '.join(drawn_addresses(rng, count))
+    ports = ', '.join(str(port) for port in rng.sample(range(65536), 500))
+    return ['pass proto tcp from { %s } to any port { %s }' % (sources, ports)]
+
+
 FILES = {
-    'iptables': {family.__name__: family for family in (called, shared, rewritten, services, unfolded, marked, crossing, skipping, sources)},
+    'iptables': {family.__name__: family for family in (called, shared, rewritten, services, unfolded, marked, crossing, skipping, sources, decided)},
     'ipfw': {'skipping': skipping_ipfw, 'sources': sources_ipfw, 'redirected': redirected_ipfw},
+    'pf': {'decided': decided_pf, 'expanded': expanded_pf},
 }
 
 
 def main(count, family, lang='iptables'):
     rng = random.Random(20181)
-    if lang == 'ipfw' or family in FILES[lang]:
+    if lang != 'iptables' or family in FILES[lang]:
         lines = FILES[lang][family](rng, count)
     else:
         drawn = networks(rng)
