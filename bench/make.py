@@ -24,7 +24,7 @@ marked: N rules of mangle mark packets of sources of their own, and N rules of F
 crossing: N rules, of which half stand in mangle PREROUTING, before what tracked connections write, and half in FORWARD,
 and each tests a source, a destination, a protocol with ports, and an interface, or some of these.
 
-These two are written in both languages, with the same table; in iptables INPUT, FORWARD and OUTPUT have the same rules, as
+These two are written in iptables and ipfw, with the same table; in iptables INPUT, FORWARD and OUTPUT have the same rules, as
 each pass of ipfw goes through all of them:
 
 skipping: N rules in groups of ten. The first rule of a group skips the others but for the packets of a network of the

@@ -1,8 +1,9 @@
 #!/usr/bin/env bash
 # Runs the built programs over growing inputs, and prints a line `family size seconds megabytes counts` for each:
 # filter files of growing length, files with chains of the user's and with rules of nat and mangle, an instance of ipfw with
-# many redirects, the same rules in ipfw or pf and in iptables, lists of pf that stand for many rules, 400 rules at sites of growing size, the writing of these sites by
-# the command site2, texts of up to 4 MiB that are read and not executed, execution alone and that of established packets,
+# many redirects, the same rules in ipfw or pf and in iptables, lists of pf that stand for many rules, 400 rules at sites
+# of growing size, the writing of these sites by the command site2, texts of up to 4 MiB that are read and not executed,
+# execution alone and that of established packets,
 # trees that are made of rows or recoloured, and diagrams that are unfolded or refused. Exit status 1 where a bound is
 # passed. Build first: ./fws --build
 set -u
