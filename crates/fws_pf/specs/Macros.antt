@@ -5,7 +5,7 @@ use Rattle.std.specs.Option.{ok_or}
 use Rattle.std.specs.Str.{bytes_eq}
 use Rattle.fws_num.specs.declared.word.Word.{Word}
 use Rattle.fws_num.specs.Numbers.{is_digit}
-use Rattle.fws_num.specs.Words.{plain_word}
+use Rattle.fws_num.specs.Words.{is_printed, plain_word}
 use Rattle.fws_net.specs.declared.cause.Cause.{Cause}
 use Rattle.fws_net.specs.declared.cause.Cause.TheVariants.{Syntax, NoName}
 use Rattle.fws_net.specs.declared.cause.Checks.{Checks}
@@ -62,9 +62,14 @@ abbrev pub begins_use : List ℕ → Bool
 begins_use [] = false
 begins_use (c ∷ cs) = nat_eq c 36
 
--- a word out of quotes is no use of a macro: where it looks like one it can't be judged
+-- a word out of quotes is no use of a macro: where it looks like one it can't be judged. Its bytes stood in quotes: one with a
+-- byte that isn't printed counts as a quoted word
 abbrev pub out_of_quotes : Word → Word
-out_of_quotes w = if not w.quoted && begins_use w.text then record w { quoted = true; whole = false } else w
+out_of_quotes w =
+    if w.quoted then w
+    else if begins_use w.text then record w { quoted = true; whole = false }
+    else if list_all is_printed w.text then w
+    else record w { quoted = true; whole = true }
 
 -- the words out of quotes, in which each quote is closed
 abbrev pub all_out_of_quotes : List Word → Result (List Word) Cause

@@ -249,14 +249,21 @@ fn begins_use(text: &[u8]) -> bool
     }
 }
 
-/// The word out of quotes, which is no use of a macro: where it looks like one it can't be judged.
+/// The word out of quotes, which is no use of a macro: where it looks like one it can't be judged. Its bytes stood in
+/// quotes: one with a byte that isn't printed counts as a quoted word.
 fn out_of_quotes(alloc: Global, w: &Word) -> Result<Word, Memory>
     ensures { IfOk result (λ v. v ≡ out_of_quotes w.now) }
 {
     let mut word = copied_word(alloc, w)?;
-    if !w.quoted && begins_use(w.text.as_slice()) {
+    if w.quoted {
+        return Ok(word);
+    }
+    if begins_use(w.text.as_slice()) {
         word.quoted = true;
         word.whole = false;
+    } else if !w.is_sound() {
+        word.quoted = true;
+        word.whole = true;
     }
     Ok(word)
 }
