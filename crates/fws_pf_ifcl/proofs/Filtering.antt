@@ -1,5 +1,5 @@
 -- The rules of filter rules walk as these do.
-use Rattle.std.proofs.Common.{◌≡◌, ℕ, ◌+◌, Bool, true, false, cond, ◌&&◌, Option, Some, None, List, [], ◌∷◌, length, drop, arith, refl, sym, ap, ◌∙◌}
+use Rattle.std.proofs.Common.{◌≡◌, ℕ, ◌+◌, Bool, true, false, cond, ◌&&◌, Option, Some, None, List, [], ◌∷◌, ◌++◌, length, take, drop, arith, refl, sym, ap, ◌∙◌, append_assoc, take-append-drop}
 use Rattle.std.proofs.lemmas.List.{drop-drop}
 use Rattle.std.proofs.Math.Seq.{drop-append_seam}
 use Rattle.fws_net.specs.declared.condition.Lit.{Lit}
@@ -11,13 +11,12 @@ use Rattle.fws_ifcl.specs.declared.diagram.Act.TheVariants.{Accept, Drop, Hold, 
 use Rattle.fws_ifcl.specs.declared.diagram.Rule.{Rule}
 use Rattle.fws_ifcl.specs.declared.step.ChainEnd.{ChainEnd}
 use Rattle.fws_ifcl.specs.declared.step.ChainEnd.TheVariants.{Accepted, Dropped}
-use Rattle.fws_ifcl.specs.Walk.{rules_walk as walk_rules}
 use Rattle.fws_draw.specs.Rules.{ruled, always}
 use Rattle.fws_pf.specs.declared.config.PfRule.{PfRule}
 use Rattle.fws_pf.specs.Walk.{tagged, is_met, acted, rules_walk}
-use Rattle.fws_pf_ifcl.specs.Blocks.{guard, passing_at_once, holding, filter_rule, met_rule, filter_from}
-use Rattle.fws_pf_ifcl.specs.Diagram.{pass_stage}
+use Rattle.fws_pf_ifcl.specs.Blocks.{guard, passing_at_once, holding, filter_rule, met_rule, met_rules, tail_place, tail_rules, filter_from}
 use Rattle.fws_pf_ifcl.proofs.Running.{Course, sight, run, Stands, second_part, step, step_in, guarded_walk}
+use Rattle.fws_pf_ifcl.proofs.Deciding.{Untagged, tail_untagged, tail_walk}
 use Rattle.fws_pf_ifcl.proofs.Settling.{settled, left, left_by, settled_by}
 
 -- a rule that passes packets at once
@@ -91,13 +90,23 @@ met_walk outward w at true r go s next t =
     rule_walk outward w at r.quick r.pass r.cond r.tag go s next t
     ∙ settled_by (holds r.cond (sight w t)) (cond r.quick (decided (acted r t)) (go (acted r t))) (go t)
 
+-- rules ahead of the tail
+ahead_walk : (outward : Bool) (w : Course New outward) (at : ℕ) (ahead tail : List PfRule) → Untagged outward tail
+    → drop at w.full ≡ met_rules outward at ahead ++ tail_rules outward tail → (t : Transit) → left (run w at t) ≡ settled (rules_walk w.site outward (ahead ++ tail) t)
+ahead_walk outward w at [] tail none are t = tail_walk outward w at tail none are t
+ahead_walk outward w at (r ∷ ahead) tail none are t =
+    let here = met_rule outward at r in
+    let next = at + length here in
+    let behind = met_rules outward next ahead ++ tail_rules outward tail in
+    let all : drop at w.full ≡ here ++ behind = are ∙ append_assoc here (met_rules outward next ahead) (tail_rules outward tail) in
+    let rest : drop next w.full ≡ behind = sym (drop-drop (length here) at w.full) ∙ ap (drop (length here)) all ∙ drop-append_seam here behind in
+    met_walk outward w at (is_met r.way outward) r (rules_walk w.site outward (ahead ++ tail)) (record { rest = behind; are = all })
+    (ahead_walk outward w next ahead tail none rest) t
+
 -- rules to the end of the pass
 pub filter_walk : (outward : Bool) (w : Course New outward) (at : ℕ) (rs : List PfRule) → drop at w.full ≡ filter_from outward at rs → (t : Transit)
     → left (run w at t) ≡ settled (rules_walk w.site outward rs t)
-filter_walk outward w at [] are t = ap (λ rules. left (walk_rules w.enter w.site w.p New (pass_stage outward) at rules 0 t)) are
-filter_walk outward w at (r ∷ rs) are t =
-    let here = met_rule outward at r in
-    let next = at + length here in
-    let behind = filter_from outward next rs in
-    let rest : drop next w.full ≡ behind = sym (drop-drop (length here) at w.full) ∙ ap (drop (length here)) are ∙ drop-append_seam here behind in
-    met_walk outward w at (is_met r.way outward) r (rules_walk w.site outward rs) (record { rest = behind; are = are }) (filter_walk outward w next rs rest) t
+filter_walk outward w at rs are t =
+    let n = tail_place outward rs in
+    ahead_walk outward w at (take n rs) (drop n rs) (tail_untagged outward rs) are t
+    ∙ ap (λ l. settled (rules_walk w.site outward l t)) (take-append-drop n rs)

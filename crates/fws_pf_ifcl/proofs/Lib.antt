@@ -1,3 +1,4 @@
+mod Deciding
 mod Filtering
 mod Lengths
 mod Numbered

@@ -1,5 +1,5 @@
 -- Each skip of the diagram goes forward, to at most one past the last rule.
-use Rattle.std.proofs.Common.{◌≡◌, ℕ, suc, ◌+◌, ◌<◌, ◌≤◌, Bool, true, false, cond, ◌&&◌, nat_lt, nat_le, Option, Some, None, List, [], ◌∷◌, ◌++◌, length, arith, refl, ap, ◌∙◌, subst, length-append}
+use Rattle.std.proofs.Common.{◌≡◌, ℕ, suc, ◌+◌, ◌<◌, ◌≤◌, Bool, true, false, not, cond, ◌&&◌, nat_lt, nat_le, Option, Some, None, List, [], ◌∷◌, ◌++◌, length, take, drop, arith, refl, ap, ◌∙◌, subst, length-append}
 use Rattle.std.proofs.lemmas.Bool.{le-leb, lt-ltb, and_from, and_parts}
 use Rattle.fws_net.specs.declared.condition.Lit.{Lit}
 use Rattle.fws_net.specs.declared.outcome.End.{End}
@@ -11,7 +11,7 @@ use Rattle.fws_pf.specs.declared.config.PfConfig.{PfConfig}
 use Rattle.fws_pf.specs.declared.config.PfNat.{PfNat}
 use Rattle.fws_pf.specs.declared.config.PfRule.{PfRule}
 use Rattle.fws_pf.specs.Walk.{is_met, translations}
-use Rattle.fws_pf_ifcl.specs.Blocks.{guarded, tagging, writing, translating, translation, width_with, translation_width, translation_widths, translations_from, passing_at_once, holding, filter_rule, met_rule, filter_from}
+use Rattle.fws_pf_ifcl.specs.Blocks.{guarded, tagging, writing, translating, translation, width_with, translation_width, translation_widths, translations_from, passing_at_once, holding, filter_rule, met_rule, met_rules, tail_place, deciding, quick_rule, slow_rule, quick_rules, slow_rules, filter_from}
 use Rattle.fws_pf_ifcl.specs.Diagram.{tracking, skipping, translations_place, filter_place, pass_rules, diagram_of}
 use Rattle.fws_pf_ifcl.proofs.Lengths.{translation_length, first_length, front_length}
 use Rattle.fws_pf_ifcl.proofs.Translated.{leaver, changing_by}
@@ -118,14 +118,47 @@ module _ (chains total : ℕ) where
   met_right at true r le = rule_right at r.quick r.pass r.cond r.tag le
   met_right at false r le = refl
 
-  filter_right : (outward : Bool) (at : ℕ) (rs : List PfRule) → at + length (filter_from outward at rs) ≤ total → Right at (filter_from outward at rs)
-  filter_right outward at [] le = refl
-  filter_right outward at (r ∷ rs) le =
+  met_rules_right : (outward : Bool) (at : ℕ) (rs : List PfRule) → at + length (met_rules outward at rs) ≤ total → Right at (met_rules outward at rs)
+  met_rules_right outward at [] le = refl
+  met_rules_right outward at (r ∷ rs) le =
       let here = met_rule outward at r in
       let next = at + length here in
-      let more = filter_from outward next rs in
+      let more = met_rules outward next rs in
       let many : length (here ++ more) ≡ length here + length more = length-append here more in
-      right_joined at here more (met_right at (is_met r.way outward) r (omega (arith, le, many))) (filter_right outward next rs (omega (arith, le, many)))
+      right_joined at here more (met_right at (is_met r.way outward) r (omega (arith, le, many))) (met_rules_right outward next rs (omega (arith, le, many)))
+
+  -- The tail
+
+  decide_right : (at : ℕ) (pass : Bool) (test : List Lit) → Right at (ruled test (cond pass rules.Accept rules.Drop) ∷ [])
+  decide_right at true test = refl
+  decide_right at false test = refl
+
+  deciding_right : (at : ℕ) (decides : Bool) (r : PfRule) → Right at (deciding decides r)
+  deciding_right at true r = decide_right at r.pass r.cond
+  deciding_right at false r = refl
+
+  quick_right : (outward : Bool) (at : ℕ) (rs : List PfRule) → Right at (quick_rules outward rs)
+  quick_right outward at [] = refl
+  quick_right outward at (r ∷ rs) =
+      let here = quick_rule outward r in
+      right_joined at here (quick_rules outward rs) (deciding_right at (is_met r.way outward && r.quick) r) (quick_right outward (at + length here) rs)
+
+  slow_right : (outward : Bool) (at : ℕ) (rs : List PfRule) → Right at (slow_rules outward rs)
+  slow_right outward at [] = refl
+  slow_right outward at (r ∷ rs) =
+      let ahead = slow_rules outward rs in
+      right_joined at ahead (slow_rule outward r) (slow_right outward at rs) (deciding_right (at + length ahead) (is_met r.way outward && not r.quick) r)
+
+  filter_right : (outward : Bool) (at : ℕ) (rs : List PfRule) → at + length (filter_from outward at rs) ≤ total → Right at (filter_from outward at rs)
+  filter_right outward at rs le =
+      let n = tail_place outward rs in
+      let ahead = met_rules outward at (take n rs) in
+      let tail = drop n rs in
+      let quick = quick_rules outward tail in
+      let slow = slow_rules outward tail in
+      let many : length (ahead ++ (quick ++ slow)) ≡ length ahead + length (quick ++ slow) = length-append ahead (quick ++ slow) in
+      right_joined at ahead (quick ++ slow) (met_rules_right outward at (take n rs) (omega (arith, le, many)))
+      (right_joined (at + length ahead) quick slow (quick_right outward (at + length ahead) tail) (slow_right outward ((at + length ahead) + length quick) tail))
 
   -- Passes
 

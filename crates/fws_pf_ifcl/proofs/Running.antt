@@ -80,7 +80,7 @@ rule_at w at (x ∷ rules) (suc i) r s is =
 -- How a walk goes on
 
 -- the first rule of a walk
-first_rule : {k : Kind} {outward : Bool} (w : Course k outward) (at : ℕ) (r : Rule) (rest : List Rule) (t : Transit)
+pub first_rule : {k : Kind} {outward : Bool} (w : Course k outward) (at : ℕ) (r : Rule) (rest : List Rule) (t : Transit)
     → rules_walk w.enter w.site w.p k (pass_stage outward) at (r ∷ rest) 0 t
     ≡ cond (holds r.cond (sight w t)) (stepped w.enter (rules_walk w.enter w.site w.p k (pass_stage outward) (suc at) rest) (step_of w.p k r.act t))
     (rules_walk w.enter w.site w.p k (pass_stage outward) (suc at) rest 0 t)

@@ -1,6 +1,6 @@
 -- The rules of a diagram to which rules of pf are unfolded.
-use Rattle.std.specs.Prelude.{ℕ, ◌+◌, Bool, Option, Some, None, List, [], ◌∷◌, ◌++◌, length, if◌then◌else◌}
-use Rattle.std.specs.Option.{option_map_or}
+use Rattle.std.specs.Prelude.{ℕ, ◌+◌, Bool, not, ◌&&◌, Option, Some, None, List, [], ◌∷◌, ◌++◌, length, take, drop, if◌then◌else◌}
+use Rattle.std.specs.Option.{is_some, option_map_or}
 use Rattle.fws_net.specs.declared.condition.Lit.{Lit}
 use Rattle.fws_net.specs.declared.outcome.End.{End}
 use Rattle.fws_ifcl.specs.declared.diagram.Act.{Act}
@@ -85,6 +85,50 @@ abbrev pub met_rule : Bool → ℕ → PfRule → List Rule
 met_rule outward at r = if is_met r.way outward then filter_rule at r else []
 
 -- the rules of filter rules, of which the first has the place at
+abbrev pub met_rules : Bool → ℕ → List PfRule → List Rule
+met_rules outward at [] = []
+met_rules outward at (r ∷ rs) = met_rule outward at r ++ met_rules outward (at + length (met_rule outward at r)) rs
+
+-- The tail: the filter rules behind the last one that is met and puts a tag
+
+abbrev pub puts_tag : Bool → PfRule → Bool
+puts_tag outward r = is_met r.way outward && is_some r.tag
+
+-- the place behind the last of the rules that puts a tag, of which the first has the place at; without one the place so far
+abbrev pub behind_tags : Bool → ℕ → ℕ → List PfRule → ℕ
+behind_tags outward place at [] = place
+behind_tags outward place at (r ∷ rs) = behind_tags outward (if puts_tag outward r then at + 1 else place) (at + 1) rs
+
+-- the place at which the tail begins
+abbrev pub tail_place : Bool → List PfRule → ℕ
+tail_place outward rs = behind_tags outward 0 0 rs
+
+-- the rule of a filter rule that decides where its condition holds, if there is to be one
+abbrev pub deciding : Bool → PfRule → List Rule
+deciding decides r = if decides then ruled r.cond (if r.pass then Accept else Drop) ∷ [] else []
+
+-- a rule that is quick, and one that isn't
+abbrev pub quick_rule : Bool → PfRule → List Rule
+quick_rule outward r = deciding (is_met r.way outward && r.quick) r
+
+abbrev pub slow_rule : Bool → PfRule → List Rule
+slow_rule outward r = deciding (is_met r.way outward && not r.quick) r
+
+-- those that are quick, in their order
+abbrev pub quick_rules : Bool → List PfRule → List Rule
+quick_rules outward [] = []
+quick_rules outward (r ∷ rs) = quick_rule outward r ++ quick_rules outward rs
+
+-- those that aren't, the last one first
+abbrev pub slow_rules : Bool → List PfRule → List Rule
+slow_rules outward [] = []
+slow_rules outward (r ∷ rs) = slow_rules outward rs ++ slow_rule outward r
+
+-- no rule of the tail changes what another one sees, so that the first quick one that matches decides, else the last of the others
+abbrev pub tail_rules : Bool → List PfRule → List Rule
+tail_rules outward rs = quick_rules outward rs ++ slow_rules outward rs
+
+-- the rules of all filter rules, of which the first has the place at
 abbrev pub filter_from : Bool → ℕ → List PfRule → List Rule
-filter_from outward at [] = []
-filter_from outward at (r ∷ rs) = met_rule outward at r ++ filter_from outward (at + length (met_rule outward at r)) rs
+filter_from outward at rs =
+    met_rules outward at (take (tail_place outward rs) rs) ++ tail_rules outward (drop (tail_place outward rs) rs)

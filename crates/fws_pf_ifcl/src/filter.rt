@@ -1,15 +1,15 @@
 //! The rules to which filter rules are unfolded.
 
 ghost use Rattle.std.specs.Prelude.{◌≡◌, ◌++◌, length, OnOk};
-ghost use Rattle.fws_pf.specs.Walk.{is_met};
-ghost use Rattle.fws_pf_ifcl.specs.Blocks.{filter_from, filter_rule, holding, met_rule, passing_at_once};
+ghost use Rattle.fws_pf_ifcl.specs.Blocks.{filter_from, filter_rule, holding, met_rule, met_rules, passing_at_once};
 
 use crate::blocks::{put_always, put_guard};
+use crate::tail::{is_met, put_tail, tail_place};
 use fws_draw::put_rule;
 use fws_ifcl::{Act, Rule};
 use fws_net::Cond;
 use fws_num::Memory;
-use fws_pf::{PfRule, Way};
+use fws_pf::PfRule;
 use std::alloc::Global;
 
 /// Puts the rules behind the others at which packets pass at once where the condition holds, with the tag
@@ -70,17 +70,6 @@ fn put_filter_rule(alloc: Global, rules: &mut Vec<Rule>, rule: &PfRule) -> Resul
     Ok(())
 }
 
-/// Whether a rule is met on the pass.
-fn is_met(way: Way, outward: bool) -> bool
-    ensures { result ≡ is_met way outward }
-{
-    match way {
-        Way::Both => true,
-        Way::Inward => !outward,
-        Way::Outward => outward,
-    }
-}
-
 /// Puts the rules of a filter rule behind the others if it is met on the pass. An error is want of memory.
 fn put_met(alloc: Global, rules: &mut Vec<Rule>, outward: bool, rule: &PfRule) -> Result<(), Memory>
     ensures { OnOk result (rules.new.items ≡ rules.old.items ++ met_rule outward (length rules.old.items) rule.now) }
@@ -88,6 +77,22 @@ fn put_met(alloc: Global, rules: &mut Vec<Rule>, outward: bool, rule: &PfRule) -
     if is_met(rule.way, outward) {
         put_filter_rule(alloc, rules, rule)?;
         return Ok(());
+    }
+    Ok(())
+}
+
+/// Puts the rules to which the filter rules ahead of the tail are unfolded behind the others. An error is
+/// want of memory.
+fn put_met_rules(
+    alloc: Global,
+    rules: &mut Vec<Rule>,
+    outward: bool,
+    filter: &[PfRule],
+) -> Result<(), Memory>
+    ensures { OnOk result (rules.new.items ≡ rules.old.items ++ met_rules outward (length rules.old.items) filter.now) }
+{
+    for rule in filter {
+        put_met(alloc, rules, outward, rule)?;
     }
     Ok(())
 }
@@ -102,8 +107,8 @@ pub(crate) fn put_filter(
 ) -> Result<(), Memory>
     ensures { OnOk result (rules.new.items ≡ rules.old.items ++ filter_from outward (length rules.old.items) filter.now) }
 {
-    for rule in filter {
-        put_met(alloc, rules, outward, rule)?;
-    }
+    let (ahead, tail) = filter.split_at(tail_place(outward, filter));
+    put_met_rules(alloc, rules, outward, ahead)?;
+    put_tail(alloc, rules, outward, tail)?;
     Ok(())
 }

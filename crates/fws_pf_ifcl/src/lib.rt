@@ -4,6 +4,7 @@
 mod blocks;
 mod diagram;
 mod filter;
+mod tail;
 mod translating;
 
 pub use diagram::to_ifcl;
