@@ -47,7 +47,7 @@ pub use points::tops;
 pub use ports::{read_address_range, read_addresses_between, read_port_range, read_ports};
 pub use route_sets::route_set;
 pub use routes::{exit_of, is_local, longest_prefixes_lead, route, routes_are_entries};
-pub use sets::{agreeing_set, local_set, prefix_set};
+pub use sets::{agreeing_set, all_own_set, local_set, prefix_set};
 pub use shown::sending_entry;
 pub use site::{Address, Iface, Names, RouteLine, Side, Site};
 pub use site_laws::{

@@ -48,8 +48,8 @@ fn all_own_ranges(alloc: Global, faces: &[Iface]) -> Result<Vec<Iv>, Memory>
     Ok(ranges)
 }
 
-/// The addresses of the interfaces.
-fn all_own_set(alloc: Global, faces: &[Iface]) -> Result<Ivs, Memory>
+/// The addresses of the interfaces. An error is want of memory.
+pub fn all_own_set(alloc: Global, faces: &[Iface]) -> Result<Ivs, Memory>
     ensures value { IfOk result (λ s. s ≡ with_ranges [] (all_own_ranges faces.now)) }
     ensures members { IfOk result (λ s. (a : ℕ) → has s a ≡ list_any (λ face. has_addr face a) faces.now) }
 {

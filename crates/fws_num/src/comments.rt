@@ -41,8 +41,8 @@ fn is_exclamation(line: &[u8]) -> bool
     }
 }
 
-/// A byte that stands as a word of its own in pf.conf(5), or begins one.
-fn is_punctuation(c: u8) -> bool
+/// Whether the byte stands as a word of its own in pf.conf(5), or begins one.
+pub fn is_punctuation(c: u8) -> bool
     ensures { result ≡ is_punctuation c }
 {
     b"{}()<>,=!".iter().any(|mark| *mark == c)

@@ -18,7 +18,7 @@ mod spelling;
 mod text;
 mod word;
 
-pub use comments::Comments;
+pub use comments::{Comments, is_punctuation};
 pub use dividing::pieces;
 pub use items::Items;
 pub use laws::{
@@ -26,7 +26,7 @@ pub use laws::{
     numbers_are_digits, pieces_are_joined, prefixes_are_read, quads_are_dotted, splits_back,
     texts_are_read, words_are_read,
 };
-pub use lines::{Line, Lines, read_lines};
+pub use lines::{Line, Lines, is_indented, next_number, read_lines, without_carriage_return};
 pub use memory::Memory;
 pub use named::value_named;
 pub use numbers::{read_dec, read_quad, split_once};
@@ -36,4 +36,4 @@ pub use protocols::{read_ios_protocol, read_protocol};
 pub use services::{read_port, read_ports_between};
 pub use spelling::{put_dec, put_quad};
 pub use text::Text;
-pub use word::{Word, are_sound, words};
+pub use word::{Word, are_sound, is_blank, words};

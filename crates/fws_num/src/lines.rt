@@ -31,7 +31,8 @@ pub struct Lines {
     pub past: u32,
 }
 
-fn without_carriage_return(line: &[u8]) -> &[u8]
+/// The line, less a carriage return at its end.
+pub fn without_carriage_return(line: &[u8]) -> &[u8]
     ensures { result.now ≡ strip_carriage_return line.now }
 {
     match line {
@@ -40,8 +41,8 @@ fn without_carriage_return(line: &[u8]) -> &[u8]
     }
 }
 
-/// It begins with a blank or a tab.
-fn is_indented(line: &[u8]) -> bool
+/// Whether the line begins with a blank or a tab.
+pub fn is_indented(line: &[u8]) -> bool
     ensures { result ≡ is_indented line.now }
 {
     match line {
@@ -72,8 +73,8 @@ fn put_line(
     Ok(())
 }
 
-/// The number behind this one.
-fn next_number(number: u32) -> Result<u32, Memory>
+/// The number of the line behind that of this number. An error is want of memory, as which the number past 2^32 - 1 counts.
+pub fn next_number(number: u32) -> Result<u32, Memory>
     ensures { IfOk result (λ next. next ≡ number + 1) }
 {
     number.checked_add(1).ok_or(Memory)

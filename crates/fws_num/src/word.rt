@@ -78,8 +78,8 @@ struct Reader {
     text: Text,
 }
 
-/// A space or a tab.
-pub(crate) fn is_blank(c: u8) -> bool
+/// Whether the byte is a space or a tab.
+pub fn is_blank(c: u8) -> bool
     ensures { result ≡ is_blank c }
 {
     c == b' ' || c == b'\t'

@@ -9,8 +9,8 @@ use fws_iv::{Ivs, one};
 use fws_net::{Cause, Lang, ReadFault, Site, entries_beginning, entry_named};
 use std::alloc::Global;
 
-/// What stands ahead of the mark at the end of a name.
-fn before_mark(mark: u8, text: &[u8]) -> Option<&[u8]>
+/// What stands ahead of the mark at the end of a text; nothing where it ends otherwise.
+pub fn before_mark(mark: u8, text: &[u8]) -> Option<&[u8]>
     ensures { MatchOption result (before_mark mark text.now ≡ None) (λ front. before_mark mark text.now ≡ Some front.now) }
 {
     let (last, front) = text.split_last()?;

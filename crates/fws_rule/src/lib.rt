@@ -9,7 +9,7 @@ mod networks;
 mod protocols;
 
 pub use compared::{is, is_given, is_one_of};
-pub use interfaces::read_interfaces;
+pub use interfaces::{before_mark, read_interfaces};
 pub use laws::conditions_hold_alike;
 pub use literals::{demand, negative, positive, put_literals};
 pub use networks::net_end;
