@@ -1,5 +1,5 @@
 -- What holds of a new packet all along a pass, if it holds as the packet enters it and tags and instances keep it.
-use Rattle.std.proofs.Common.{◌≡◌, ℕ, Bool, true, false, ◌++◌, not, nat_eq, nat_lt, Option, Some, None, filter, List, [], ◌∷◌, IfSome, option_and_then}
+use Rattle.std.proofs.Common.{◌≡◌, ℕ, Bool, true, false, ◌++◌, not, nat_eq, nat_lt, Option, Some, None, filter, List, [], ◌∷◌, IfSome}
 use Rattle.std.specs.List.{list_all}
 use Rattle.std.specs.Option.{option_map_or}
 use Rattle.std.proofs.lemmas.Bool.{cond_both}
@@ -28,11 +28,6 @@ abbrev IfLeft : (Transit → Type 0) → Step → Type 0
 IfLeft P (Accepted t) = P t
 IfLeft P Dropped = Unit
 IfLeft P (Onwards to m) = P m.transit
-
-pub then_kept : (P Q : Transit → Type 0) (next : Transit → Option Transit) → ((t : Transit) → P t → IfSome (next t) Q)
-    → (x : Option Transit) → IfSome x P → IfSome (option_and_then next x) Q
-then_kept P Q next step None h = tt
-then_kept P Q next step (Some t) h = step t h
 
 stepped_kept : (P : Transit → Type 0) (go : ℕ → Pass → Option Transit) → ((to : ℕ) (m : Pass) → P m.transit → IfSome (go to m) P) → (x : Step) → IfLeft P x → IfSome (stepped go x) P
 stepped_kept P go next (Accepted t) h = h

@@ -3,11 +3,11 @@ pub mod Counted
 pub mod Drafts
 pub mod Instances
 pub mod Kept
-pub mod Leaving
 pub mod Lists
 pub mod Ordered
 pub mod Outcomes
 pub mod Redirects
 pub mod Regular
 pub mod Texts
+pub mod Tracked
 pub mod Written

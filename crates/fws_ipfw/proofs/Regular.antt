@@ -1,103 +1,68 @@
 -- Walks are regular.
-use Rattle.std.proofs.Common.{◌≡◌, ◌≢◌, ℕ, true, false, ◌&&◌, Option, Some, None, refl, eqb-true}
+use Rattle.std.proofs.Common.{◌≡◌, Bool, true, false, ◌&&◌, Option, Some, None, refl}
 use Rattle.std.specs.List.{list_all}
-use Rattle.std.proofs.lemmas.Bool.{both_ways, and_parts}
+use Rattle.std.specs.Option.{option_map_or}
+use Rattle.std.proofs.lemmas.Bool.{and_parts}
 use Rattle.fws_net.specs.declared.packet.Packet.{Packet}
-use Rattle.fws_net.specs.declared.outcome.Rewrite.{Rewrite}
-use Rattle.fws_net.specs.declared.outcome.Outcome.TheVariants.{Accept}
-use Rattle.fws_net.specs.declared.connection.Rec.{Rec}
-use Rattle.fws_net.specs.declared.connection.Kind.{Kind}
-use Rattle.fws_net.specs.declared.connection.Kind.TheVariants.{New, Est}
 use Rattle.fws_net.specs.declared.site.Site.{Site}
 use Rattle.fws_net.specs.declared.transit.Transit.{Transit}
-use Rattle.fws_net.specs.Fates.{has_ports}
 use Rattle.fws_net.specs.RegularWalks.{IsRegularWalk}
-use Rattle.fws_net.specs.Transits.{nothing_written, outcome_of}
-use Rattle.fws_rule.specs.Alike.{Alike, ConditionsHoldAlike}
+use Rattle.fws_net.specs.Transits.{entered, with_dst, with_tracked_dst}
+use Rattle.fws_rule.specs.AlikeWays.{AlikePacketsStayAlike}
+use Rattle.fws_rule.specs.Regular.{AlikeWalksAreRegular, Part, StandsAsWritten, KeepsDestination, IsRegularPart, AreRegularParts, RegularPartsMakeAlikeWalks}
 use Rattle.fws_ipfw.specs.declared.config.IpfwConfig.{IpfwConfig}
+use Rattle.fws_ipfw.specs.declared.config.Redirect.{Redirect}
 use Rattle.fws_ipfw.specs.Regular.{SpelledWalksAreRegular}
 use Rattle.fws_ipfw.specs.Soundness.{rule_fits, nat_fits, are_apart, is_fitting}
-use Rattle.fws_ipfw.specs.Walk.{way_of, walk}
-use Rattle.fws_ipfw.proofs.AlikeWalks.{AlikeKinds, walk_alike}
-use Rattle.fws_ipfw.proofs.Leaving.{leaves, lost_drops}
+use Rattle.fws_ipfw.specs.Walk.{redirect_in, pass_walk, walk}
+use Rattle.fws_ipfw.proofs.AlikeWalks.{pass_alike}
+use Rattle.fws_ipfw.proofs.Kept.{pass_kept}
 use Rattle.fws_ipfw.proofs.Texts.{spelled_is_fitting}
-use Rattle.fws_ipfw.proofs.Written.{no_port_written}
+use Rattle.fws_ipfw.proofs.Tracked.{arrived_tracked}
+use Rattle.fws_ipfw.proofs.Written.{pass_portless}
 
-same_kind : (p : Packet) (k : Kind) → AlikeKinds p k k
-same_kind p New = tt
-same_kind p (Est r) = (refl, refl, λ on. refl, λ on. refl)
-
-ports_alike : (p : Packet) (x y : ℕ) → has_ports p.proto ≡ false → Alike (record p { dport = x; sport = y }) p
-ports_alike p x y off = record {
-  entry = refl;
-  proto = refl;
-  dst = refl;
-  src = refl;
-  dport = λ on. absurd (both_ways (has_ports p.proto) off on);
-  sport = λ on. absurd (both_ways (has_ports p.proto) off on);
-  flags = λ on. refl;
-  icmp = λ on. refl;
-}
-
-flags_alike : (p : Packet) (x : ℕ) → p.proto ≢ 6 → Alike (record p { flags = x }) p
-flags_alike p x off = record {
-  entry = refl;
-  proto = refl;
-  dst = refl;
-  src = refl;
-  dport = λ on. refl;
-  sport = λ on. refl;
-  flags = λ on. absurd (off (eqb-true p.proto 6 on));
-  icmp = λ on. refl;
-}
-
-icmp_alike : (p : Packet) (x : ℕ) → p.proto ≢ 1 → Alike (record p { icmp = x }) p
-icmp_alike p x off = record {
-  entry = refl;
-  proto = refl;
-  dst = refl;
-  src = refl;
-  dport = λ on. refl;
-  sport = λ on. refl;
-  flags = λ on. refl;
-  icmp = λ on. absurd (off (eqb-true p.proto 1 on));
-}
-
-itself_alike : (p : Packet) → Alike p p
-itself_alike p = record {
-  entry = refl;
-  proto = refl;
-  dst = refl;
-  src = refl;
-  dport = λ on. refl;
-  sport = λ on. refl;
-  flags = λ on. refl;
-  icmp = λ on. refl;
-}
-
-unwritten : (r : Rec) (way : Option Transit) (w : Rewrite) → outcome_of (Est r) way ≡ Accept w → w ≡ nothing_written
-unwritten r None w e = absurd (cc)
-unwritten r (Some t) w e = cc
+moved_stands : (p : Packet) (o : Option Redirect) (t : Transit) → StandsAsWritten p t → StandsAsWritten p (option_map_or (λ r. with_dst p r.local t) o t)
+moved_stands p None t h = h
+moved_stands p (Some r) t h = refl
 
 -- where instances fit, and rules name instances that are there
-pub fitting_regular : ConditionsHoldAlike → (site : Site) (c : IpfwConfig) → is_fitting c ≡ true → IsRegularWalk site (walk c site)
-fitting_regular alike site c fit =
+module _ (stay : AlikePacketsStayAlike) (c : IpfwConfig) (site : Site) (rules : list_all (rule_fits c.nats) c.rules ≡ true) (nats : list_all nat_fits c.nats ≡ true) where
+  abbrev on_pass : Bool → Part
+  on_pass outward p k t = pass_walk c site p k outward t
+
+  -- the host's own packets have the destination with which they leave from the start
+  abbrev sent : Part
+  sent p k t = pass_walk c site p k true (with_tracked_dst k t)
+
+  regular_pass : (outward : Bool) → IsRegularPart (on_pass outward)
+  regular_pass outward = record {
+    alike = λ p q k l a same. pass_alike p q (stay p q a) k l same c site nats outward;
+    portless = λ p off t h. pass_portless c site p nats off outward t h;
+  }
+
+  regular_parts : AreRegularParts (on_pass false) (λ p k. Some) (on_pass true) sent
+  regular_parts = record {
+    arrives = regular_pass false;
+    delivers = record { alike = λ p q k l a same t u h. h; portless = λ p off t h. h };
+    forwards = regular_pass true;
+    sends = record {
+      alike = λ p q k l a same t u h. pass_alike p q (stay p q a) k l same c site nats true _ _ ((stay p q a).with_tracked_dst k l same t u h);
+      portless = λ p off t h. pass_portless c site p nats off true t h;
+    };
+    routed = λ p.
+        pass_kept c site p nats (StandsAsWritten p) false (λ xs t h. h) (λ nat fits t h. moved_stands p (redirect_in nat.redirects t.packet) t h) (entered p) refl;
+    delivered = λ p t. refl;
+    forwarded = λ p t. pass_kept c site p nats (KeepsDestination t) true (λ xs u h. h) (λ nat fits u h. h) t refl;
+    tracked = λ p r. arrived_tracked c site p r rules (entered p);
+  }
+
+pub fitting_regular : AlikePacketsStayAlike → RegularPartsMakeAlikeWalks → AlikeWalksAreRegular
+    → (site : Site) (c : IpfwConfig) → is_fitting c ≡ true → IsRegularWalk site (walk c site)
+fitting_regular stay make regular site c fit =
     let rules = list_all (rule_fits c.nats) c.rules in
     let nats = list_all nat_fits c.nats in
     let both = and_parts rules nats (and_parts (rules && nats) (are_apart c.nats) fit).0 in
-    record {
-      ports = λ p k x y off.
-          walk_alike alike c site both.1 (record p { dport = x; sport = y }) p k k (ports_alike p x y off) (same_kind (record p { dport = x; sport = y }) k);
-      sent_ports = λ p r x y off.
-          walk_alike alike c site both.1 p p (Est (record r { rdport = x; rsport = y })) (Est r) (itself_alike p)
-          (refl, refl, λ on. absurd (both_ways (has_ports p.proto) off on), λ on. absurd (both_ways (has_ports p.proto) off on));
-      flags = λ p k x off. walk_alike alike c site both.1 (record p { flags = x }) p k k (flags_alike p x off) (same_kind (record p { flags = x }) k);
-      icmp = λ p k x off. walk_alike alike c site both.1 (record p { icmp = x }) p k k (icmp_alike p x off) (same_kind (record p { icmp = x }) k);
-      written = no_port_written c site both.1;
-      unwritten = λ p r w e. unwritten r (way_of c site p (Est r)) w e;
-      leaves = leaves c site both.1;
-      lost = lost_drops c site both.0;
-    }
+    regular site (walk c site) (make site _ _ _ _ (regular_parts stay c site both.0 both.1))
 
-pub spelled_walks_are_regular : ConditionsHoldAlike → SpelledWalksAreRegular
-spelled_walks_are_regular alike site text c e = fitting_regular alike site c (spelled_is_fitting site text c e).0
+pub spelled_walks_are_regular : AlikePacketsStayAlike → RegularPartsMakeAlikeWalks → AlikeWalksAreRegular → SpelledWalksAreRegular
+spelled_walks_are_regular stay make regular site text c e = fitting_regular stay make regular site c (spelled_is_fitting site text c e).0

@@ -1,12 +1,11 @@
 -- A text of rules as `ipfw list` prints them and scripts add them (ipfw(8)): its configuration, or its first refused line
 -- with the cause.
-use Rattle.std.specs.Prelude.{ℕ, ◌+◌, Bool, true, false, ◌&&◌, ◌||◌, not, nat_eq, nat_le, nat_lt, max, Option, Some, None, is_some, option_map, option_and_then, Result, Ok, Err, List, [], ◌∷◌, ◌++◌, length, codes, if◌then◌else◌}
+use Rattle.std.specs.Prelude.{ℕ, ◌+◌, Bool, true, false, ◌&&◌, ◌||◌, nat_eq, nat_le, nat_lt, max, Option, None, is_some, option_map, Result, Ok, Err, List, [], ◌∷◌, ◌++◌, length, codes, if◌then◌else◌}
 use Rattle.std.specs.List.{list_any}
-use Rattle.std.specs.Option.{option_map_or, ok_or}
+use Rattle.std.specs.Option.{option_map_or}
 use Rattle.std.specs.Str.{bytes_eq}
 use Rattle.fws_num.specs.declared.comments.Comments.TheVariants.{Ipfw}
 use Rattle.fws_num.specs.declared.lines.Line.{Line}
-use Rattle.fws_num.specs.declared.lines.Lines.{Lines}
 use Rattle.fws_num.specs.declared.word.Word.{Word}
 use Rattle.fws_num.specs.Lines.{read_of}
 use Rattle.fws_num.specs.Words.{is_sound}

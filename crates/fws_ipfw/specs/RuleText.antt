@@ -1,7 +1,7 @@
 -- A rule behind its number: an action, a protocol, two addresses, and options in any order (ipfw(8)).
 use Rattle.std.specs.Prelude.{ℕ, ◌-◌, ◌^◌, Bool, true, false, ◌&&◌, ◌||◌, not, nat_eq, nat_le, Option, Some, None, is_some, option_map, Result, Ok, Err, List, [], ◌∷◌, ◌++◌, codes, if◌then◌else◌}
 use Rattle.std.specs.List.{list_any}
-use Rattle.std.specs.Option.{option_map_or, ok_or}
+use Rattle.std.specs.Option.{option_map_or}
 use Rattle.std.specs.Str.{bytes_eq}
 use Rattle.fws_iv.specs.declared.iv.Iv.{Iv}
 use Rattle.fws_num.specs.declared.word.Word.{Word}
@@ -13,7 +13,7 @@ use Rattle.fws_net.specs.declared.cause.Cause.{Cause}
 use Rattle.fws_net.specs.declared.cause.Cause.TheVariants.{Syntax, LeftOut, NoName}
 use Rattle.fws_net.specs.declared.cause.Checks.{Checks}
 use Rattle.fws_net.specs.declared.site.Site.{Site}
-use Rattle.fws_net.specs.Causes.{checked, words_read}
+use Rattle.fws_net.specs.Causes.{words_read}
 use Rattle.fws_net.specs.Ports.{ports_of}
 use Rattle.fws_net.specs.Reading.{and_then}
 use Rattle.fws_rule.specs.Literals.{positive, literals, protocol_literal}

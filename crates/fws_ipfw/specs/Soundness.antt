@@ -1,10 +1,10 @@
 -- What holds of every configuration that a text spells.
-use Rattle.std.specs.Prelude.{◌≡◌, ℕ, Bool, true, false, ◌&&◌, ◌||◌, not, nat_eq, nat_le, nat_lt, Option, is_none, is_some, Ok, List, [], ◌∷◌}
-use Rattle.std.specs.List.{list_all, list_any}
+use Rattle.std.specs.Prelude.{◌≡◌, ℕ, Bool, true, false, ◌&&◌, ◌||◌, not, nat_le, nat_lt, is_none, is_some, Ok, List, [], ◌∷◌}
+use Rattle.std.specs.List.{list_all}
 use Rattle.fws_net.specs.declared.condition.Lit.{Lit}
 use Rattle.fws_net.specs.declared.site.Site.{Site}
 use Rattle.fws_ipfw.specs.declared.config.IpfwAct.{IpfwAct}
-use Rattle.fws_ipfw.specs.declared.config.IpfwAct.TheVariants.{Allow, Skip, Check, Nat}
+use Rattle.fws_ipfw.specs.declared.config.IpfwAct.TheVariants.{Skip, Check, Nat}
 use Rattle.fws_ipfw.specs.declared.config.IpfwTag.{IpfwTag}
 use Rattle.fws_ipfw.specs.declared.config.IpfwTag.TheVariants.{Nothing, Add, Remove}
 use Rattle.fws_ipfw.specs.declared.config.IpfwRule.{IpfwRule}

@@ -1,5 +1,5 @@
 -- The values of a rule's words, and the tests that they mean (ipfw(8)).
-use Rattle.std.specs.Prelude.{ℕ, Bool, true, false, ◌&&◌, ◌||◌, not, nat_eq, nat_le, bit_or, bit_and, Option, Some, None, is_some, option_map, option_and_then, Result, Ok, Err, List, [], ◌∷◌, ◌++◌, codes, if◌then◌else◌}
+use Rattle.std.specs.Prelude.{ℕ, true, ◌||◌, nat_eq, bit_or, bit_and, Option, Some, None, is_some, option_map, option_and_then, Result, Ok, Err, List, [], ◌∷◌, ◌++◌, codes, if◌then◌else◌}
 use Rattle.std.specs.Option.{option_map_or}
 use Rattle.std.specs.Str.{bytes_eq}
 use Rattle.fws_iv.specs.declared.iv.Iv.{Iv}

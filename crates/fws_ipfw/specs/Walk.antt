@@ -1,5 +1,5 @@
 -- What one packet meets, rule by rule (ipfw(8)).
-use Rattle.std.specs.Prelude.{ℕ, Bool, true, false, ◌&&◌, ◌||◌, nat_eq, nat_lt, Option, Some, None, is_none, option_map, List, [], ◌∷◌, if◌then◌else◌}
+use Rattle.std.specs.Prelude.{ℕ, Bool, true, false, ◌&&◌, nat_eq, nat_lt, Option, Some, None, is_none, List, [], ◌∷◌, if◌then◌else◌}
 use Rattle.std.specs.List.{find}
 use Rattle.std.specs.Option.{option_map_or}
 use Rattle.fws_net.specs.declared.packet.Packet.{Packet}

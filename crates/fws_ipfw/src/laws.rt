@@ -3,7 +3,7 @@
 ghost use Rattle.fws_ipfw.specs.Regular.{FittingWalksAreRegular, SpelledWalksAreRegular};
 ghost use Rattle.fws_ipfw.specs.Soundness.{SpelledFits};
 
-use fws_rule::conditions_hold_alike;
+use fws_rule::{alike_packets_stay_alike, alike_walks_are_regular, regular_parts_make_alike_walks};
 
 /// Every configuration that a text spells is fitting, and its rules stand by their numbers: a law, with
 /// nothing to do.
@@ -15,12 +15,16 @@ pub fn spelled_fits()
 pub fn fitting_walks_are_regular()
     ensures { FittingWalksAreRegular }
 {
-    conditions_hold_alike();
+    alike_packets_stay_alike();
+    regular_parts_make_alike_walks();
+    alike_walks_are_regular();
 }
 
 /// The walk of every configuration that a text spells is regular: a law, with nothing to do.
 pub fn spelled_walks_are_regular()
     ensures { SpelledWalksAreRegular }
 {
-    conditions_hold_alike();
+    alike_packets_stay_alike();
+    regular_parts_make_alike_walks();
+    alike_walks_are_regular();
 }

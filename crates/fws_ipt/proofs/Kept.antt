@@ -48,10 +48,10 @@ by_policy_kept P accepts Dropped h = tt
 by_policy_kept P true (Through m) h = h
 by_policy_kept P false (Through m) h = tt
 
-pub then_kept : (P Q : Passage → Type 0) (next : Passage → Option Passage) → ((m : Passage) → P m → IfSome (next m) Q)
-    → (x : Option Passage) → IfSome x P → IfSome (option_and_then next x) Q
-then_kept P Q next step None h = tt
-then_kept P Q next step (Some m) h = step m h
+then_kept : (P : Passage → Type 0) (next : Passage → Option Passage) → ((m : Passage) → P m → IfSome (next m) P)
+    → (x : Option Passage) → IfSome x P → IfSome (option_and_then next x) P
+then_kept P next step None h = tt
+then_kept P next step (Some m) h = step m h
 
 -- it is kept by rules of which something is known, at hooks of which something is known
 module _ (c : IptConfig) (site : Site) (p : Packet) (P : Passage → Type 0) (is_known : IptRule → Bool) (is_met : Hook → Bool)
@@ -114,5 +114,5 @@ module _ (c : IptConfig) (site : Site) (p : Packet) (P : Passage → Type 0) (is
   visits_kept [] all m h = h
   visits_kept (at ∷ rest) all m h =
       let both = and_parts (is_met at.1) (list_all (λ other. is_met other.1) rest) all in
-      then_kept P P (visits c site p New rest) (visits_kept rest both.1) _
+      then_kept P (visits c site p New rest) (visits_kept rest both.1) _
       (builtin_kept at.1 both.0 (builtin_from 0 at.0 at.1 c.chains) m h)

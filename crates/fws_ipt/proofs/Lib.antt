@@ -3,13 +3,14 @@ pub mod Apart
 pub mod Drafts
 pub mod Heights
 pub mod Kept
-pub mod Leaving
 pub mod Levels
 pub mod Loops
 pub mod Outcomes
 pub mod Prefixes
 pub mod Refused
 pub mod Regular
+pub mod Routed
+pub mod Shown
 pub mod Texts
 pub mod Told
 pub mod Users

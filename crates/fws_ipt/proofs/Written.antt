@@ -1,8 +1,8 @@
 -- Ports are written for TCP and UDP alone, where the rules that write them ask for these.
-use Rattle.std.proofs.Common.{◌≡◌, ℕ, zero, suc, ◌≤◌, Bool, true, false, ◌&&◌, ◌||◌, nat_eq, nat_le, Option, Some, None, is_none, List, [], ◌∷◌, IfSome, arith, refl, ap, ◌∙◌, subst, option_and_then, eqb-true, ⊎_elim}
+use Rattle.std.proofs.Common.{◌≡◌, ℕ, zero, suc, ◌≤◌, Bool, true, false, ◌&&◌, ◌||◌, nat_eq, nat_le, Option, Some, None, is_none, List, [], ◌∷◌, IfSome, arith, refl, ap, ◌∙◌, subst, eqb-true, ⊎_elim}
 use Rattle.std.specs.Prelude.{not}
 use Rattle.std.specs.List.{list_all}
-use Rattle.std.proofs.lemmas.Bool.{false≢true, both_ways, false_from_ne_true, and_parts, or_cases, leb-true, cond_both}
+use Rattle.std.proofs.lemmas.Bool.{false≢true, both_ways, false_from_ne_true, and_parts, or_cases, leb-true}
 use Rattle.fws_iv.specs.declared.iv.Iv.{Iv}
 use Rattle.fws_iv.specs.Ivs.{has}
 use Rattle.fws_net.specs.declared.packet.Packet.{Packet}
@@ -10,16 +10,12 @@ use Rattle.fws_net.specs.declared.condition.Lit.{Lit}
 use Rattle.fws_net.specs.declared.condition.Test.{Test}
 use Rattle.fws_net.specs.declared.condition.Test.TheVariants.{Proto}
 use Rattle.fws_net.specs.declared.view.View.{View}
-use Rattle.fws_net.specs.declared.outcome.Rewrite.{Rewrite}
-use Rattle.fws_net.specs.declared.outcome.Outcome.TheVariants as outcomes
 use Rattle.fws_net.specs.declared.connection.Kind.TheVariants.{New}
-use Rattle.fws_net.specs.declared.exit.Exit.{Exit}
-use Rattle.fws_net.specs.declared.exit.Exit.TheVariants.{Deliver, Out, Lost}
 use Rattle.fws_net.specs.declared.site.Site.{Site}
+use Rattle.fws_net.specs.declared.transit.Transit.{Transit}
 use Rattle.fws_net.specs.Conditions.{test_holds, lit_holds, holds}
 use Rattle.fws_net.specs.Fates.{has_ports}
-use Rattle.fws_net.specs.RegularWalks.{WritesNoPort}
-use Rattle.fws_net.specs.Routes.{exit_at}
+use Rattle.fws_rule.specs.Regular.{IsPortless}
 use Rattle.fws_ipt.specs.declared.config.IptTable.{IptTable}
 use Rattle.fws_ipt.specs.declared.config.IptGo.{IptGo}
 use Rattle.fws_ipt.specs.declared.config.IptGo.TheVariants.{Mark, Source, Masquerade, Dest, Redirect, Netmap}
@@ -30,9 +26,9 @@ use Rattle.fws_ipt.specs.declared.hook.Hook.{Hook}
 use Rattle.fws_ipt.specs.declared.passage.Passage.{Passage}
 use Rattle.fws_ipt.specs.Regular.{is_port_asked, ports_are_asked}
 use Rattle.fws_ipt.specs.Spelled.{tests_protocol, asks_protocol, asks_ports, may_write}
-use Rattle.fws_ipt.specs.Walk.{view_at, rules_at, visits, arriving, delivered, forwarded, sent_out, go_to, routed, entering, way_of, walk}
-use Rattle.fws_ipt.proofs.Kept.{Writes, then_kept, visits_kept}
-use Rattle.fws_ipt.proofs.Leaving.{accepted_holds}
+use Rattle.fws_ipt.specs.Walk.{view_at, rules_at, visits}
+use Rattle.fws_ipt.proofs.Kept.{Writes, visits_kept}
+use Rattle.fws_ipt.proofs.Shown.{transit_of, passage_of, visiting, shown_holds}
 
 -- What is asked for
 
@@ -84,10 +80,8 @@ none_there (Some x) e = absurd (false≢true e)
 -- The way
 
 module _ (c : IptConfig) (site : Site) (p : Packet) (asking : ports_are_asked c ≡ true) (off : has_ports p.proto ≡ false) where
-  -- still the same protocol, and no port was written
-  record Portless (m : Passage) : Type 0 where
-    proto : m.packet.proto ≡ p.proto
-    wrote : WritesNoPort m.wrote
+  abbrev Portless : Passage → Type 0
+  Portless m = IsPortless p (transit_of m)
 
   rules_ask : (chains : List IptChain) → list_all (λ chain. list_all is_port_asked chain.rules) chains ≡ true → (n : ℕ) → list_all is_port_asked (rules_at chains n) ≡ true
   rules_ask [] all n = refl
@@ -111,28 +105,9 @@ module _ (c : IptConfig) (site : Site) (p : Packet) (asking : ports_are_asked c 
       let neither = asks_neither (view_at site false hook m) rule.cond on (ap has_ports h.proto ∙ off) in
       writes_none hook rule.go m (subst (λ b. may_write b rule.go ≡ true) neither known) h
 
-  visited : (stations : List (IptTable × Hook)) → list_all (λ at. true) stations ≡ true → (m : Passage) → Portless m → IfSome (visits c site p New stations m) Portless
-  visited stations all m h =
-      visits_kept c site p Portless is_port_asked (λ hook. true) (rules_ask c.chains asking) (λ hook met rule known n k on. rule_keeps hook rule known n k on) stations all m h
-
-  gone : (exit : Exit) (m : Passage) → Portless m → IfSome (go_to c site p New exit m) Portless
-  gone Deliver m h = visited delivered refl m h
-  gone (Out entry) m h = visited forwarded refl m h
-  gone Lost m h = tt
-
-  way_portless : IfSome (way_of c site p New) Portless
-  way_portless =
-      let start : Portless (entering p) = record { proto = refl; wrote = (tt, tt) } in
-      cond_both (nat_eq p.entry 0) (visits c site p New sent_out (entering p)) (option_and_then (routed c site p New) (visits c site p New arriving (entering p)))
-      (λ way. IfSome way Portless)
-      (λ host. visited sent_out refl (entering p) start)
-      (λ other. then_kept Portless Portless (routed c site p New) (λ m h. gone (exit_at site p.entry m.packet.dst) m h) _ (visited arriving refl (entering p) start))
-
-  way_written : (way : Option Passage) → IfSome way Portless → IfSome way (λ m. WritesNoPort m.wrote)
-  way_written None h = tt
-  way_written (Some m) h = h.wrote
-
-pub no_port_written : (c : IptConfig) (site : Site) → ports_are_asked c ≡ true
-    → (p : Packet) (w : Rewrite) → walk c site p New ≡ outcomes.Accept w → has_ports p.proto ≡ false → WritesNoPort w
-no_port_written c site asking p w e off =
-    accepted_holds WritesNoPort (way_of c site p New) w e (way_written c site p asking off (way_of c site p New) (way_portless c site p asking off))
+  pub visiting_portless : (stations : List (IptTable × Hook)) → list_all (λ at. true) stations ≡ true → (t : Transit) → IsPortless p t
+      → IfSome (visiting c site stations p New t) (IsPortless p)
+  visiting_portless stations all t h =
+      shown_holds (IsPortless p) (visits c site p New stations (passage_of t))
+      (visits_kept c site p Portless is_port_asked (λ hook. true) (rules_ask c.chains asking) (λ hook met rule known n k on. rule_keeps hook rule known n k on) stations all
+      (passage_of t) (record { proto = h.proto; wrote = h.wrote }))

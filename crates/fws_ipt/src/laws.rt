@@ -5,7 +5,7 @@ ghost use Rattle.fws_ipt.specs.Regular.{AskedWalksAreRegular, SpelledWalksAreReg
 ghost use Rattle.fws_ipt.specs.Soundness.{SpelledChains, SpelledFits};
 ghost use Rattle.fws_ipt.specs.Spelled.{SpelledConditions, SpelledNetworks};
 
-use fws_rule::conditions_hold_alike;
+use fws_rule::{alike_packets_stay_alike, alike_walks_are_regular, regular_parts_make_alike_walks};
 
 /// Every configuration that a text spells is fitting: a law, with nothing to do.
 pub fn spelled_fits()
@@ -85,12 +85,16 @@ pub fn walks_unfold()
 pub fn asked_walks_are_regular()
     ensures { AskedWalksAreRegular }
 {
-    conditions_hold_alike();
+    alike_packets_stay_alike();
+    regular_parts_make_alike_walks();
+    alike_walks_are_regular();
 }
 
 /// The walk of every configuration that a text spells is regular: a law, with nothing to do.
 pub fn spelled_walks_are_regular()
     ensures { SpelledWalksAreRegular }
 {
-    conditions_hold_alike();
+    alike_packets_stay_alike();
+    regular_parts_make_alike_walks();
+    alike_walks_are_regular();
 }

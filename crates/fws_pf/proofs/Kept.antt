@@ -1,5 +1,5 @@
 -- What holds of a new packet all along a pass, if it holds as the packet enters it and tags, verdicts and translations keep it.
-use Rattle.std.proofs.Common.{◌≡◌, ℕ, Bool, true, Option, Some, None, List, [], ◌∷◌, IfSome, option_and_then}
+use Rattle.std.proofs.Common.{◌≡◌, ℕ, Bool, true, Option, Some, None, List, [], ◌∷◌, IfSome}
 use Rattle.std.specs.List.{list_all}
 use Rattle.std.specs.Option.{option_map_or}
 use Rattle.std.proofs.lemmas.Bool.{and_parts, cond_both}
@@ -12,11 +12,6 @@ use Rattle.fws_pf.specs.declared.config.PfConfig.{PfConfig}
 use Rattle.fws_pf.specs.declared.config.PfNat.{PfNat}
 use Rattle.fws_pf.specs.declared.config.PfRule.{PfRule}
 use Rattle.fws_pf.specs.Walk.{view_on, tagged, written, translated_by, translations, chosen, matches, acted, rules_walk, behind, interface_of, pass_walk}
-
-pub then_kept : (P Q : Transit → Type 0) (next : Transit → Option Transit) → ((t : Transit) → P t → IfSome (next t) Q)
-    → (x : Option Transit) → IfSome x P → IfSome (option_and_then next x) Q
-then_kept P Q next step None h = tt
-then_kept P Q next step (Some t) h = step t h
 
 -- the translation that is chosen passes a test that all pass, and its condition holds
 chosen_known : (site : Site) (outward : Bool) (test : PfNat → Bool) (nats : List PfNat) → list_all test nats ≡ true → (t : Transit)

@@ -1,7 +1,6 @@
 pub mod AlikeWalks
 pub mod Crossed
 pub mod Kept
-pub mod Leaving
 pub mod Lists
 pub mod Outcomes
 pub mod Readings

@@ -1,81 +1,22 @@
 -- Walks are regular.
-use Rattle.std.proofs.Common.{◌≡◌, ◌≢◌, ℕ, suc, Bool, true, false, ◌&&◌, Option, Some, None, length, refl, eqb-true}
+use Rattle.std.proofs.Common.{◌≡◌, suc, Bool, true, false, ◌&&◌, Option, Some, None, length, refl}
 use Rattle.std.specs.List.{list_all}
-use Rattle.std.proofs.lemmas.Bool.{both_ways, and_parts, cond_both}
+use Rattle.std.specs.Option.{option_map_or}
+use Rattle.std.proofs.lemmas.Bool.{and_parts, cond_both}
 use Rattle.fws_net.specs.declared.packet.Packet.{Packet}
-use Rattle.fws_net.specs.declared.outcome.Rewrite.{Rewrite}
-use Rattle.fws_net.specs.declared.outcome.Outcome.TheVariants.{Accept}
-use Rattle.fws_net.specs.declared.connection.Rec.{Rec}
-use Rattle.fws_net.specs.declared.connection.Kind.{Kind}
-use Rattle.fws_net.specs.declared.connection.Kind.TheVariants.{New, Est}
+use Rattle.fws_net.specs.declared.outcome.End.{End}
 use Rattle.fws_net.specs.declared.site.Site.{Site}
 use Rattle.fws_net.specs.declared.transit.Transit.{Transit}
-use Rattle.fws_net.specs.Fates.{has_ports}
 use Rattle.fws_net.specs.RegularWalks.{IsRegularWalk}
-use Rattle.fws_net.specs.Transits.{nothing_written, outcome_of}
-use Rattle.fws_rule.specs.Alike.{Alike, ConditionsHoldAlike}
+use Rattle.fws_net.specs.Transits.{entered}
+use Rattle.fws_rule.specs.AlikeWays.{AlikePacketsStayAlike}
+use Rattle.fws_rule.specs.Regular.{AlikeWalksAreRegular, Part, StandsAsWritten, KeepsDestination, IsRegularPart, AreRegularParts, RegularPartsMakeAlikeWalks}
 use Rattle.fws_pf.specs.declared.config.PfConfig.{PfConfig}
 use Rattle.fws_pf.specs.Soundness.{is_entry, rule_fits, nat_fits, is_fitting}
-use Rattle.fws_pf.specs.Walk.{translations, way_of, walk}
-use Rattle.fws_pf.proofs.AlikeWalks.{AlikeKinds, walk_alike}
-use Rattle.fws_pf.proofs.Leaving.{leaves, lost_drops}
-use Rattle.fws_pf.proofs.Written.{no_port_written}
-
-same_kind : (p : Packet) (k : Kind) → AlikeKinds p k k
-same_kind p New = tt
-same_kind p (Est r) = (refl, refl, λ on. refl, λ on. refl)
-
-ports_alike : (p : Packet) (x y : ℕ) → has_ports p.proto ≡ false → Alike (record p { dport = x; sport = y }) p
-ports_alike p x y off = record {
-  entry = refl;
-  proto = refl;
-  dst = refl;
-  src = refl;
-  dport = λ on. absurd (both_ways (has_ports p.proto) off on);
-  sport = λ on. absurd (both_ways (has_ports p.proto) off on);
-  flags = λ on. refl;
-  icmp = λ on. refl;
-}
-
-flags_alike : (p : Packet) (x : ℕ) → p.proto ≢ 6 → Alike (record p { flags = x }) p
-flags_alike p x off = record {
-  entry = refl;
-  proto = refl;
-  dst = refl;
-  src = refl;
-  dport = λ on. refl;
-  sport = λ on. refl;
-  flags = λ on. absurd (off (eqb-true p.proto 6 on));
-  icmp = λ on. refl;
-}
-
-icmp_alike : (p : Packet) (x : ℕ) → p.proto ≢ 1 → Alike (record p { icmp = x }) p
-icmp_alike p x off = record {
-  entry = refl;
-  proto = refl;
-  dst = refl;
-  src = refl;
-  dport = λ on. refl;
-  sport = λ on. refl;
-  flags = λ on. refl;
-  icmp = λ on. absurd (off (eqb-true p.proto 1 on));
-}
-
-itself_alike : (p : Packet) → Alike p p
-itself_alike p = record {
-  entry = refl;
-  proto = refl;
-  dst = refl;
-  src = refl;
-  dport = λ on. refl;
-  sport = λ on. refl;
-  flags = λ on. refl;
-  icmp = λ on. refl;
-}
-
-unwritten : (r : Rec) (way : Option Transit) (w : Rewrite) → outcome_of (Est r) way ≡ Accept w → w ≡ nothing_written
-unwritten r None w e = absurd (cc)
-unwritten r (Some t) w e = cc
+use Rattle.fws_pf.specs.Walk.{written, translations, pass_of, walk}
+use Rattle.fws_pf.proofs.AlikeWalks.{pass_alike}
+use Rattle.fws_pf.proofs.Kept.{pass_kept}
+use Rattle.fws_pf.proofs.Written.{pass_portless}
 
 -- the translations of a pass fit
 fits_on : (site : Site) (c : PfConfig) → is_fitting site c ≡ true → (outward : Bool) → list_all (nat_fits (length c.tags)) (translations c outward) ≡ true
@@ -86,20 +27,40 @@ fits_on site c fit outward =
     let three = and_parts (skip && rdr) nat (and_parts (skip && rdr && nat) (list_all (rule_fits (length c.tags)) c.filter) fit).0 in
     cond_both outward c.nat c.rdr (λ nats. list_all (nat_fits (length c.tags)) nats ≡ true) (λ e. three.1) (λ e. (and_parts skip rdr three.0).1)
 
--- where translations fit
-pub fitting_regular : ConditionsHoldAlike → (site : Site) (c : PfConfig) → is_fitting site c ≡ true → IsRegularWalk site (walk c site)
-fitting_regular alike site c fit =
-    let fits = fits_on site c fit in
-    record {
-      ports = λ p k x y off.
-          walk_alike alike c site (record p { dport = x; sport = y }) p k k (ports_alike p x y off) (same_kind (record p { dport = x; sport = y }) k);
-      sent_ports = λ p r x y off.
-          walk_alike alike c site p p (Est (record r { rdport = x; rsport = y })) (Est r) (itself_alike p)
-          (refl, refl, λ on. absurd (both_ways (has_ports p.proto) off on), λ on. absurd (both_ways (has_ports p.proto) off on));
-      flags = λ p k x off. walk_alike alike c site (record p { flags = x }) p k k (flags_alike p x off) (same_kind (record p { flags = x }) k);
-      icmp = λ p k x off. walk_alike alike c site (record p { icmp = x }) p k k (icmp_alike p x off) (same_kind (record p { icmp = x }) k);
-      written = no_port_written c site (length c.tags) fits;
-      unwritten = λ p r w e. unwritten r (way_of c site p (Est r)) w e;
-      leaves = leaves c site (nat_fits (length c.tags)) fits;
-      lost = lost_drops c site;
-    }
+moved_stands : (p : Packet) (to : Option End) (t : Transit) → StandsAsWritten p t → StandsAsWritten p (option_map_or (λ e. written p false e t) to t)
+moved_stands p None t h = h
+moved_stands p (Some e) t h = refl
+
+moved_keeps : (p : Packet) (t : Transit) (to : Option End) (u : Transit) → KeepsDestination t u → KeepsDestination t (option_map_or (λ e. written p true e u) to u)
+moved_keeps p t None u h = h
+moved_keeps p t (Some e) u h = h
+
+module _ (stay : AlikePacketsStayAlike) (c : PfConfig) (site : Site) (fit : is_fitting site c ≡ true) where
+  abbrev on_pass : Bool → Part
+  on_pass outward p k t = pass_of c site p k outward t
+
+  regular_pass : (outward : Bool) → IsRegularPart (on_pass outward)
+  regular_pass outward = record {
+    alike = λ p q k l a same. pass_alike c site p q (stay p q a) outward k l same;
+    portless = λ p off t h. pass_portless c site p (length c.tags) (fits_on site c fit) off outward t h;
+  }
+
+  regular_parts : AreRegularParts (on_pass false) (λ p k. Some) (on_pass true) (on_pass true)
+  regular_parts = record {
+    arrives = regular_pass false;
+    delivers = record { alike = λ p q k l a same t u h. h; portless = λ p off t h. h };
+    forwards = regular_pass true;
+    sends = regular_pass true;
+    routed = λ p.
+        pass_kept c site p (StandsAsWritten p) false (nat_fits (length c.tags)) (fits_on site c fit false) (λ xs t h. h) (λ accepts t h. h)
+        (λ nat fits t on h. moved_stands p nat.to t h) (entered p) refl;
+    delivered = λ p t. refl;
+    forwarded = λ p t.
+        pass_kept c site p (KeepsDestination t) true (nat_fits (length c.tags)) (fits_on site c fit true) (λ xs u h. h) (λ accepts u h. h)
+        (λ nat fits u on h. moved_keeps p t nat.to u h) t refl;
+    tracked = λ p r. refl;
+  }
+
+pub fitting_regular : AlikePacketsStayAlike → RegularPartsMakeAlikeWalks → AlikeWalksAreRegular
+    → (site : Site) (c : PfConfig) → is_fitting site c ≡ true → IsRegularWalk site (walk c site)
+fitting_regular stay make regular site c fit = regular site (walk c site) (make site _ _ _ _ (regular_parts stay c site fit))

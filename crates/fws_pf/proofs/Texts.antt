@@ -12,7 +12,8 @@ use Rattle.fws_net.specs.declared.condition.Test.{Test}
 use Rattle.fws_net.specs.declared.condition.Test.TheVariants as tests
 use Rattle.fws_net.specs.declared.site.Site.{Site}
 use Rattle.fws_net.specs.Reading.{located, lines_read}
-use Rattle.fws_rule.specs.Alike.{ConditionsHoldAlike}
+use Rattle.fws_rule.specs.AlikeWays.{AlikePacketsStayAlike}
+use Rattle.fws_rule.specs.Regular.{AlikeWalksAreRegular, RegularPartsMakeAlikeWalks}
 use Rattle.fws_pf.specs.declared.config.PfConfig.{PfConfig}
 use Rattle.fws_pf.specs.declared.config.PfNat.{PfNat}
 use Rattle.fws_pf.specs.declared.config.PfRule.{PfRule}
@@ -204,5 +205,5 @@ spelled_fitting site text =
 pub spelled_is_fitting : SpelledFits
 spelled_is_fitting site text c e = IfOk-at_ok (Fitting site) e (spelled_fitting site text)
 
-pub spelled_walks_are_regular : ConditionsHoldAlike → SpelledWalksAreRegular
-spelled_walks_are_regular alike site text c e = fitting_regular alike site c (spelled_is_fitting site text c e)
+pub spelled_walks_are_regular : AlikePacketsStayAlike → RegularPartsMakeAlikeWalks → AlikeWalksAreRegular → SpelledWalksAreRegular
+spelled_walks_are_regular stay make regular site text c e = fitting_regular stay make regular site c (spelled_is_fitting site text c e)

@@ -1,8 +1,8 @@
 -- Ports are written for TCP and UDP alone.
-use Rattle.std.proofs.Common.{◌≡◌, ℕ, ◌≤◌, Bool, true, false, ◌&&◌, ◌||◌, not, nat_eq, nat_le, Option, Some, None, List, [], ◌∷◌, IfSome, arith, refl, ap, ◌∙◌, subst, option_and_then, ⊎_elim}
+use Rattle.std.proofs.Common.{◌≡◌, ℕ, ◌≤◌, Bool, true, false, ◌&&◌, ◌||◌, not, nat_eq, nat_le, Option, Some, None, List, [], ◌∷◌, IfSome, arith, refl, ap, ◌∙◌, subst, ⊎_elim}
 use Rattle.std.specs.List.{list_all}
 use Rattle.std.specs.Option.{option_map_or}
-use Rattle.std.proofs.lemmas.Bool.{false≢true, both_ways, and_parts, or_cases, leb-true, eqb-true, cond_both}
+use Rattle.std.proofs.lemmas.Bool.{false≢true, both_ways, and_parts, or_cases, leb-true, eqb-true}
 use Rattle.fws_iv.specs.declared.iv.Iv.{Iv}
 use Rattle.fws_iv.specs.Ivs.{in_part}
 use Rattle.fws_net.specs.declared.condition.Lit.{Lit}
@@ -10,26 +10,18 @@ use Rattle.fws_net.specs.declared.condition.Test.{Test}
 use Rattle.fws_net.specs.declared.condition.Test.TheVariants.{Proto}
 use Rattle.fws_net.specs.declared.packet.Packet.{Packet}
 use Rattle.fws_net.specs.declared.outcome.End.{End}
-use Rattle.fws_net.specs.declared.outcome.Rewrite.{Rewrite}
-use Rattle.fws_net.specs.declared.outcome.Outcome.TheVariants as outcomes
-use Rattle.fws_net.specs.declared.connection.Kind.TheVariants.{New}
-use Rattle.fws_net.specs.declared.exit.Exit.{Exit}
-use Rattle.fws_net.specs.declared.exit.Exit.TheVariants.{Deliver, Out, Lost}
 use Rattle.fws_net.specs.declared.site.Site.{Site}
 use Rattle.fws_net.specs.declared.transit.Transit.{Transit}
 use Rattle.fws_net.specs.declared.view.View.{View}
 use Rattle.fws_net.specs.Conditions.{holds, lit_holds, test_holds}
 use Rattle.fws_net.specs.Fates.{has_ports}
-use Rattle.fws_net.specs.RegularWalks.{WritesNoPort}
-use Rattle.fws_net.specs.Routes.{exit_at}
-use Rattle.fws_net.specs.Transits.{entered, onwards}
+use Rattle.fws_rule.specs.Regular.{IsPortless}
 use Rattle.fws_pf.specs.declared.config.PfConfig.{PfConfig}
 use Rattle.fws_pf.specs.declared.config.PfNat.{PfNat}
 use Rattle.fws_pf.specs.Drawn.{is_port_protocol}
 use Rattle.fws_pf.specs.Soundness.{asks, names_protocol, cond_fits, tag_fits, end_fits, nat_fits}
-use Rattle.fws_pf.specs.Walk.{view_on, written, translations, pass_walk, way_of, walk}
-use Rattle.fws_pf.proofs.Kept.{then_kept, pass_kept}
-use Rattle.fws_pf.proofs.Leaving.{accepted_holds}
+use Rattle.fws_pf.specs.Walk.{view_on, written, translations, pass_walk}
+use Rattle.fws_pf.proofs.Kept.{pass_kept}
 
 -- Conditions that name a protocol
 
@@ -68,17 +60,12 @@ unported named (Some n) fit off = absurd (both_ways named off fit)
 
 module _ (c : PfConfig) (site : Site) (p : Packet) (tags : ℕ) (fits : (outward : Bool) → list_all (nat_fits tags) (translations c outward) ≡ true)
     (off : has_ports p.proto ≡ false) where
-  -- still the same protocol, and no port was written
-  record Portless (t : Transit) : Type 0 where
-    proto : t.packet.proto ≡ p.proto
-    wrote : WritesNoPort t.wrote
-
-  end_written : (outward : Bool) (e : End) (t : Transit) → e.port ≡ None → Portless t → Portless (written p outward e t)
+  end_written : (outward : Bool) (e : End) (t : Transit) → e.port ≡ None → IsPortless p t → IsPortless p (written p outward e t)
   end_written true e t none h = record { proto = refl; wrote = (none, h.wrote.1) }
   end_written false e t none h = record { proto = refl; wrote = (h.wrote.0, none) }
 
   moved : (outward : Bool) (cond : List Lit) (to : Option End) (t : Transit) → option_map_or (end_fits cond) to true ≡ true → holds cond (view_on site outward t) ≡ true
-      → Portless t → Portless (option_map_or (λ e. written p outward e t) to t)
+      → IsPortless p t → IsPortless p (option_map_or (λ e. written p outward e t) to t)
   moved outward cond None t fit on h = h
   moved outward cond (Some e) t fit on h =
       end_written outward e t (portless (names_protocol is_port_protocol cond) refl) h
@@ -88,35 +75,12 @@ module _ (c : PfConfig) (site : Site) (p : Packet) (tags : ℕ) (fits : (outward
       portless true same =
           absurd (both_ways (has_ports t.packet.proto) (ap has_ports h.proto ∙ off) (named_passes is_port_protocol (view_on site outward t) cond same on))
 
-  nat_portless : (outward : Bool) (nat : PfNat) → nat_fits tags nat ≡ true → (t : Transit) → holds nat.cond (view_on site outward t) ≡ true → Portless t
-      → Portless (option_map_or (λ e. written p outward e t) nat.to t)
+  nat_portless : (outward : Bool) (nat : PfNat) → nat_fits tags nat ≡ true → (t : Transit) → holds nat.cond (view_on site outward t) ≡ true → IsPortless p t
+      → IsPortless p (option_map_or (λ e. written p outward e t) nat.to t)
   nat_portless outward nat fit t on h =
       moved outward nat.cond nat.to t (and_parts (cond_fits tags nat.cond && tag_fits tags nat.tag) (option_map_or (end_fits nat.cond) nat.to true) fit).1 on h
 
-  passed : (outward : Bool) (t : Transit) → Portless t → IfSome (pass_walk c site p outward t) Portless
-  passed outward t h =
-      pass_kept c site p Portless outward (nat_fits tags) (fits outward) (λ xs u k. record { proto = k.proto; wrote = k.wrote })
+  pub pass_portless : (outward : Bool) (t : Transit) → IsPortless p t → IfSome (pass_walk c site p outward t) (IsPortless p)
+  pass_portless outward t h =
+      pass_kept c site p (IsPortless p) outward (nat_fits tags) (fits outward) (λ xs u k. record { proto = k.proto; wrote = k.wrote })
       (λ accepts u k. record { proto = k.proto; wrote = k.wrote }) (nat_portless outward) t h
-
-  gone : (exit : Exit) (t : Transit) → Portless t → IfSome (onwards Some (pass_walk c site p true) exit t) Portless
-  gone Deliver t h = h
-  gone (Out entry) t h = passed true t h
-  gone Lost t h = tt
-
-  way_portless : IfSome (way_of c site p New) Portless
-  way_portless =
-      let start : Portless (entered p) = record { proto = refl; wrote = (tt, tt) } in
-      let next : Transit → Option Transit = λ t. onwards Some (pass_walk c site p true) (exit_at site p.entry t.packet.dst) t in
-      cond_both (nat_eq p.entry 0) (pass_walk c site p true (entered p)) (option_and_then next (pass_walk c site p false (entered p)))
-      (λ way. IfSome way Portless)
-      (λ host. passed true (entered p) start)
-      (λ other. then_kept Portless Portless next (λ t h. gone (exit_at site p.entry t.packet.dst) t h) _ (passed false (entered p) start))
-
-  way_written : (way : Option Transit) → IfSome way Portless → IfSome way (λ t. WritesNoPort t.wrote)
-  way_written None h = tt
-  way_written (Some t) h = h.wrote
-
-pub no_port_written : (c : PfConfig) (site : Site) (tags : ℕ) → ((outward : Bool) → list_all (nat_fits tags) (translations c outward) ≡ true)
-    → (p : Packet) (w : Rewrite) → walk c site p New ≡ outcomes.Accept w → has_ports p.proto ≡ false → WritesNoPort w
-no_port_written c site tags fits p w e off =
-    accepted_holds WritesNoPort (way_of c site p New) w e (way_written c site p tags fits off (way_of c site p New) (way_portless c site p tags fits off))

@@ -1,5 +1,5 @@
 -- A condition holds of two packets or of neither that differ in nothing that a condition can see.
-use Rattle.std.proofs.Common.{◌≡◌, Bool, true, false, ◌&&◌, cond, nat_eq, List, [], ◌∷◌, refl, ap, ◌∙◌}
+use Rattle.std.proofs.Common.{◌≡◌, Bool, true, false, ◌&&◌, cond, nat_eq, [], ◌∷◌, refl, ap, ◌∙◌}
 use Rattle.std.specs.Prelude.{not}
 use Rattle.std.specs.List.{list_any}
 use Rattle.std.specs.Int.Bits.{bit_and}
@@ -8,9 +8,9 @@ use Rattle.fws_net.specs.declared.condition.Test.{Test}
 use Rattle.fws_net.specs.declared.condition.Test.TheVariants.{Src, Dst, Sport, Dport, Proto, Icmp, Flags, AnyFlag, Recv, Xmit, Via, Outward, Est, Tag, Never}
 use Rattle.fws_net.specs.declared.condition.Lit.{Lit}
 use Rattle.fws_net.specs.declared.view.View.{View}
-use Rattle.fws_net.specs.Conditions.{is_shown, test_holds, lit_holds, holds}
+use Rattle.fws_net.specs.Conditions.{is_shown, test_holds, lit_holds}
 use Rattle.fws_net.specs.Fates.{has_ports}
-use Rattle.fws_rule.specs.Alike.{Alike, AlikeViews, ConditionsHoldAlike}
+use Rattle.fws_rule.specs.Alike.{AlikeViews, ConditionsHoldAlike}
 
 and_alike : (a b c d : Bool) → a ≡ b → (a ≡ true → c ≡ d) → (a && c) ≡ (b && d)
 and_alike true b c d e h = let same : c ≡ d = h refl in cc

@@ -1,2 +1,5 @@
 pub mod Alike
+pub mod AlikeWays
+pub mod Parts
 pub mod Patterns
+pub mod Regular

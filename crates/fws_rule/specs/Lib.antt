@@ -1,4 +1,6 @@
 pub mod Alike
+pub mod AlikeWays
 pub mod Interfaces
 pub mod Literals
 pub mod Networks
+pub mod Regular

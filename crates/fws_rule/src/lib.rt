@@ -10,7 +10,10 @@ mod protocols;
 
 pub use compared::{is, is_given, is_one_of};
 pub use interfaces::{before_mark, read_interfaces};
-pub use laws::conditions_hold_alike;
+pub use laws::{
+    alike_packets_stay_alike, alike_walks_are_regular, conditions_hold_alike,
+    regular_parts_make_alike_walks,
+};
 pub use literals::{demand, negative, positive, put_literals};
 pub use networks::net_end;
 pub use protocols::protocol_literal;

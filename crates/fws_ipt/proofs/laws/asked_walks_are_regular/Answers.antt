@@ -2,4 +2,4 @@ use Rattle.fws_ipt.proofs.Regular.{asked_walks_are_regular}
 use Rattle.fws_ipt.proofs.laws.asked_walks_are_regular.Goals as goal
 
 pub returns : goal.returns
-returns c = asked_walks_are_regular c.conditions_hold_alike.ensures
+returns c = asked_walks_are_regular c.alike_packets_stay_alike.ensures c.regular_parts_make_alike_walks.ensures c.alike_walks_are_regular.ensures
