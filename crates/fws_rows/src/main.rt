@@ -1,7 +1,8 @@
 //! Walks packets through worked configurations, and compares what becomes of them with the tables, traces and refusals
 //! that these configurations must have; reads lines and sites that must be accepted, or refused for a cause; asks sites
 //! about addresses and names; and tries calls on numbers, words, lines, sets, boxes, packets and conditions. What is
-//! expected comes from outside or was worked out by hand: none of it was made by this project.
+//! expected comes from outside, was worked out by hand, or by a calculation that walks packets rule by rule and shares
+//! nothing with this program: none of it was made by the program that it is to judge.
 #![tactic(auto)]
 
 mod boxes;
