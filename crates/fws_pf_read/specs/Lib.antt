@@ -1,14 +1,5 @@
-pub mod Ahead
-pub mod Choices
-pub mod Defining
-pub mod Kept
-pub mod Limits
-pub mod Members
-pub mod Reached
+pub mod Places
 pub mod Statements
-pub mod Taken
-pub mod Tests
 pub mod Texts
-pub mod Uses
 pub mod Views
 pub mod Written

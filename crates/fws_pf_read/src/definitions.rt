@@ -3,54 +3,20 @@
 ghost use Rattle.std.specs.Prelude.{◌≡◌, [], ◌∷◌, List, Ok, option_to_list, IfOk, OnOk};
 ghost use Rattle.fws_num.specs.declared.lines.Line.{Line as AnyLine};
 ghost use Rattle.fws_net.specs.Routes.{IsSound};
-ghost use Rattle.fws_pf.specs.FileText.{all_tables, name_defined, table_of, tables_from, unknowing, value_behind, with_read, with_value};
-ghost use Rattle.fws_pf.specs.Macros.{value_defined};
+ghost use Rattle.fws_pf.specs.FileText.{all_tables, table_of, tables_from, unknowing, with_read};
 ghost use Rattle.fws_pf.specs.StatementText.{statement_read};
 ghost use Rattle.fws_pf.specs.Tables.{empty_table};
 ghost use Rattle.fws_pf_read.specs.Statements.{seen};
 
-use crate::defining::table_defined;
-use crate::macros::{Macros, is_definition, value_defined};
-use crate::members::with_members;
-use crate::setting::{Names, Setting, Tables};
 use crate::statement::{Statement, statement_read};
-use crate::tags::Tags;
-use fws_iv::Ivs;
 use fws_net::{ReadFault, Site};
-use fws_num::{Items, Line, Memory, Text, Word};
+use fws_num::{Line, Memory, Text, Word};
 use fws_pf::Table;
+use fws_pf_words::{
+    Macros, Names, Setting, Tables, Tags, define, empty_table, is_definition, table_defined,
+    with_members,
+};
 use std::alloc::Global;
-
-/// The name of the macro that words define; empty where there are none.
-pub(crate) fn name_defined(words: &[Word]) -> &[u8]
-    ensures { result.now ≡ name_defined words.now }
-{
-    match words {
-        [] => b"",
-        [name, ..] => name.text.as_slice(),
-    }
-}
-
-/// The words behind the name of a macro and `=`.
-pub(crate) fn value_behind(words: &[Word]) -> &[Word]
-    ensures { result.now ≡ value_behind words.now }
-{
-    match words {
-        [_, _, value @ ..] => value,
-        _ => &[],
-    }
-}
-
-/// The table of this name in which nothing stands.
-fn empty_table(alloc: Global, name: Text) -> Table
-    ensures { result ≡ empty_table name }
-{
-    Table {
-        name,
-        own: Ivs::none(alloc),
-        named: Items::new(alloc),
-    }
-}
 
 /// What a whole statement puts into its table.
 fn table_said(alloc: Global, name: Text, s: Statement) -> Result<Table, Memory>
@@ -102,20 +68,6 @@ fn table_of(
     match table_defined(alloc, macros, words)? {
         Some(name) => Ok(Some(table_read(alloc, site, macros, name, words)?)),
         None => Ok(None),
-    }
-}
-
-/// Notes the macro that these words define; a refused definition changes none.
-fn define(alloc: Global, macros: &mut Macros, words: &[Word]) -> Result<(), Memory>
-    ensures { OnOk result (macros.new ≡ with_value (name_defined words.now) (value_defined macros.old (value_behind words.now)) macros.old) }
-{
-    match value_defined(alloc, macros, value_behind(words)) {
-        Ok(value) => {
-            macros.put(Text::of(alloc, name_defined(words))?, value)?;
-            Ok(())
-        }
-        Err(ReadFault::Bad(_)) => Ok(()),
-        Err(ReadFault::Memory) => Err(Memory),
     }
 }
 

@@ -3,9 +3,9 @@
 ghost use Rattle.std.specs.Prelude.{◌≡◌};
 ghost use Rattle.fws_pf.specs.Drafts.{is_translation, passes};
 
-use crate::tags::Tags;
 use fws_num::Items;
 use fws_pf::{Choice, Expects, Item, Target, ValueDraft, Verb, Way};
+use fws_pf_words::Tags;
 
 /// What was read so far of a rule: a `RuleDraft`, with the names of tags by their places.
 #[derive(Drop)]

@@ -8,9 +8,9 @@ ghost use Rattle.fws_pf_read.specs.Views.{draft_of};
 
 use crate::draft::{Draft, is_translation};
 use crate::steps::{put_value, value_place};
-use crate::values::{ended_value, fresh_value};
 use fws_net::{Cause, ReadFault};
 use fws_pf::{Expects, Place, ValueKind};
+use fws_pf_words::{ended_value, fresh_value};
 use std::alloc::Global;
 use std::mem;
 

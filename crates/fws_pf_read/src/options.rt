@@ -9,14 +9,11 @@ ghost use Rattle.fws_pf.specs.Values.{fresh_value};
 ghost use Rattle.fws_pf_read.specs.Views.{draft_of};
 
 use crate::draft::{Draft, is_translation, passes};
-use crate::drawn::only;
-use crate::flags::read_flags;
 use crate::keywords::{misplaced, option_word};
-use crate::statements::is_mark;
-use crate::values::{fresh_value, is_any_mark};
 use fws_net::{Cause, Cond, ReadFault, Test};
 use fws_num::{Memory, Word};
 use fws_pf::{Expects, OptionWord, Place, ValueKind, Verb};
+use fws_pf_words::{fresh_value, is_any_mark, is_mark, only, read_flags};
 use fws_rule::{is, positive, put_literals};
 use std::alloc::Global;
 

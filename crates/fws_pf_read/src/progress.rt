@@ -6,14 +6,12 @@ ghost use Rattle.fws_pf.specs.FileText.{fresh_text, setting_at, with_rules};
 ghost use Rattle.fws_pf.specs.Macros.{with_macro};
 ghost use Rattle.fws_pf_read.specs.Texts.{put, with_tags};
 
-use crate::macros::Macros;
 use crate::rule::Rule;
-use crate::setting::{Names, Setting, Tables};
-use crate::tags::Tags;
 use fws_iv::Ivs;
 use fws_net::{Cond, Site};
 use fws_num::{Items, Memory, Text, Word};
 use fws_pf::{PfConfig, PfNat, PfRule, Verb};
+use fws_pf_words::{Macros, Names, Setting, Tables, Tags, expanded_with};
 use std::alloc::Global;
 use std::marker::Model;
 
@@ -61,17 +59,6 @@ fn put_filters(rules: &mut Items<PfRule>, rule: &Rule, conds: Items<Cond>) -> Re
         rules.put(rule.filter_rule(cond))?;
     }
     Ok(())
-}
-
-/// The rules of statements that make more than one, with those of this one. Where they pass 2^64 it is want of memory.
-fn expanded_with(expanded: u64, count: usize) -> Result<u64, Memory>
-    ensures { IfOk result (λ n. n ≡ expanded_with expanded count) }
-{
-    if count > 1 {
-        expanded.checked_add(count as u64).ok_or(Memory)
-    } else {
-        Ok(expanded)
-    }
 }
 
 impl Progress {

@@ -7,12 +7,11 @@ ghost use Rattle.fws_pf.specs.FileText.{spelled};
 
 use crate::definitions::all_tables;
 use crate::progress::Progress;
-use crate::setting::Tables;
-use crate::statements::read_statements;
 use crate::text::words_step;
 use fws_net::{Cause, LineReader, ReadAnswer, ReadFault, Site, read_with};
 use fws_num::Line;
 use fws_pf::{PfConfig, PfDraft};
+use fws_pf_words::{Tables, read_statements};
 use std::alloc::Global;
 
 /// Where a text is read: at a site, and among the tables that its statements define.

@@ -11,13 +11,11 @@ use crate::draft::Draft;
 use crate::drawn::draft_choices;
 use crate::ended::draft_ended;
 use crate::made;
-use crate::setting::{Setting, Tables};
 use crate::steps::draft_step;
-use crate::tags::Tags;
-use crate::values::fresh_value;
 use fws_net::{Checks, Cond, ReadFault};
 use fws_num::{Items, Memory, Word};
 use fws_pf::{Choice, Expects, PfNat, PfRule, ValueKind, Verb, Way};
+use fws_pf_words::{Setting, Tables, Tags, fresh_value};
 use std::alloc::Global;
 use std::marker::Model;
 

@@ -1,7 +1,7 @@
 //! A statement, word by word.
 
 ghost use Rattle.std.specs.Prelude.{◌≡◌, ℕ, Ok, List, IfOk};
-ghost use Rattle.fws_net.specs.Reading.{and_then};
+ghost use Rattle.fws_net.specs.Reading.{StepGiven, and_then};
 ghost use Rattle.fws_net.specs.Routes.{IsSound};
 ghost use Rattle.fws_pf.specs.declared.statement.Statement.TheVariants as any;
 ghost use Rattle.fws_pf.specs.RuleText.{rule_step};
@@ -9,15 +9,13 @@ ghost use Rattle.fws_pf.specs.StatementText.{begun, fault, negated, other_begun,
 ghost use Rattle.fws_pf_read.specs.Statements.{AreTags, StatementGiven, seen};
 
 use crate::keywords::{action_word, misplaced};
-use crate::macros::{Macros, meant};
 use crate::rule::{Rule, fresh_rule, rule_ended, rule_step};
-use crate::setting::Setting;
-use crate::table_draft::{fresh_table, table_step};
-use crate::tags::Tags;
-use crate::values::{ended_value, fresh_value, value_step};
 use fws_net::{Cause, ReadFault};
 use fws_num::Word;
 use fws_pf::{ActionWord, Expects, TableDraft, TableExpects, ValueDraft, ValueKind, Verb};
+use fws_pf_words::{
+    Macros, Setting, Tags, ended_value, fresh_table, fresh_value, meant, value_step,
+};
 use fws_rule::is;
 use std::alloc::Global;
 
@@ -130,6 +128,19 @@ fn rule_taken(
 {
     rule_step(alloc, setting, w, &mut rule)?;
     Ok(Statement::Rule(rule))
+}
+
+/// Takes a word of a table.
+fn table_step(
+    alloc: Global,
+    setting: &Setting,
+    w: &Word,
+    d: &mut TableDraft,
+) -> Result<(), ReadFault>
+    requires { IsSound setting.now.site }
+    ensures { StepGiven result d.new (table_step setting.now w.now d.old) }
+{
+    fws_pf_words::table_step(alloc, setting, misplaced(w.text.as_slice()), w, d)
 }
 
 /// Takes a word of a table.

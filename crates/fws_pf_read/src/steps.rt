@@ -9,23 +9,22 @@ ghost use Rattle.fws_pf.specs.declared.rule_draft.Expects.TheVariants as expect;
 ghost use Rattle.fws_pf.specs.Drafts.{going};
 ghost use Rattle.fws_pf.specs.RuleText.{answer_step, answers, behind, destination_ports_step, hosts_step, inet_step, log_all_step, log_end_step, log_step, logged_step, on_step, past_step, proto_step, quick_step, rule_step, source_ports_step, to_step, value_taken, value_word_step, valued, way_step, with_items, word_step};
 ghost use Rattle.fws_pf.specs.Values.{no_mark};
-ghost use Rattle.fws_pf_read.specs.Tests.{value_place};
+ghost use Rattle.fws_pf_read.specs.Places.{value_place};
 ghost use Rattle.fws_pf_read.specs.Views.{draft_of};
 
 use crate::draft::Draft;
-use crate::drawn::choice_of;
 use crate::keywords::misplaced;
 use crate::options::{
     arrow_step, ask, flags_step, not_tagged_step, option_step, state_step, tag_name_step,
     tagged_name_step, tagged_step,
 };
-use crate::setting::{Setting, Tables};
-use crate::statements::is_mark;
 use crate::target::written_step;
-use crate::values::{fresh_value, has_ended, is_any_mark, value_step};
 use fws_net::{Cause, ReadFault};
 use fws_num::{Items, Memory, Word};
 use fws_pf::{Expects, Item, Place, ValueKind, Way};
+use fws_pf_words::{
+    Setting, Tables, choice_of, fresh_value, has_ended, is_any_mark, is_mark, value_step,
+};
 use fws_rule::is;
 use std::alloc::Global;
 use std::mem;

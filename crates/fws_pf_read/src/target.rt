@@ -14,15 +14,12 @@ ghost use Rattle.fws_pf.specs.Values.{modified};
 ghost use Rattle.fws_pf_read.specs.Views.{draft_of};
 ghost use Rattle.fws_pf_read.specs.Written.{written_step};
 
-use crate::addresses::modified;
 use crate::draft::Draft;
-use crate::items::begins_with_digit;
 use crate::keywords::misplaced;
-use crate::statements::is_mark;
-use crate::values::is_any_mark;
 use fws_net::{Cause, Lang, ReadFault, Site, entry_named, face_addr};
 use fws_num::{Prefix, Word, read_port, read_ports_between, read_prefix, read_quad, split_once};
 use fws_pf::{Expects, Target, Verb};
+use fws_pf_words::{begins_with_digit, is_any_mark, is_mark, modified};
 use fws_rule::is;
 
 /// Takes what is written so far, and goes on.

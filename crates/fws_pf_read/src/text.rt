@@ -9,17 +9,15 @@ ghost use Rattle.fws_pf.specs.Drawn.{choices};
 ghost use Rattle.fws_pf_read.specs.Statements.{AreTags, seen};
 ghost use Rattle.fws_pf_read.specs.Texts.{plain_step, with_tags};
 
-use crate::definitions::{name_defined, value_behind};
-use crate::drawn::conditions;
-use crate::macros::{is_definition, value_defined};
 use crate::progress::Progress;
 use crate::rule::{Rule, choices, rule_checks};
-use crate::setting::Tables;
-use crate::skipped::with_skipped;
 use crate::statement::{Statement, statement_read};
 use fws_net::{ReadFault, Site};
 use fws_num::{Memory, Text, Word};
 use fws_pf::{TableDraft, ValueDraft};
+use fws_pf_words::{
+    Tables, conditions, is_definition, name_defined, value_behind, value_defined, with_skipped,
+};
 use std::alloc::Global;
 
 /// Takes a rule without a check that fails. The tags so far don't matter, since it has its own.

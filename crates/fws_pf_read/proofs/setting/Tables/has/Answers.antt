@@ -1,6 +1,0 @@
-use Rattle.std.proofs.Common.{◌∙◌, ap, is_some}
-use Rattle.fws_pf_read.proofs.Placed.{place_found}
-use Rattle.fws_pf_read.proofs.setting.Tables.has.Goals as goal
-
-pub returns : goal.returns
-returns c = c.is_some.ensures ∙ ap is_some c.position.ensures ∙ place_found c.args.name.now c.args.self.now

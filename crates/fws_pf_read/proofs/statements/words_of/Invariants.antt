@@ -1,7 +1,0 @@
-use Rattle.std.proofs.Common.{◌≡◌, drop}
-use Rattle.fws_pf.specs.Statements.{words_of}
-use Rattle.fws_pf_read.specs.Ahead.{words_ahead}
-use Rattle.fws_pf_read.proofs.statements.words_of.Given as goal
-
-abbrev pub invariant-loop-i : goal.invariant-loop-i
-invariant-loop-i l = words_ahead l.reader (drop l.i l.bytes) ≡ words_of l.line l.bytes

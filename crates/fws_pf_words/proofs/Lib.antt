@@ -1,0 +1,16 @@
+pub mod Counts
+pub mod Crossing
+pub mod Found
+pub mod Gathering
+pub mod Joining
+pub mod Keeping
+pub mod Letters
+pub mod Marks
+pub mod Naming
+pub mod Outside
+pub mod Placed
+pub mod Places
+pub mod Reaching
+pub mod Reading
+pub mod Splitting
+pub mod Uses

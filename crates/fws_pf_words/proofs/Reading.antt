@@ -1,0 +1,72 @@
+-- A word that ends.
+use Rattle.std.proofs.Common.{◌≡◌, ℕ, ◌+◌, ◌-◌, ◌<◌, length, take, drop, get_or, drop-cons, add-one, ap, Bool, true, false, ◌||◌, nat_eq, List, [], ◌∷◌, ◌++◌, append_assoc, refl, sym, ◌∙◌, true≢false, arith}
+use Rattle.std.proofs.lemmas.Bool.Decides.{nat_tests}
+use Rattle.std.proofs.lemmas.List.{take_rest}
+use Rattle.fws_num.specs.declared.word.Word.{Word}
+use Rattle.fws_num.specs.Comments.{is_punctuation}
+use Rattle.fws_num.specs.Words.{is_blank, plain_word, quoted_word}
+use Rattle.fws_pf.specs.declared.statement.Mode.TheVariants.{Between, Plain, Quoted, Second}
+use Rattle.fws_pf.specs.Statements.{begins_pair, words_from}
+use Rattle.fws_pf_words.specs.declared.statements.WordReader.{WordReader}
+use Rattle.fws_pf_words.specs.Ahead.{words_ahead}
+
+pub plain_ended : (old new : WordReader) (c : ℕ) (rest : List ℕ) → old.mode ≡ Plain → is_blank c ≡ true
+    → new.words.items ≡ old.words.items ++ plain_word old.line old.text ∷ [] → new.mode ≡ Between → new.text ≡ [] → new.line ≡ old.line
+    → words_ahead new rest ≡ words_ahead old (c ∷ rest)
+plain_ended old new c rest m b w n t l =
+    rw (w, n, t, l, m, b) (append_assoc old.words.items (plain_word old.line old.text ∷ []) (words_from old.line Between [] rest))
+
+pub quoted_ended : (old new : WordReader) (c : ℕ) (rest : List ℕ) → old.mode ≡ Quoted → c ≡ 34
+    → new.words.items ≡ old.words.items ++ quoted_word old.line old.text ∷ [] → new.mode ≡ Between → new.text ≡ [] → new.line ≡ old.line
+    → words_ahead new rest ≡ words_ahead old (c ∷ rest)
+quoted_ended old new c rest m e w n t l =
+    rw (w, n, t, l, m, e) (append_assoc old.words.items (quoted_word old.line old.text ∷ []) (words_from old.line Between [] rest))
+
+pub pair_ended : (old new : WordReader) (a c : ℕ) (pair rest : List ℕ) → old.mode ≡ Second a → pair ≡ a ∷ c ∷ []
+    → new.words.items ≡ old.words.items ++ plain_word old.line pair ∷ [] → new.mode ≡ Between → new.text ≡ [] → new.line ≡ old.line
+    → words_ahead new rest ≡ words_ahead old (c ∷ rest)
+pair_ended old new a c pair rest m e w n t l =
+    rw (w, n, t, l, m, e) (append_assoc old.words.items (plain_word old.line (a ∷ c ∷ []) ∷ []) (words_from old.line Between [] rest))
+
+pub mark_ended : (old new : WordReader) (c : ℕ) (mark rest : List ℕ) → old.mode ≡ Between → is_blank c ≡ false → nat_eq c 34 ≡ false
+    → begins_pair c rest ≡ false → is_punctuation c ≡ true → mark ≡ c ∷ []
+    → new.words.items ≡ old.words.items ++ plain_word old.line mark ∷ [] → new.mode ≡ Between → new.text ≡ [] → new.line ≡ old.line
+    → words_ahead new rest ≡ words_ahead old (c ∷ rest)
+mark_ended old new c mark rest m b q p s e w n t l =
+    rw (w, n, t, l, m, b, q, p, s, e) (append_assoc old.words.items (plain_word old.line (c ∷ []) ∷ []) (words_from old.line Between [] rest))
+
+-- a quote divides nothing
+quote_divides : (rest : List ℕ) → (begins_pair 34 rest || is_punctuation 34) ≡ false
+quote_divides [] = refl
+quote_divides (d ∷ ds) = refl
+
+no_quote : (b : Bool) (c : ℕ) (rest : List ℕ) → nat_eq c 34 ≡ b → (begins_pair c rest || is_punctuation c) ≡ true → nat_eq c 34 ≡ false
+no_quote true c rest e h =
+    let same : c ≡ 34 = grind (arith, nat_tests) in
+    absurd (true≢false (sym (rw same at h) ∙ quote_divides rest))
+no_quote false c rest e h = e
+
+parted : (p s : Bool) (line : ℕ) (text : List ℕ) (c : ℕ) (cs : List ℕ) → is_blank c ≡ false → nat_eq c 34 ≡ false → begins_pair c cs ≡ p → is_punctuation c ≡ s
+    → (p || s) ≡ true → words_from line Plain text (c ∷ cs) ≡ plain_word line text ∷ words_from line Between [] (c ∷ cs)
+parted true s line text c cs b q e f h = rw (b, q, e) refl
+parted false true line text c cs b q e f h = rw (b, q, e, f) refl
+parted false false line text c cs b q e f h = absurd (true≢false (sym h))
+
+-- a plain word ends ahead of a byte that divides, which is then read between two words
+pub ended_ahead : (old mid new : WordReader) (c : ℕ) (rest : List ℕ) → old.mode ≡ Plain → is_blank c ≡ false → (begins_pair c rest || is_punctuation c) ≡ true
+    → mid.words.items ≡ old.words.items ++ plain_word old.line old.text ∷ [] → mid.mode ≡ Between → mid.text ≡ [] → mid.line ≡ old.line
+    → words_ahead new rest ≡ words_ahead mid (c ∷ rest) → words_ahead new rest ≡ words_ahead old (c ∷ rest)
+ended_ahead old mid new c rest m b d w n t l h =
+    let q = no_quote (nat_eq c 34) c rest refl d in
+    let left = words_from old.line Between [] (c ∷ rest) in
+    h ∙ (λ i. w i ++ words_from (l i) (n i) (t i) (c ∷ rest)) ∙ append_assoc old.words.items (plain_word old.line old.text ∷ []) left
+    ∙ ap (λ ws. old.words.items ++ ws)
+    (sym ((λ i. words_from old.line (m i) old.text (c ∷ rest)) ∙ parted (begins_pair c rest) (is_punctuation c) old.line old.text c rest b q refl refl d))
+
+-- the loop's step at a byte
+pub byte_read : (old new : WordReader) (bytes : List ℕ) (i : ℕ) (all : List Word) → i < length bytes
+    → words_ahead new (take (length bytes - (i + 1)) (drop (i + 1) bytes)) ≡ words_ahead old (get_or bytes i 0 ∷ take (length bytes - (i + 1)) (drop (i + 1) bytes))
+    → words_ahead old (drop i bytes) ≡ all → words_ahead new (drop (i + 1) bytes) ≡ all
+byte_read old new bytes i all h e f =
+    ap (words_ahead new) (sym (take_rest bytes (i + 1))) ∙ e ∙ ap (λ cs. words_ahead old (get_or bytes i 0 ∷ cs)) (take_rest bytes (i + 1))
+    ∙ ap (words_ahead old) (ap (λ k. get_or bytes i 0 ∷ drop k bytes) (add-one i) ∙ sym (drop-cons bytes i 0 h)) ∙ f

@@ -1,0 +1,10 @@
+pub mod Ahead
+pub mod Defining
+pub mod Kept
+pub mod Limits
+pub mod Members
+pub mod Reached
+pub mod TableSteps
+pub mod Taken
+pub mod Tests
+pub mod Uses

@@ -1,0 +1,159 @@
+//! Which table a statement defines, by its first words.
+
+ghost use Rattle.std.specs.Prelude.{◌≡◌, ◌∷◌, List, IfOk, OnOk, if◌then◌else◌};
+ghost use Rattle.fws_num.specs.declared.word.Word.{Word as AnyWord};
+ghost use Rattle.fws_pf.specs.FileText.{readable, table_defined, with_front};
+ghost use Rattle.fws_pf.specs.Values.{is_any_mark};
+ghost use Rattle.fws_pf_words.specs.Defining.{defining_step, is_over, name_of, named, words_seen};
+
+use crate::macros::{Macros, meant};
+use crate::statements::is_mark;
+use crate::values::is_any_mark;
+use fws_net::ReadFault;
+use fws_num::{Memory, Text, Word};
+use fws_rule::is;
+use std::alloc::Global;
+
+/// What the next word is taken for.
+#[derive(Clone, Copy, Debug, PartialEq, Eq)]
+pub(crate) enum Stage {
+    /// `table`
+    Table,
+    /// `<`
+    Open,
+    /// The name.
+    Name,
+    /// `>`
+    Close,
+    /// Nothing more: the words define a table.
+    Whole,
+    /// Nothing more: the words define none.
+    Other,
+}
+
+/// How far words say which table they define.
+#[derive(Drop)]
+pub(crate) struct Defining {
+    /// What the next word is taken for.
+    pub(crate) stage: Stage,
+    /// The name, once it was read.
+    pub(crate) name: Text,
+}
+
+/// Takes a word.
+fn defining_step(alloc: Global, w: &Word, d: &mut Defining) -> Result<(), Memory>
+    ensures { OnOk result (d.new ≡ defining_step w.now d.old) }
+{
+    match d.stage {
+        Stage::Table => {
+            d.stage = next_stage(is(w.text.as_slice(), b"table"), Stage::Open);
+            Ok(())
+        }
+        Stage::Open => {
+            d.stage = next_stage(is_mark(w, b"<"), Stage::Name);
+            Ok(())
+        }
+        Stage::Name => take_name(alloc, w, d),
+        Stage::Close => {
+            d.stage = next_stage(is_mark(w, b">"), Stage::Whole);
+            Ok(())
+        }
+        Stage::Whole => Ok(()),
+        Stage::Other => Ok(()),
+    }
+}
+
+/// On to the next word, if this one fits.
+fn next_stage(fits: bool, next: Stage) -> Stage
+    ensures { result ≡ (if fits then next else Stage.Other) }
+{
+    if fits { next } else { Stage::Other }
+}
+
+/// Takes a name, which is no punctuation.
+fn take_name(alloc: Global, w: &Word, d: &mut Defining) -> Result<(), Memory>
+    ensures { OnOk result (d.new ≡ named (is_any_mark w.now) w.now.text d.old) }
+{
+    if is_any_mark(w) {
+        d.stage = Stage::Other;
+        return Ok(());
+    }
+    d.name = w.text.copy(alloc)?;
+    d.stage = Stage::Close;
+    Ok(())
+}
+
+/// Takes words up to the first that can't be judged, and tells whether there is none.
+fn take_front(alloc: Global, words: &[Word], d: &mut Defining) -> Result<bool, Memory>
+    ensures { IfOk result (λ all. (rest : List AnyWord) → words_seen d.old (with_front words.now rest) ≡ (if all then words_seen d.new rest else d.new)) }
+{
+    for w in words {
+        if !w.is_sound() {
+            return Ok(false);
+        }
+        defining_step(alloc, w, d)?;
+    }
+    Ok(true)
+}
+
+/// Takes the words for which a word stands, and tells whether all can be judged.
+fn take_meant(alloc: Global, macros: &Macros, w: &Word, d: &mut Defining) -> Result<bool, Memory>
+    ensures { IfOk result (λ all. (ws : List AnyWord) → words_seen d.old (readable macros.now (w.now ∷ ws)) ≡ (if all then words_seen d.new (readable macros.now ws) else d.new)) }
+{
+    if !w.is_sound() {
+        return Ok(false);
+    }
+    match meant(alloc, macros, w) {
+        Ok(words) => take_front(alloc, words.as_slice(), d),
+        Err(ReadFault::Bad(_)) => Ok(false),
+        Err(ReadFault::Memory) => Err(Memory),
+    }
+}
+
+/// Whether no further word changes it.
+fn is_over(stage: Stage) -> bool
+    ensures { result ≡ is_over stage }
+{
+    match stage {
+        Stage::Table => false,
+        Stage::Open => false,
+        Stage::Name => false,
+        Stage::Close => false,
+        Stage::Whole => true,
+        Stage::Other => true,
+    }
+}
+
+/// The name of the table that was defined.
+fn into_name(d: Defining) -> Option<Text>
+    ensures { result ≡ name_of d }
+{
+    let Defining { stage, name } = d;
+    match stage {
+        Stage::Table => None,
+        Stage::Open => None,
+        Stage::Name => None,
+        Stage::Close => None,
+        Stage::Whole => Some(name),
+        Stage::Other => None,
+    }
+}
+
+/// The name of the table that words define: `table`, `<`, a name and `>`, whatever stands behind. An error is want of memory.
+pub fn table_defined(alloc: Global, macros: &Macros, words: &[Word]) -> Result<Option<Text>, Memory>
+    ensures { IfOk result (λ name. name ≡ table_defined (readable macros.now words.now)) }
+{
+    let mut d = Defining {
+        stage: Stage::Table,
+        name: Text::new(alloc),
+    };
+    for w in words {
+        if is_over(d.stage) {
+            return Ok(into_name(d));
+        }
+        if !take_meant(alloc, macros, w, &mut d)? {
+            return Ok(into_name(d));
+        }
+    }
+    Ok(into_name(d))
+}

@@ -1,0 +1,100 @@
+//! The addresses of tables, which may name one another.
+
+ghost use Rattle.std.specs.Prelude.{◌≡◌, ◌<◌, ℕ, length, slice_index_or, IfOk, OnOk};
+ghost use Rattle.fws_pf.specs.Tables.{part_set, table_set};
+ghost use Rattle.fws_pf_words.specs.Reached.{AreRegularAt, IsClosure, IsPlace, own_ranges, table_at, with_place, with_places};
+
+use crate::setting::Tables;
+use fws_iv::{
+    Iv, Ivs, many_ranges_add_members, ranges_add_members, ranges_are_regular,
+    same_members_same_list,
+};
+use fws_num::{Memory, Text};
+use fws_pf::{Part, Table};
+use indexmap::IndexSet;
+use std::alloc::Global;
+
+/// Finds the table with this name, if there is one: its place is put behind the others, unless it is among them.
+fn find(tables: &Tables, name: &Text, places: &mut IndexSet<usize>) -> Result<(), Memory>
+    ensures { OnOk result (places.new.keys ≡ with_place tables.now places.old.keys name.now) }
+{
+    match tables.position(name) {
+        Some(place) => {
+            places.insert(place)?;
+            Ok(())
+        }
+        None => Ok(()),
+    }
+}
+
+/// Finds the tables with these names.
+fn find_all(tables: &Tables, names: &[Text], places: &mut IndexSet<usize>) -> Result<(), Memory>
+    ensures { OnOk result (places.new.keys ≡ with_places tables.now places.old.keys names.now) }
+{
+    for name in names {
+        find(tables, name, places)?;
+    }
+    Ok(())
+}
+
+/// The table at a place.
+fn table_at(tables: &[Table], place: usize) -> &Table
+    requires { place < length tables.now }
+    ensures { result.now ≡ table_at tables.now place }
+{
+    &tables[place]
+}
+
+/// The places of the tables that are reached from a name: its own, and of each table those of the tables that it names. Each is
+/// met once.
+fn reached(alloc: Global, tables: &Tables, name: &Text) -> Result<IndexSet<usize>, Memory>
+    ensures { IfOk result (λ places. IsClosure tables.now name.now places.keys) }
+{
+    let mut places = IndexSet::new(alloc);
+    find(tables, name, &mut places)?;
+    let mut next = 0;
+    while next < places.len() {
+        let table = table_at(tables.as_slice(), places.as_slice()[next]);
+        find_all(tables, table.named.as_slice(), &mut places)?;
+        next += 1;
+    }
+    Ok(places)
+}
+
+/// The addresses that stand in the tables at these places, as ranges in any order.
+fn own_ranges(alloc: Global, tables: &[Table], places: &[usize]) -> Result<Vec<Iv>, Memory>
+    requires { (p : ℕ) → IsPlace places.now p → p < length tables.now }
+    ensures ranges { IfOk result (λ ranges. ranges.items ≡ own_ranges tables.now places.now) }
+    ensures regular { OnOk result (AreRegularAt tables.now places.now) }
+{
+    let mut ranges = Vec::new(alloc);
+    for place in places {
+        ranges.extend_from_slice(table_at(tables, *place).own.parts())?;
+    }
+    Ok(ranges)
+}
+
+/// The addresses of the table with this name: those that stand in it and in the tables that it reaches, near-linear in what these
+/// hold. There are none where no table has the name. An error is want of memory.
+fn table_set(alloc: Global, tables: &Tables, name: &Text) -> Result<Ivs, Memory>
+    ensures { IfOk result (λ set. set ≡ table_set tables.now name.now) }
+{
+    same_members_same_list();
+    ranges_are_regular();
+    ranges_add_members();
+    many_ranges_add_members();
+    let places = reached(alloc, tables, name)?;
+    let ranges = own_ranges(alloc, tables.as_slice(), places.as_slice())?;
+    Ok(Ivs::of_ranges(alloc, ranges.as_slice())?)
+}
+
+/// The numbers of a value; none where every one is among them. An error is want of memory.
+pub fn part_set(alloc: Global, tables: &Tables, part: &Part) -> Result<Option<Ivs>, Memory>
+    ensures { IfOk result (λ set. set ≡ part_set tables.now part.now) }
+{
+    match part {
+        Part::Every => Ok(None),
+        Part::Set(set) => Ok(Some(set.copy(alloc)?)),
+        Part::Table(name) => Ok(Some(table_set(alloc, tables, name)?)),
+    }
+}
