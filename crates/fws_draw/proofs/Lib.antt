@@ -1,1 +1,3 @@
-mod Skips
+mod Joined
+mod Unfolding
+mod Walked

@@ -1,2 +1,4 @@
+pub mod Places
+pub mod Right
 pub mod Rules
-pub mod Skips
+pub mod Straight

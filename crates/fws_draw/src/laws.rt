@@ -1,8 +1,21 @@
-//! Laws over walks through rules: functions with nothing to do.
+//! Laws over diagrams that are put together of rules: functions with nothing to do.
 
-ghost use Rattle.fws_draw.specs.Skips.{SkipsGoOn};
+ghost use Rattle.fws_draw.specs.Places.{WalksGoByPlaces};
+ghost use Rattle.fws_draw.specs.Right.{RulesAreRightByParts};
+ghost use Rattle.fws_draw.specs.Straight.{StraightDiagramsUnfold};
 
-/// A walk that skips rules goes on as one that begins behind them: a law, with nothing to do.
-pub fn skips_go_on()
-    ensures { SkipsGoOn }
+/// Where rules stand in a chain, the walk goes through them and on behind them, and each of their parts
+/// stands there too: a law, with nothing to do.
+pub fn walks_go_by_places()
+    ensures { WalksGoByPlaces }
+{}
+
+/// Numbers are right in rules that are put together of parts in which they are: a law, with nothing to do.
+pub fn rules_are_right_by_parts()
+    ensures { RulesAreRightByParts }
+{}
+
+/// A diagram of which no rule calls a chain or goes to one can be unfolded: a law, with nothing to do.
+pub fn straight_diagrams_unfold()
+    ensures { StraightDiagramsUnfold }
 {}

@@ -5,6 +5,6 @@ mod laws;
 mod places;
 mod rules;
 
-pub use laws::skips_go_on;
-pub use places::place_behind;
-pub use rules::{always, narrowed, put_rule, ruled_by};
+pub use laws::{rules_are_right_by_parts, straight_diagrams_unfold, walks_go_by_places};
+pub use places::{place_behind, sum};
+pub use rules::{always, narrowed, put_always, put_guard, put_rule, ruled_by};

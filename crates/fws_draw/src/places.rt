@@ -4,10 +4,17 @@ ghost use Rattle.std.specs.Prelude.{◌≡◌, ◌+◌, IfOk};
 
 use fws_num::Memory;
 
+/// The sum. An error is want of memory, which a sum past all numbers counts as.
+pub fn sum(a: usize, b: usize) -> Result<usize, Memory>
+    ensures { IfOk result (λ n. n ≡ a + b) }
+{
+    a.checked_add(b).ok_or(Memory)
+}
+
 /// The place `more` rules behind another one. An error is want of memory.
 pub fn place_behind(at: usize, more: usize) -> Result<u32, Memory>
     ensures { IfOk result (λ n. n ≡ at + more) }
 {
-    let place = at.checked_add(more).ok_or(Memory)?;
+    let place = sum(at, more)?;
     u32::try_from(place).map_err(|_| Memory)
 }

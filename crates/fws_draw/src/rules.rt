@@ -1,8 +1,9 @@
 //! Rules.
 
-ghost use Rattle.std.specs.Prelude.{◌≡◌, ◌++◌, [], ◌∷◌, IfOk, OnOk};
-ghost use Rattle.fws_draw.specs.Rules.{ruled, always};
+ghost use Rattle.std.specs.Prelude.{◌≡◌, ◌++◌, [], ◌∷◌, length, IfOk, OnOk};
+ghost use Rattle.fws_draw.specs.Rules.{always, guard, ruled};
 
+use crate::places::{place_behind, sum};
 use fws_ifcl::{Act, Rule};
 use fws_net::{Cond, Lit};
 use fws_num::Memory;
@@ -33,6 +34,30 @@ pub fn put_rule(rules: &mut Vec<Rule>, cond: Cond, act: Act) -> Result<(), Memor
 {
     rules.push(Rule { cond, act })?;
     Ok(())
+}
+
+/// Puts a rule that acts everywhere behind the others. An error is want of memory.
+pub fn put_always(alloc: Global, rules: &mut Vec<Rule>, act: Act) -> Result<(), Memory>
+    ensures { OnOk result (rules.new.items ≡ rules.old.items ++ always act ∷ []) }
+{
+    rules.push(always(alloc, act))?;
+    Ok(())
+}
+
+/// Puts the two rules ahead of so many inner ones: where the condition holds the walk comes to them, else
+/// it goes on behind them. An error is want of memory.
+pub fn put_guard(
+    alloc: Global,
+    rules: &mut Vec<Rule>,
+    cond: Cond,
+    inner: usize,
+) -> Result<(), Memory>
+    ensures { OnOk result (rules.new.items ≡ rules.old.items ++ guard (length rules.old.items) cond inner) }
+{
+    let first = place_behind(rules.len(), 2)?;
+    let past = place_behind(rules.len(), sum(2, inner)?)?;
+    put_rule(rules, cond, Act::Skip(first))?;
+    put_always(alloc, rules, Act::Skip(past))
 }
 
 /// The condition with the literal behind the others. An error is want of memory.

@@ -17,7 +17,8 @@ use Rattle.fws_ifcl.specs.declared.diagram.Rule.{Rule}
 use Rattle.fws_ifcl.specs.declared.step.ChainEnd.{ChainEnd}
 use Rattle.fws_ifcl.specs.declared.step.ChainEnd.TheVariants.{Accepted, Dropped}
 use Rattle.fws_rule.specs.Literals.{positive}
-use Rattle.fws_draw.specs.Rules.{ruled, always}
+use Rattle.fws_draw.specs.Places.{sight, run, Stands}
+use Rattle.fws_draw.specs.Rules.{ruled, always, guard, guarded}
 use Rattle.fws_ipfw.specs.declared.config.IpfwAct.{IpfwAct}
 use Rattle.fws_ipfw.specs.declared.config.IpfwAct.TheVariants as acts
 use Rattle.fws_ipfw.specs.declared.config.IpfwTag.{IpfwTag}
@@ -29,9 +30,9 @@ use Rattle.fws_ipfw.specs.declared.pass.Pass.{Pass}
 use Rattle.fws_ipfw.specs.Soundness.{redirect_fits, nat_fits}
 use Rattle.fws_ipfw.specs.Walk.{tracked_on, nat_numbered, translated_by, ended, tagged, behind as behind_nat, step_of, stepped}
 use Rattle.fws_ipfw_ifcl.specs.Translating.{translating, translating_width}
-use Rattle.fws_ipfw_ifcl.specs.Blocks.{accepting, guard, guarded, acting, acting_width, tagging_first, tagging_width, keeping, keeping_width, block, width}
+use Rattle.fws_ipfw_ifcl.specs.Blocks.{accepting, acting, acting_width, tagging_first, tagging_width, keeping, keeping_width, block, width}
+use Rattle.fws_ipfw_ifcl.proofs.Courses.{Course}
 use Rattle.fws_ipfw_ifcl.proofs.Lengths.{translating_length, acting_length, keeping_length}
-use Rattle.fws_ipfw_ifcl.proofs.Running.{Course, sight, run, Stands, first_part, second_part, moved, behind_first, step, skip, guard_walk}
 use Rattle.fws_ipfw_ifcl.proofs.Choosing.{NatFits, translating_walk}
 
 -- how a pass ends
@@ -100,9 +101,9 @@ one_more (l ∷ ls) lit v = ap (λ b. lit_holds v l && b) (one_more ls lit v) �
 accepting_walk : {k : Kind} {outward : Bool} (w : Course k outward) (translated : Bool) (ends at : ℕ) (test : List Lit)
     → Stands w at (ruled test (accepting translated ends) ∷ []) → EndsAt w translated ends (at + 1) → (t : Transit)
     → run w at t ≡ cond (holds test (sight w t)) (Accepted (ended k outward (in_half translated t))) (run w (at + 1) t)
-accepting_walk w true ends at test s ending t = step w at test rules.Accept s t
+accepting_walk w true ends at test s ending t = w.law.walked s (tt, tt) t
 accepting_walk w false ends at test s (far, at_end) t =
-    skip w at test ends s (omega (arith, far)) t ∙ ap (λ end. cond (holds test (sight w t)) end (run w (at + 1) t)) (at_end t)
+    w.law.walked s (omega (arith, far), tt) t ∙ ap (λ end. cond (holds test (sight w t)) end (run w (at + 1) t)) (at_end t)
 
 -- Acts
 
@@ -140,9 +141,10 @@ nat_walk k outward w c ends done to at test n go s fits far on t =
     let head = guard at test (length inner) in
     let wide : length inner ≡ translating_width nat = translating_length (at + 2) done nat in
     let past : at + (2 + length inner) ≡ at + (2 + translating_width nat) = omega (arith, wide) in
-    guard_walk w at test (length inner) (first_part w at head inner s) t
+    let parts = w.law.parts (at + 2) head inner s refl in
+    w.law.walked parts.0 (omega arith, (omega arith, tt)) t
     ∙ ap (λ end. cond (holds test (sight w t)) end (run w (at + (2 + length inner)) t))
-    (translating_walk k outward w (at + 2) done nat fits (second_part w at head inner s) (omega (arith, far)) t
+    (translating_walk k outward w (at + 2) done nat fits parts.1 (omega (arith, far)) t
     ∙ on (option_map_or (λ m. translated_by w.p k outward m t) nat t))
     ∙ ap (λ m. cond (holds test (sight w t)) (left_by (stepped go (step_of c w.site w.p k outward (acts.Nat n) (in_half false t)))) (run w m t)) past
 
@@ -152,26 +154,26 @@ pub acting_walk : (k : Kind) (outward : Bool) (w : Course k outward) (c : IpfwCo
     → run w at t ≡ cond (holds test (sight w t)) (left_by (stepped go (step_of c w.site w.p k outward act (in_half translated t)))) (run w (at + acting_width c.nats translated act) t)
 acting_walk k outward w c true ends done to at test acts.Allow go s leads t = accepting_walk w true ends at test s leads.ending t
 acting_walk k outward w c false ends done to at test acts.Allow go s leads t = accepting_walk w false ends at test s leads.ending t
-acting_walk k outward w c true ends done to at test acts.Deny go s leads t = step w at test rules.Drop s t
-acting_walk k outward w c false ends done to at test acts.Deny go s leads t = step w at test rules.Drop s t
+acting_walk k outward w c true ends done to at test acts.Deny go s leads t = w.law.walked s (tt, tt) t
+acting_walk k outward w c false ends done to at test acts.Deny go s leads t = w.law.walked s (tt, tt) t
 acting_walk k outward w c true ends done to at test acts.Count go s leads t =
-    skip w at test (at + 1) s (omega arith) t ∙ ap (λ end. cond (holds test (sight w t)) end (run w (at + 1) t)) (leads.next t)
+    w.law.walked s (omega arith, tt) t ∙ ap (λ end. cond (holds test (sight w t)) end (run w (at + 1) t)) (leads.next t)
 acting_walk k outward w c false ends done to at test acts.Count go s leads t =
-    skip w at test (at + 1) s (omega arith) t ∙ ap (λ end. cond (holds test (sight w t)) end (run w (at + 1) t)) (leads.next t)
+    w.law.walked s (omega arith, tt) t ∙ ap (λ end. cond (holds test (sight w t)) end (run w (at + 1) t)) (leads.next t)
 acting_walk k outward w c true ends done to at test (acts.Skip n) go s leads t =
     let far : at + 1 ≤ to = leads.skipping.0 in
-    skip w at test to s (omega (arith, far)) t ∙ ap (λ end. cond (holds test (sight w t)) end (run w (at + 1) t)) (leads.skipping.1 t)
+    w.law.walked s (omega (arith, far), tt) t ∙ ap (λ end. cond (holds test (sight w t)) end (run w (at + 1) t)) (leads.skipping.1 t)
 acting_walk k outward w c false ends done to at test (acts.Skip n) go s leads t =
     let far : at + 1 ≤ to = leads.skipping.0 in
-    skip w at test to s (omega (arith, far)) t ∙ ap (λ end. cond (holds test (sight w t)) end (run w (at + 1) t)) (leads.skipping.1 t)
+    w.law.walked s (omega (arith, far), tt) t ∙ ap (λ end. cond (holds test (sight w t)) end (run w (at + 1) t)) (leads.skipping.1 t)
 acting_walk k outward w c true ends done to at test acts.Check go s leads t = checking_walk k outward w c true ends at test go s leads.ending leads.next t
 acting_walk k outward w c false ends done to at test acts.Check go s leads t = checking_walk k outward w c false ends at test go s leads.ending leads.next t
 acting_walk New outward w c true ends done to at test (acts.Nat n) go s leads t =
-    skip w at test (at + 1) s (omega arith) t
+    w.law.walked s (omega arith, tt) t
     ∙ ap (λ end. cond (holds test (sight w t)) end (run w (at + 1) t)) (leads.next t)
     ∙ ap (λ one_pass. cond (holds test (sight w t)) (left_by (stepped go (behind_nat one_pass (in_half true t)))) (run w (at + 1) t)) (sym leads.translating)
 acting_walk (Est r) outward w c true ends done to at test (acts.Nat n) go s leads t =
-    skip w at test (at + 1) s (omega arith) t
+    w.law.walked s (omega arith, tt) t
     ∙ ap (λ end. cond (holds test (sight w t)) end (run w (at + 1) t)) (leads.next t)
     ∙ ap (λ one_pass. cond (holds test (sight w t)) (left_by (stepped go (behind_nat one_pass (in_half true t)))) (run w (at + 1) t)) (sym leads.translating)
 acting_walk k outward w c false ends done to at test (acts.Nat n) go s leads t =
@@ -197,14 +199,14 @@ tagged_walk k outward w c translated ends done to at test act change after go ch
     let many : length more ≡ acting_width c.nats translated act = acting_length c.nats translated ends done to (at + 3) [] act in
     let past : at + (2 + length inner) ≡ at + (3 + acting_width c.nats translated act) = omega (arith, many) in
     let same : at + (3 + acting_width c.nats translated act) ≡ (at + 3) + acting_width c.nats translated act = omega arith in
-    let inside : Stands w (at + 2) inner = second_part w at head inner s in
-    let behind : Stands w (at + 3) more = moved w ((at + 2) + 1) (at + 3) more (behind_first w (at + 2) change more inside) (omega arith) in
     let third : (at + 2) + 1 ≡ at + 3 = omega arith in
-    guard_walk w at test (length inner) (first_part w at head inner s) t
+    let parts = w.law.parts (at + 2) head inner s refl in
+    let inside = w.law.parts (at + 3) (change ∷ []) more parts.1 third in
+    w.law.walked parts.0 (omega arith, (omega arith, tt)) t
     ∙ ap (λ end. cond (holds test (sight w t)) end (run w (at + (2 + length inner)) t))
-    (changes (at + 2) (first_part w (at + 2) (change ∷ []) more inside) t
+    (changes (at + 2) inside.0 t
     ∙ ap (λ n. run w n (after t)) third
-    ∙ acting_walk k outward w c translated ends done to (at + 3) [] act go behind
+    ∙ acting_walk k outward w c translated ends done to (at + 3) [] act go inside.1
     (subst (λ n. Leads w c.nats translated ends done to n act go) same leads) (after t))
     ∙ ap (λ n. cond (holds test (sight w t)) (done_by w c translated act go (after t)) (run w n t)) past
 
@@ -218,9 +220,9 @@ tagging_walk k outward w c translated ends done to at test act tags.Nothing go s
     acting_walk k outward w c translated ends done to at test act go s (subst (λ n. Leads w c.nats translated ends done to (at + n) act go) same leads) t
     ∙ ap (λ n. cond (holds test (sight w t)) (done_by w c translated act go t) (run w (at + n) t)) (sym same)
 tagging_walk k outward w c translated ends done to at test act (tags.Add n) go s leads t =
-    tagged_walk k outward w c translated ends done to at test act (always (rules.AddTag n)) (with_tag n) go (λ at s t. step w at [] (rules.AddTag n) s t) s leads t
+    tagged_walk k outward w c translated ends done to at test act (always (rules.AddTag n)) (with_tag n) go (λ at s t. w.law.walked s (tt, tt) t) s leads t
 tagging_walk k outward w c translated ends done to at test act (tags.Remove n) go s leads t =
-    tagged_walk k outward w c translated ends done to at test act (always (rules.DelTag n)) (without_tag n) go (λ at s t. step w at [] (rules.DelTag n) s t) s leads t
+    tagged_walk k outward w c translated ends done to at test act (always (rules.DelTag n)) (without_tag n) go (λ at s t. w.law.walked s (tt, tt) t) s leads t
 
 -- Rules
 
@@ -263,12 +265,12 @@ block_walk k outward w c translated ends done to at r go s leads t =
     let inner = tagging_first c.nats translated ends done to here r.cond r.act r.tag in
     let wide : length kept ≡ keeping_width r.keep = keeping_length r.keep translated ends in
     let past : at + width c.nats translated r ≡ here + (tagging_width r.tag + acting_width c.nats translated r.act) = omega arith in
-    let inside : Stands w here inner = moved w (at + length kept) here inner (second_part w at kept inner s) (omega (arith, wide)) in
+    let parts = w.law.parts here kept inner s (omega (arith, wide)) in
     let accepted = Accepted (ended k outward (in_half translated t)) in
-    keeping_walk w translated ends at r.keep (first_part w at kept inner s)
+    keeping_walk w translated ends at r.keep parts.0
     (earlier w translated ends here (at + width c.nats translated r) leads.ending (omega arith)) t
     ∙ ap (cond (is_est k && r.keep) accepted)
-    (tagging_walk k outward w c translated ends done to here r.cond r.act r.tag go inside
+    (tagging_walk k outward w c translated ends done to here r.cond r.act r.tag go parts.1
     (subst (λ n. Leads w c.nats translated ends done to n r.act go) past leads) t
     ∙ ap (λ n. cond (holds r.cond (sight w t)) (done_by w c translated r.act go (tagged r.tag t)) (run w n t)) (sym past)
     ∙ ap (cond (holds r.cond (sight w t)) (done_by w c translated r.act go (tagged r.tag t))) (leads.next t)

@@ -2,7 +2,6 @@
 use Rattle.std.proofs.Common.{◌≡◌, ℕ, suc, ◌+◌, ◌*◌, ◌<◌, ◌≤◌, Bool, true, false, cond, Option, Some, None, List, [], ◌∷◌, ◌++◌, length, arith, refl, ap, ◌∙◌, length-append}
 use Rattle.std.specs.List.{find, list_all}
 use Rattle.std.specs.Option.{option_map_or}
-use Rattle.fws_net.specs.declared.condition.Test.TheVariants as tests
 use Rattle.fws_net.specs.declared.connection.Kind.{Kind}
 use Rattle.fws_net.specs.declared.connection.Kind.TheVariants.{New, Est}
 use Rattle.fws_net.specs.declared.packet.Packet.{Packet}
@@ -10,18 +9,18 @@ use Rattle.fws_net.specs.declared.transit.Transit.{Transit}
 use Rattle.fws_net.specs.Conditions.{holds}
 use Rattle.fws_net.specs.Ends.{host_end}
 use Rattle.fws_net.specs.Transits.{with_src, with_dst}
-use Rattle.fws_ifcl.specs.declared.diagram.Act.TheVariants.{Skip, Src, Dst, RecSrc, RecDst}
+use Rattle.fws_ifcl.specs.declared.diagram.Act.TheVariants.{Skip}
 use Rattle.fws_ifcl.specs.declared.step.ChainEnd.{ChainEnd}
-use Rattle.fws_rule.specs.Literals.{positive, negative}
+use Rattle.fws_draw.specs.Places.{sight, run, Stands}
 use Rattle.fws_draw.specs.Rules.{ruled, always}
 use Rattle.fws_ipfw.specs.declared.config.IpfwNat.{IpfwNat}
 use Rattle.fws_ipfw.specs.declared.config.Redirect.{Redirect}
 use Rattle.fws_ipfw.specs.Soundness.{redirect_fits}
 use Rattle.fws_ipfw.specs.Walk.{redirect_out, tracked_on, translated_by}
 use Rattle.fws_ipfw_ifcl.specs.Translating.{by_trial, asking, writing, aliasing, aliasing_width, choosing_all, writing_all, redirecting, redirecting_width, tracking, translating_by, translating, translating_width}
+use Rattle.fws_ipfw_ifcl.proofs.Courses.{Course}
 use Rattle.fws_ipfw_ifcl.proofs.Lengths.{choosing_length, aliasing_length, redirecting_length}
 use Rattle.fws_ipfw_ifcl.proofs.Matching.{found_in, found_out}
-use Rattle.fws_ipfw_ifcl.proofs.Running.{Course, sight, run, Stands, first_part, second_part, moved, behind_first, step, skip, skip_always, step_in, skip_in}
 
 -- what is written for a redirect
 abbrev pub wrote : Packet → Bool → Redirect → Transit → Transit
@@ -33,11 +32,11 @@ abbrev pub aliased : Packet → Bool → ℕ → Transit → Transit
 aliased p true alias t = with_src p (host_end alias None) t
 aliased p false alias t = t
 
--- the rule that writes for a redirect
-written : {k : Kind} {outward : Bool} (w : Course k outward) (out : Bool) (at : ℕ) (r : Redirect) → Stands w at (always (writing out r) ∷ []) → (t : Transit)
-    → run w at t ≡ run w (at + 1) (wrote w.p out r t)
-written w true at r s t = step w at [] (Src r.public) s t
-written w false at r s t = step w at [] (Dst r.local) s t
+-- the rules that write for a redirect
+written : {k : Kind} {outward : Bool} (w : Course k outward) (out : Bool) (at done : ℕ) (r : Redirect) → Stands w at (always (writing out r) ∷ always (Skip done) ∷ [])
+    → at + 1 < done → (t : Transit) → run w at t ≡ run w done (wrote w.p out r t)
+written w true at done r s lt t = w.law.walked s (tt, (lt, tt)) t
+written w false at done r s lt t = w.law.walked s (tt, (lt, tt)) t
 
 -- a redirect in front of those that are looked through
 chosen : {X : Type 0} (f : Redirect → X) (b : Bool) (r : Redirect) (o : Option Redirect) (d : X) → cond b (f r) (option_map_or f o d) ≡ option_map_or f (cond b (Some r) o) d
@@ -55,19 +54,13 @@ choosing_walk w out at to done (r ∷ rs) s writes near far t =
     let f : Redirect → ChainEnd = λ r. run w done (wrote w.p out r t) in
     let asks : Redirect → Bool = λ r. holds (asking out r) (sight w t) in
     let next : (at + 1) + length rs ≡ at + suc (length rs) = omega arith in
-    let first : Stands w to (always (writing out r) ∷ []) =
-    first_part w to (always (writing out r) ∷ []) (always (Skip done) ∷ writing_all out done rs) writes in
-    let second : Stands w (to + 1) (always (Skip done) ∷ writing_all out done rs) =
-    behind_first w to (always (writing out r)) (always (Skip done) ∷ writing_all out done rs) writes in
-    let third : Stands w (to + 2) (writing_all out done rs) =
-    moved w ((to + 1) + 1) (to + 2) (writing_all out done rs) (behind_first w (to + 1) (always (Skip done)) (writing_all out done rs) second) (omega arith) in
-    let hit : run w to t ≡ f r =
-    written w out to r first t ∙ skip_always w (to + 1) done (first_part w (to + 1) (always (Skip done) ∷ []) (writing_all out done rs) second) (omega (arith, far)) (wrote w.p out r t) in
-    let rest : Stands w (at + 1) (choosing_all out (to + 2) rs) = behind_first w at (ruled (asking out r) (Skip to)) (choosing_all out (to + 2) rs) s in
+    let choices = w.law.parts (at + 1) (ruled (asking out r) (Skip to) ∷ []) (choosing_all out (to + 2) rs) s refl in
+    let writings = w.law.parts (to + 2) (always (writing out r) ∷ always (Skip done) ∷ []) (writing_all out done rs) writes refl in
+    let hit : run w to t ≡ f r = written w out to done r writings.0 (omega (arith, far)) t in
     let miss : run w (at + 1) t ≡ option_map_or f (find asks rs) (run w (at + suc (length rs)) t) =
-    choosing_walk w out (at + 1) (to + 2) done rs rest third (omega (arith, near)) (omega (arith, far)) t
+    choosing_walk w out (at + 1) (to + 2) done rs choices.1 writings.1 (omega (arith, near)) (omega (arith, far)) t
     ∙ ap (λ n. option_map_or f (find asks rs) (run w n t)) next in
-    skip w at (asking out r) to (first_part w at (ruled (asking out r) (Skip to) ∷ []) (choosing_all out (to + 2) rs) s) (omega (arith, near)) t
+    w.law.walked choices.0 (omega (arith, near), tt) t
     ∙ ap (λ end. cond (asks r) end (run w (at + 1) t)) hit
     ∙ ap (λ end. cond (asks r) (f r) end) miss
     ∙ chosen f (asks r) r (find asks rs) (run w (at + suc (length rs)) t)
@@ -77,10 +70,10 @@ aliasing_walk : {k : Kind} {outward : Bool} (w : Course k outward) (out : Bool) 
     → Stands w at (aliasing out alias) → Stands w (at + aliasing_width out) (always (Skip done) ∷ []) → at + aliasing_width out < done → (t : Transit)
     → run w at t ≡ run w done (aliased w.p out alias t)
 aliasing_walk w true alias at done s last lt t =
-    step w at [] (Src (host_end alias None)) s t ∙ skip_always w (at + 1) done last lt (with_src w.p (host_end alias None) t)
+    w.law.walked s (tt, tt) t ∙ w.law.walked last (omega (arith, lt), tt) (with_src w.p (host_end alias None) t)
 aliasing_walk w false alias at done s last lt t =
     let same : at ≡ at + 0 = omega arith in
-    ap (λ n. run w n t) same ∙ skip_always w (at + 0) done last lt t
+    ap (λ n. run w n t) same ∙ w.law.walked last (omega (arith, lt), tt) t
 
 -- a function of what is made of the redirect that is met, and of what is there without one
 outside : {X Y : Type 0} (f : X → Y) (g : Redirect → X) (o : Option Redirect) (d : X) → option_map_or (λ r. f (g r)) o (f d) ≡ f (option_map_or g o d)
@@ -101,17 +94,12 @@ redirecting_walk w out alias at done rs s far t =
     let many : length choices ≡ length rs = choosing_length out to rs in
     let few : length middle ≡ aliasing_width out = aliasing_length out alias in
     let all : length (choices ++ middle) ≡ length choices + length middle = length-append choices middle in
-    let front : Stands w at (choices ++ middle) = first_part w at (choices ++ middle) (last ∷ writes) s in
-    let chooses : Stands w at choices = first_part w at choices middle front in
-    let aliases : Stands w (at + length rs) middle =
-    moved w (at + length choices) (at + length rs) middle (second_part w at choices middle front) (omega (arith, many)) in
-    let back : Stands w ((at + length rs) + aliasing_width out) (last ∷ writes) =
-    moved w (at + length (choices ++ middle)) ((at + length rs) + aliasing_width out) (last ∷ writes) (second_part w at (choices ++ middle) (last ∷ writes) s) (omega (arith, many, few, all)) in
-    let writing : Stands w to writes =
-    moved w (((at + length rs) + aliasing_width out) + 1) to writes (behind_first w ((at + length rs) + aliasing_width out) last writes back) (omega arith) in
-    choosing_walk w out at to done rs chooses writing (omega arith) (omega (arith, far)) t
+    let parts = w.law.parts ((at + length rs) + aliasing_width out) (choices ++ middle) (last ∷ writes) s (omega (arith, many, few, all)) in
+    let front = w.law.parts (at + length rs) choices middle parts.0 (omega (arith, many)) in
+    let back = w.law.parts to (last ∷ []) writes parts.1 (omega arith) in
+    choosing_walk w out at to done rs front.0 back.1 (omega arith) (omega (arith, far)) t
     ∙ ap (option_map_or (λ r. run w done (wrote w.p out r t)) (find asks rs))
-    (aliasing_walk w out alias (at + length rs) done aliases (first_part w ((at + length rs) + aliasing_width out) (last ∷ []) writes back) (omega (arith, far)) t)
+    (aliasing_walk w out alias (at + length rs) done front.1 back.0 (omega (arith, far)) t)
     ∙ outside (run w done) (λ r. wrote w.p out r t) (find asks rs) (aliased w.p out alias t)
 
 -- Tracking
@@ -125,36 +113,10 @@ after_tracking New false inwards outwards done = inwards
 -- packets of connections get their ends, and the others come to the rules for redirects
 tracking_walk : (k : Kind) (outward : Bool) (w : Course k outward) (at done outwards : ℕ) → Stands w at (tracking done outwards) → at + 4 ≤ done → at + 4 ≤ outwards → (t : Transit)
     → run w at t ≡ run w (after_tracking k outward (at + 4) outwards done) (tracked_on k outward t)
-tracking_walk (Est r) true w at done outwards s far out t =
-    let same : at ≡ at + 0 = omega arith in
-    let rules = tracking done outwards in
-    ap (λ n. run w n t) same
-    ∙ step_in w at rules 0 (negative tests.Outward ∷ []) RecDst s refl t
-    ∙ step_in w at rules 1 (positive tests.Outward ∷ []) RecSrc s refl t
-    ∙ skip_in w at rules 2 (positive tests.Est ∷ []) done s refl (omega (arith, far)) (tracked_on (Est r) true t)
-tracking_walk (Est r) false w at done outwards s far out t =
-    let same : at ≡ at + 0 = omega arith in
-    let rules = tracking done outwards in
-    ap (λ n. run w n t) same
-    ∙ step_in w at rules 0 (negative tests.Outward ∷ []) RecDst s refl t
-    ∙ step_in w at rules 1 (positive tests.Outward ∷ []) RecSrc s refl (tracked_on (Est r) false t)
-    ∙ skip_in w at rules 2 (positive tests.Est ∷ []) done s refl (omega (arith, far)) (tracked_on (Est r) false t)
-tracking_walk New true w at done outwards s far out t =
-    let same : at ≡ at + 0 = omega arith in
-    let rules = tracking done outwards in
-    ap (λ n. run w n t) same
-    ∙ step_in w at rules 0 (negative tests.Outward ∷ []) RecDst s refl t
-    ∙ step_in w at rules 1 (positive tests.Outward ∷ []) RecSrc s refl t
-    ∙ skip_in w at rules 2 (positive tests.Est ∷ []) done s refl (omega (arith, far)) t
-    ∙ skip_in w at rules 3 (positive tests.Outward ∷ []) outwards s refl (omega (arith, out)) t
-tracking_walk New false w at done outwards s far out t =
-    let same : at ≡ at + 0 = omega arith in
-    let rules = tracking done outwards in
-    ap (λ n. run w n t) same
-    ∙ step_in w at rules 0 (negative tests.Outward ∷ []) RecDst s refl t
-    ∙ step_in w at rules 1 (positive tests.Outward ∷ []) RecSrc s refl t
-    ∙ skip_in w at rules 2 (positive tests.Est ∷ []) done s refl (omega (arith, far)) t
-    ∙ skip_in w at rules 3 (positive tests.Outward ∷ []) outwards s refl (omega (arith, out)) t
+tracking_walk (Est r) true w at done outwards s far out t = w.law.walked s (tt, (tt, (omega (arith, far), (omega (arith, out), tt)))) t
+tracking_walk (Est r) false w at done outwards s far out t = w.law.walked s (tt, (tt, (omega (arith, far), (omega (arith, out), tt)))) t
+tracking_walk New true w at done outwards s far out t = w.law.walked s (tt, (tt, (omega (arith, far), (omega (arith, out), tt)))) t
+tracking_walk New false w at done outwards s far out t = w.law.walked s (tt, (tt, (omega (arith, far), (omega (arith, out), tt)))) t
 
 -- Translating
 
@@ -183,14 +145,12 @@ translating_by_walk k outward w at done nat fits s far t =
     let outer = redirecting true nat.alias outwards done rs in
     let wide : length inner ≡ redirecting_width false rs = redirecting_length false nat.alias (at + 4) done rs in
     let all : length (tracks ++ inner) ≡ 4 + length inner = length-append tracks inner in
-    let front : Stands w at (tracks ++ inner) = first_part w at (tracks ++ inner) outer s in
-    let inside : Stands w (at + 4) inner = second_part w at tracks inner front in
-    let outside : Stands w outwards outer =
-    moved w (at + length (tracks ++ inner)) outwards outer (second_part w at (tracks ++ inner) outer s) (omega (arith, wide, all)) in
-    tracking_walk k outward w at done outwards (first_part w at tracks inner front) (omega (arith, far)) (omega arith) t
+    let parts = w.law.parts outwards (tracks ++ inner) outer s (omega (arith, wide, all)) in
+    let front = w.law.parts (at + 4) tracks inner parts.0 refl in
+    tracking_walk k outward w at done outwards front.0 (omega (arith, far)) (omega arith) t
     ∙ translated_found k outward w nat fits (at + 4) outwards done t
-    (redirecting_walk w false nat.alias (at + 4) done rs inside (omega (arith, far)) t)
-    (redirecting_walk w true nat.alias outwards done rs outside (omega (arith, far)) t)
+    (redirecting_walk w false nat.alias (at + 4) done rs front.1 (omega (arith, far)) t)
+    (redirecting_walk w true nat.alias outwards done rs parts.1 (omega (arith, far)) t)
 
 -- an instance that is there fits
 abbrev pub NatFits : Option IpfwNat → Type 0
@@ -201,5 +161,5 @@ NatFits (Some nat) = list_all redirect_fits nat.redirects ≡ true
 pub translating_walk : (k : Kind) (outward : Bool) (w : Course k outward) (at done : ℕ) (nat : Option IpfwNat) → NatFits nat
     → Stands w at (translating at done nat) → at + translating_width nat ≤ done → (t : Transit)
     → run w at t ≡ run w done (option_map_or (λ n. translated_by w.p k outward n t) nat t)
-translating_walk k outward w at done None fits s far t = skip_always w at done s (omega (arith, far)) t
+translating_walk k outward w at done None fits s far t = w.law.walked s (omega (arith, far), tt) t
 translating_walk k outward w at done (Some nat) fits s far t = translating_by_walk k outward w at done nat fits s far t

@@ -2,7 +2,6 @@
 use Rattle.std.proofs.Common.{◌≡◌, ℕ, zero, suc, Bool, true, false, ◌||◌, not, cond, nat_eq, Option, Some, None, List, [], ◌∷◌, slice_get, refl, sym, ap, ◌∙◌, true≢false, arith}
 use Rattle.std.proofs.lemmas.Bool.{or_right, and_parts}
 use Rattle.std.proofs.lemmas.Bool.Decides.{nat_tests}
-use Rattle.std.specs.List.{find, list_any}
 use Rattle.fws_ipfw.specs.declared.config.IpfwNat.{IpfwNat}
 use Rattle.fws_ipfw.specs.FileText.{has_nat}
 use Rattle.fws_ipfw.specs.Soundness.{are_apart}

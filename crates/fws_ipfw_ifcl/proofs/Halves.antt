@@ -1,8 +1,7 @@
 -- The two halves of the rules walk as ipfw's rules do.
-use Rattle.std.proofs.Common.{◌≡◌, ℕ, suc, ◌+◌, ◌≤◌, Bool, true, false, cond, ◌&&◌, ◌||◌, not, nat_lt, Option, List, [], ◌∷◌, ◌++◌, length, arith, refl, sym, ap, ◌∙◌, subst, length-append, append-nil}
+use Rattle.std.proofs.Common.{◌≡◌, ℕ, suc, ◌+◌, ◌≤◌, Bool, true, false, cond, ◌&&◌, ◌||◌, not, nat_lt, Option, List, [], ◌∷◌, ◌++◌, length, take, arith, refl, sym, ap, ◌∙◌, subst, length-append, append-nil}
 use Rattle.std.proofs.lemmas.Bool.{false≢true, le-ltb, cond-true, cond-false}
 use Rattle.std.specs.List.{list_all, list_any}
-use Rattle.fws_net.specs.declared.condition.Test.TheVariants as tests
 use Rattle.fws_net.specs.declared.connection.Kind.{Kind}
 use Rattle.fws_net.specs.declared.packet.Packet.{Packet}
 use Rattle.fws_net.specs.declared.site.Site.{Site}
@@ -10,9 +9,8 @@ use Rattle.fws_net.specs.declared.transit.Transit.{Transit}
 use Rattle.fws_ifcl.specs.declared.diagram.Act.TheVariants as rules
 use Rattle.fws_ifcl.specs.declared.step.ChainEnd.{ChainEnd}
 use Rattle.fws_ifcl.specs.declared.step.ChainEnd.TheVariants.{Accepted}
-use Rattle.fws_rule.specs.Literals.{positive, negative}
+use Rattle.fws_draw.specs.Places.{WalksGoByPlaces, run, Stands}
 use Rattle.fws_draw.specs.Rules.{always}
-use Rattle.fws_draw.specs.Skips.{SkipsGoOn}
 use Rattle.fws_ipfw.specs.declared.config.IpfwAct.{IpfwAct}
 use Rattle.fws_ipfw.specs.declared.config.IpfwAct.TheVariants as acts
 use Rattle.fws_ipfw.specs.declared.config.IpfwRule.{IpfwRule}
@@ -23,8 +21,8 @@ use Rattle.fws_ipfw.specs.Soundness.{nat_fits}
 use Rattle.fws_ipfw.specs.Walk.{tracked_on, behind as behind_nat, stepped, rules_walk}
 use Rattle.fws_ipfw_ifcl.specs.Blocks.{block, width, widths, place_from, skipping_to, place_behind, blocks}
 use Rattle.fws_ipfw_ifcl.specs.Diagram.{translates, goes_on, second_width, second_place, ending_place, ending, half, second_half, all_rules}
+use Rattle.fws_ipfw_ifcl.proofs.Courses.{Course, course}
 use Rattle.fws_ipfw_ifcl.proofs.Lengths.{block_length, blocks_length}
-use Rattle.fws_ipfw_ifcl.proofs.Running.{Course, run, Stands, first_part, second_part, moved, behind_first, step, step_in}
 use Rattle.fws_ipfw_ifcl.proofs.Acting.{left_by, in_half, EndsAt, SkipsTo, TranslatesTo, earlier, met, block_walk}
 
 -- Places
@@ -98,7 +96,7 @@ half_walk : (k : Kind) (outward : Bool) (w : Course k outward) (c : IpfwConfig) 
     → (n : ℕ) (t : Transit) → run w (place_from c.nats translated at rs n) t ≡ left_by (rules_walk c w.site w.p k outward rs n (in_half translated t))
 half_walk k outward w c fits translated ends past at other [] s drops wide ending on n t =
     let same : at ≡ past = omega (arith, wide) in
-    ap (λ place. run w place t) same ∙ step w past [] rules.Drop drops t
+    ap (λ place. run w place t) same ∙ w.law.walked drops (tt, tt) t
 half_walk k outward w c fits translated ends past at other (r ∷ rs) s drops wide ending on n t =
     let next = at + width c.nats translated r in
     let done = place_behind w.site.one_pass ends (other + width c.nats true r) in
@@ -107,14 +105,14 @@ half_walk k outward w c fits translated ends past at other (r ∷ rs) s drops wi
     let more = blocks c.nats w.site.one_pass translated ends next (other + width c.nats true r) rs in
     let go = rules_walk c w.site w.p k outward rs in
     let many : length here ≡ width c.nats translated r = block_length c.nats translated ends done to at r in
-    let rest : Stands w next more = moved w (at + length here) next more (second_part w at here more s) (omega (arith, many)) in
+    let parts = w.law.parts next here more s (omega (arith, many)) in
     let left : next + widths c.nats translated rs ≡ past = omega (arith, wide) in
     let before : next ≤ past = omega (arith, left) in
     let behind : (m : ℕ) (u : Transit) → run w (place_from c.nats translated next rs m) u ≡ left_by (go m (in_half translated u)) =
-    half_walk k outward w c fits translated ends past next (other + width c.nats true r) rs rest drops left ending on.1 in
+    half_walk k outward w c fits translated ends past next (other + width c.nats true r) rs parts.1 drops left ending on.1 in
     placed_walk w (nat_lt r.number n) (place_from c.nats translated next rs n) at t (go n (in_half translated t)) (met w c translated r go t)
     (behind n t)
-    (block_walk k outward w c translated ends done to at r go (first_part w at here more s) (record {
+    (block_walk k outward w c translated ends done to at r go parts.0 (record {
       fits = fits;
       next = λ u. ap (λ place. run w place u) (sym (place_zero c.nats translated next rs)) ∙ behind 0 u;
       ending = earlier w translated ends next past ending before;
@@ -199,7 +197,7 @@ twice_continues k outward w c fits ends past far other (r ∷ rs) is s drops wid
     let here = block c.nats true ends done to other r in
     let more = blocks c.nats w.site.one_pass true ends next next rs in
     let many : length here ≡ width c.nats true r = block_length c.nats true ends done to other r in
-    let rest : Stands w next more = moved w (other + length here) next more (second_part w other here more s) (omega (arith, many)) in
+    let rest = (w.law.parts next here more s (omega (arith, many))).1 in
     let left : next + widths c.nats true rs ≡ far = omega (arith, wide) in
     let same : done ≡ next = ap (λ o. place_behind o ends next) is in (
       first_translates w done past r.act go
@@ -217,24 +215,10 @@ twice_continues k outward w c fits ends past far other (r ∷ rs) is s drops wid
 
 -- the rules that end a pass
 ending_walk : (k : Kind) (outward : Bool) (w : Course k outward) (ends : ℕ) → Stands w ends ending → (t : Transit) → run w ends t ≡ Accepted (tracked_on k outward t)
-ending_walk k true w ends s t =
-    let same : ends ≡ ends + 0 = omega arith in
-    ap (λ n. run w n t) same
-    ∙ step_in w ends ending 0 (negative tests.Outward ∷ []) rules.RecDst s refl t
-    ∙ step_in w ends ending 1 (positive tests.Outward ∷ []) rules.RecSrc s refl t
-    ∙ step_in w ends ending 2 [] rules.Accept s refl (tracked_on k true t)
-ending_walk k false w ends s t =
-    let same : ends ≡ ends + 0 = omega arith in
-    ap (λ n. run w n t) same
-    ∙ step_in w ends ending 0 (negative tests.Outward ∷ []) rules.RecDst s refl t
-    ∙ step_in w ends ending 1 (positive tests.Outward ∷ []) rules.RecSrc s refl (tracked_on k false t)
-    ∙ step_in w ends ending 2 [] rules.Accept s refl (tracked_on k false t)
+ending_walk k true w ends s t = w.law.walked s (tt, (tt, (tt, tt))) t
+ending_walk k false w ends s t = w.law.walked s (tt, (tt, (tt, tt))) t
 
 -- All rules
-
--- a packet on its pass through the diagram's rules
-abbrev pub course : SkipsGoOn → (ℕ → Transit → ChainEnd) → (site : Site) → Packet → (k : Kind) (outward : Bool) → IpfwConfig → Course k outward
-course law enter site p k outward c = record { law = law; enter = enter; site = site; p = p; full = all_rules site c }
 
 -- how many rules the second half has
 pub second_length : (site : Site) (c : IpfwConfig) (b : Bool) → length (cond b (half site c true) []) ≡ cond b (widths c.nats true c.rules) 0
@@ -259,31 +243,28 @@ all_continue k outward w c fits false true one some ends past far at_ends s drop
     twice_continues k outward w c fits ends past far (second_place c) c.rules one stand drops (omega (arith, wide, full)) le
 
 -- a pass through all rules
-pub pass_drawn : (law : SkipsGoOn) (enter : ℕ → Transit → ChainEnd) (site : Site) (p : Packet) (k : Kind) (outward : Bool) (c : IpfwConfig) → list_all nat_fits c.nats ≡ true → (t : Transit)
-    → run (course law enter site p k outward c) 0 t ≡ left_by (rules_walk c site p k outward c.rules 0 (in_half false t))
+pub pass_drawn : (law : WalksGoByPlaces) (enter : ℕ → Transit → ChainEnd) (site : Site) (p : Packet) (k : Kind) (outward : Bool) (c : IpfwConfig) → list_all nat_fits c.nats ≡ true
+    → (t : Transit) → run (course law enter site p k outward c) 0 t ≡ left_by (rules_walk c site p k outward c.rules 0 (in_half false t))
 pass_drawn law enter site p k outward c fits t =
     let w = course law enter site p k outward c in
     let first = half site c false in
     let second = second_half site c in
     let drop = always rules.Drop in
     let ends = ending_place site c in
+    let past = widths c.nats false c.rules in
     let far = second_place c + second_width site c in
     let whole : Stands w 0 (all_rules site c) = record { rest = []; are = sym (append-nil (all_rules site c)) } in
-    let long : length first ≡ widths c.nats false c.rules = blocks_length c.nats site.one_pass false ends 0 (second_place c) c.rules in
+    let long : length first ≡ past = blocks_length c.nats site.one_pass false ends 0 (second_place c) c.rules in
     let wide : length second ≡ second_width site c = second_length site c (goes_on site c) in
-    let front : Stands w 0 (first ++ drop ∷ second) = first_part w 0 (first ++ drop ∷ second) (drop ∷ ending) whole in
     let many : length (first ++ drop ∷ second) ≡ length first + suc (length second) = length-append first (drop ∷ second) in
-    let middle : Stands w (widths c.nats false c.rules) (drop ∷ second) =
-    moved w (0 + length first) (widths c.nats false c.rules) (drop ∷ second) (second_part w 0 first (drop ∷ second) front) (omega (arith, long)) in
-    let seconds : Stands w (second_place c) second = behind_first w (widths c.nats false c.rules) drop second middle in
-    let back : Stands w far (drop ∷ ending) =
-    moved w (0 + length (first ++ drop ∷ second)) far (drop ∷ ending) (second_part w 0 (first ++ drop ∷ second) (drop ∷ ending) whole) (omega (arith, long, wide, many)) in
-    let last : Stands w ends ending = moved w (far + 1) ends ending (behind_first w far drop ending back) (omega arith) in
-    let drops : Stands w far (drop ∷ []) = first_part w far (drop ∷ []) ending back in
-    let first_drops : Stands w (widths c.nats false c.rules) (drop ∷ []) = first_part w (widths c.nats false c.rules) (drop ∷ []) second middle in
-    let on : Continues w c false ends (widths c.nats false c.rules) (second_place c) c.rules =
-    all_continue k outward w c fits site.one_pass (list_any (λ (r : IpfwRule). translates r.act) c.rules) refl refl ends (widths c.nats false c.rules) far refl seconds drops refl
-    (omega arith) (omega arith) (λ u. step_in w ends ending 2 [] rules.Accept last refl u) in
+    let parts = w.law.parts far (first ++ drop ∷ second) (drop ∷ ending) whole (omega (arith, long, wide, many)) in
+    let front = w.law.parts past first (drop ∷ second) parts.0 (omega (arith, long)) in
+    let middle = w.law.parts (second_place c) (drop ∷ []) second front.1 refl in
+    let back = w.law.parts ends (drop ∷ []) ending parts.1 (omega arith) in
+    let last = w.law.parts (ends + 2) (take 2 ending) (always rules.Accept ∷ []) back.1 refl in
+    let on : Continues w c false ends past (second_place c) c.rules =
+    all_continue k outward w c fits site.one_pass (list_any (λ (r : IpfwRule). translates r.act) c.rules) refl refl ends past far refl middle.1 back.0 refl
+    (omega arith) (omega arith) (λ u. w.law.walked last.1 (tt, tt) u) in
     ap (λ place. run w place t) (sym (place_zero c.nats false 0 c.rules))
-    ∙ half_walk k outward w c fits false ends (widths c.nats false c.rules) 0 (second_place c) c.rules (first_part w 0 first (drop ∷ second) front) first_drops (omega arith)
-    (omega arith, ending_walk k outward w ends last) on 0 t
+    ∙ half_walk k outward w c fits false ends past 0 (second_place c) c.rules front.0 middle.0 (omega arith)
+    (omega arith, ending_walk k outward w ends back.1) on 0 t

@@ -2,8 +2,7 @@
 use Rattle.std.proofs.Common.{◌≡◌, ℕ, suc, ◌+◌, ◌*◌, Bool, true, false, Option, Some, None, List, [], ◌∷◌, ◌++◌, length, arith, refl, ap, length-append}
 use Rattle.fws_net.specs.declared.condition.Lit.{Lit}
 use Rattle.fws_ifcl.specs.declared.diagram.Act.TheVariants.{Skip, AddTag, DelTag}
-use Rattle.fws_ifcl.specs.declared.diagram.Rule.{Rule}
-use Rattle.fws_draw.specs.Rules.{ruled, always}
+use Rattle.fws_draw.specs.Rules.{always, guard, guarded}
 use Rattle.fws_ipfw.specs.declared.config.IpfwAct.{IpfwAct}
 use Rattle.fws_ipfw.specs.declared.config.IpfwAct.TheVariants as acts
 use Rattle.fws_ipfw.specs.declared.config.IpfwTag.{IpfwTag}
@@ -13,7 +12,7 @@ use Rattle.fws_ipfw.specs.declared.config.IpfwRule.{IpfwRule}
 use Rattle.fws_ipfw.specs.declared.config.Redirect.{Redirect}
 use Rattle.fws_ipfw.specs.Walk.{nat_numbered}
 use Rattle.fws_ipfw_ifcl.specs.Translating.{by_trial, aliasing, aliasing_width, choosing_all, writing_all, redirecting, redirecting_width, tracking, translating_by, translating, translating_width}
-use Rattle.fws_ipfw_ifcl.specs.Blocks.{guarded, acting, acting_width, tagging_first, tagging_width, keeping, keeping_width, block, width, widths, place_behind, skipping_to, blocks}
+use Rattle.fws_ipfw_ifcl.specs.Blocks.{acting, acting_width, tagging_first, tagging_width, keeping, keeping_width, block, width, widths, place_behind, skipping_to, blocks}
 
 -- the rules that choose
 pub choosing_length : (outward : Bool) (to : ℕ) (rs : List Redirect) → length (choosing_all outward to rs) ≡ length rs
@@ -65,10 +64,6 @@ pub translating_length : (at done : ℕ) (nat : Option IpfwNat) → length (tran
 translating_length at done None = refl
 translating_length at done (Some nat) = translating_by_length at done nat
 
--- rules met where a condition holds
-pub guarded_length : (at : ℕ) (cond : List Lit) (inner : List Rule) → length (guarded at cond inner) ≡ 2 + length inner
-guarded_length at cond inner = length-append (ruled cond (Skip (at + 2)) ∷ always (Skip (at + (2 + length inner))) ∷ []) inner
-
 -- the rules of an act
 pub acting_length : (nats : List IpfwNat) (translated : Bool) (ends done to at : ℕ) (cond : List Lit) (act : IpfwAct)
     → length (acting nats translated ends done to at cond act) ≡ acting_width nats translated act
@@ -84,9 +79,9 @@ acting_length nats false ends done to at cond acts.Count = refl
 acting_length nats false ends done to at cond (acts.Skip n) = refl
 acting_length nats false ends done to at cond acts.Check = refl
 acting_length nats false ends done to at cond (acts.Nat n) =
-    let all : length (acting nats false ends done to at cond (acts.Nat n)) ≡ 2 + length (translating (at + 2) done (nat_numbered n nats)) =
-    guarded_length at cond (translating (at + 2) done (nat_numbered n nats)) in
-    let inner : length (translating (at + 2) done (nat_numbered n nats)) ≡ translating_width (nat_numbered n nats) = translating_length (at + 2) done (nat_numbered n nats) in
+    let body = translating (at + 2) done (nat_numbered n nats) in
+    let all : length (guarded at cond body) ≡ 2 + length body = length-append (guard at cond (length body)) body in
+    let inner : length body ≡ translating_width (nat_numbered n nats) = translating_length (at + 2) done (nat_numbered n nats) in
     omega (arith, all, inner)
 
 -- the rules of a tag and of the act behind it
@@ -97,12 +92,12 @@ tagging_first_length nats translated ends done to at cond act tags.Nothing =
     omega (arith, inner)
 tagging_first_length nats translated ends done to at cond act (tags.Add n) =
     let body = always (AddTag n) ∷ acting nats translated ends done to (at + 3) [] act in
-    let all : length (guarded at cond body) ≡ 2 + length body = guarded_length at cond body in
+    let all : length (guarded at cond body) ≡ 2 + length body = length-append (guard at cond (length body)) body in
     let inner : length (acting nats translated ends done to (at + 3) [] act) ≡ acting_width nats translated act = acting_length nats translated ends done to (at + 3) [] act in
     omega (arith, all, inner)
 tagging_first_length nats translated ends done to at cond act (tags.Remove n) =
     let body = always (DelTag n) ∷ acting nats translated ends done to (at + 3) [] act in
-    let all : length (guarded at cond body) ≡ 2 + length body = guarded_length at cond body in
+    let all : length (guarded at cond body) ≡ 2 + length body = length-append (guard at cond (length body)) body in
     let inner : length (acting nats translated ends done to (at + 3) [] act) ≡ acting_width nats translated act = acting_length nats translated ends done to (at + 3) [] act in
     omega (arith, all, inner)
 

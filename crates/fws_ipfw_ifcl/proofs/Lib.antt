@@ -1,12 +1,11 @@
 mod Lengths
-mod Running
+mod Courses
 mod Matching
 mod Choosing
 mod Acting
 mod Halves
 mod Passing
 mod Numbered
-mod Unfolding
 mod Found
 mod Places
 mod Putting

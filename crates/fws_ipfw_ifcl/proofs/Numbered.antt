@@ -1,6 +1,6 @@
 -- Each skip of the diagram goes forward, to at most one past the last rule.
-use Rattle.std.proofs.Common.{◌≡◌, ℕ, suc, ◌+◌, ◌*◌, ◌<◌, ◌≤◌, Bool, true, false, cond, ◌&&◌, not, nat_lt, nat_le, Option, Some, None, List, [], ◌∷◌, ◌++◌, length, arith, refl, sym, ap, ◌∙◌, subst, length-append}
-use Rattle.std.proofs.lemmas.Bool.{false≢true, le-leb, lt-ltb, and_from, and_parts, cond-true}
+use Rattle.std.proofs.Common.{◌≡◌, ℕ, suc, ◌+◌, ◌*◌, ◌<◌, ◌≤◌, Bool, true, false, cond, ◌&&◌, not, nat_lt, Option, Some, None, List, [], ◌∷◌, ◌++◌, length, arith, refl, sym, ap, ◌∙◌, subst, length-append}
+use Rattle.std.proofs.lemmas.Bool.{false≢true, cond-true}
 use Rattle.std.specs.List.{list_any}
 use Rattle.fws_net.specs.declared.condition.Lit.{Lit}
 use Rattle.fws_net.specs.declared.condition.Test.TheVariants as tests
@@ -9,7 +9,9 @@ use Rattle.fws_ifcl.specs.declared.diagram.Act.TheVariants as rules
 use Rattle.fws_ifcl.specs.declared.diagram.Rule.{Rule}
 use Rattle.fws_ifcl.specs.Soundness.{act_ok, rules_ok, ifcl_ok}
 use Rattle.fws_rule.specs.Literals.{positive, negative}
-use Rattle.fws_draw.specs.Rules.{ruled, always}
+use Rattle.fws_draw.specs.Right.{RightAmong, RightByParts, RulesAreRightByParts}
+use Rattle.fws_draw.specs.Rules.{ruled, always, guarded}
+use Rattle.fws_draw.specs.Straight.{is_straight}
 use Rattle.fws_ipfw.specs.declared.config.IpfwAct.{IpfwAct}
 use Rattle.fws_ipfw.specs.declared.config.IpfwAct.TheVariants as acts
 use Rattle.fws_ipfw.specs.declared.config.IpfwTag.{IpfwTag}
@@ -20,41 +22,16 @@ use Rattle.fws_ipfw.specs.declared.config.IpfwNat.{IpfwNat}
 use Rattle.fws_ipfw.specs.declared.config.Redirect.{Redirect}
 use Rattle.fws_ipfw.specs.Walk.{nat_numbered}
 use Rattle.fws_ipfw_ifcl.specs.Translating.{by_trial, asking, writing, aliasing, aliasing_width, choosing_all, writing_all, redirecting, redirecting_width, tracking, translating, translating_width}
-use Rattle.fws_ipfw_ifcl.specs.Blocks.{accepting, guarded, acting, acting_width, tagging_first, tagging_width, keeping, keeping_width, block, width, widths, place_from, skipping_to, place_behind, blocks}
+use Rattle.fws_ipfw_ifcl.specs.Blocks.{accepting, acting, acting_width, tagging_first, tagging_width, keeping, keeping_width, block, width, widths, place_from, skipping_to, place_behind, blocks}
 use Rattle.fws_ipfw_ifcl.specs.Diagram.{translates, goes_on, second_width, second_place, ending_place, ending, half, second_half, all_rules, diagram_of}
 use Rattle.fws_ipfw_ifcl.proofs.Lengths.{choosing_length, aliasing_length, redirecting_length, translating_length, acting_length, keeping_length, block_length, blocks_length}
 use Rattle.fws_ipfw_ifcl.proofs.Halves.{place_later, second_length, or_parts}
 
 -- among so many chains, and in a chain of so many rules
-module _ (chains total : ℕ) where
+module _ (chains total : ℕ) (right : RightByParts chains total) where
   -- rules of which the first has the place at are right
   abbrev Right : ℕ → List Rule → Type 0
-  Right at xs = rules_ok chains total at xs ≡ true
-
-  -- a skip forward within the rules
-  skip_ok : (at to : ℕ) → at < to → to ≤ total → act_ok chains total at (rules.Skip to) ≡ true
-  skip_ok at to lt le = and_from (nat_lt at to) (nat_le to total) (lt-ltb at to lt) (le-leb to total le)
-
-  -- a rule in front
-  right_first : (at : ℕ) (r : Rule) (rs : List Rule) → act_ok chains total at r.act ≡ true → Right (at + 1) rs → Right at (r ∷ rs)
-  right_first at r rs here rest =
-      let next : at + 1 ≡ suc at = omega arith in
-      and_from (act_ok chains total at r.act) (rules_ok chains total (suc at) rs) here (subst (λ n. Right n rs) next rest)
-
-  -- rules behind rules
-  right_joined : (at : ℕ) (xs ys : List Rule) → Right at xs → Right (at + length xs) ys → Right at (xs ++ ys)
-  right_joined at [] ys first second =
-      let same : at + 0 ≡ at = omega arith in
-      subst (λ n. Right n ys) same second
-  right_joined at (x ∷ xs) ys first second =
-      let both = and_parts (act_ok chains total at x.act) (rules_ok chains total (suc at) xs) first in
-      let next : at + suc (length xs) ≡ suc at + length xs = omega arith in
-      and_from (act_ok chains total at x.act) (rules_ok chains total (suc at) (xs ++ ys)) both.0
-      (right_joined (suc at) xs ys both.1 (subst (λ n. Right n ys) next second))
-
-  -- rules at the same place
-  right_at : (from to : ℕ) (xs : List Rule) → Right from xs → from ≡ to → Right to xs
-  right_at from to xs right same = subst (λ n. Right n xs) same right
+  Right at rules = RightAmong chains total at rules
 
   -- Translating
 
@@ -62,7 +39,7 @@ module _ (chains total : ℕ) where
   choosing_right : (out : Bool) (at to : ℕ) (rs : List Redirect) → at + length rs ≤ to → to + 2 * length rs ≤ total → Right at (choosing_all out to rs)
   choosing_right out at to [] near far = refl
   choosing_right out at to (r ∷ rs) near far =
-      right_first at (ruled (asking out r) (rules.Skip to)) (choosing_all out (to + 2) rs) (skip_ok at to (omega (arith, near)) (omega (arith, far)))
+      right.first at (ruled (asking out r) (rules.Skip to)) (choosing_all out (to + 2) rs) (right.skip at to (omega (arith, near)) (omega (arith, far)))
       (choosing_right out (at + 1) (to + 2) rs (omega (arith, near)) (omega (arith, far)))
 
   -- a rule that writes
@@ -74,8 +51,8 @@ module _ (chains total : ℕ) where
   writing_right : (out : Bool) (at done : ℕ) (rs : List Redirect) → at + 2 * length rs ≤ done → done ≤ total → Right at (writing_all out done rs)
   writing_right out at done [] near far = refl
   writing_right out at done (r ∷ rs) near far =
-      right_first at (always (writing out r)) (always (rules.Skip done) ∷ writing_all out done rs) (write_ok out at r)
-      (right_first (at + 1) (always (rules.Skip done)) (writing_all out done rs) (skip_ok (at + 1) done (omega (arith, near)) far)
+      right.first at (always (writing out r)) (always (rules.Skip done) ∷ writing_all out done rs) (write_ok out at r)
+      (right.first (at + 1) (always (rules.Skip done)) (writing_all out done rs) (right.skip (at + 1) done (omega (arith, near)) far)
       (writing_right out ((at + 1) + 1) done rs (omega (arith, near)) far))
 
   -- the rules for the alias
@@ -95,24 +72,24 @@ module _ (chains total : ℕ) where
       let few : length middle ≡ aliasing_width out = aliasing_length out alias in
       let all : length (choices ++ middle) ≡ length choices + length middle = length-append choices middle in
       let place : (at + length (choices ++ middle)) + 1 ≡ to = omega (arith, many, few, all) in
-      right_joined at (choices ++ middle) (last ∷ writes)
-      (right_joined at choices middle (choosing_right out at to rs (omega arith) (omega (arith, near, far))) (aliasing_right out alias (at + length choices)))
-      (right_first (at + length (choices ++ middle)) last writes (skip_ok (at + length (choices ++ middle)) done (omega (arith, place, near)) far)
-      (right_at to ((at + length (choices ++ middle)) + 1) writes (writing_right out to done rs (omega (arith, near)) far) (sym place)))
+      right.joined at (at + length (choices ++ middle)) (choices ++ middle) (last ∷ writes) refl
+      (right.joined at (at + length choices) choices middle refl (choosing_right out at to rs (omega arith) (omega (arith, near, far))) (aliasing_right out alias (at + length choices)))
+      (right.first (at + length (choices ++ middle)) last writes (right.skip (at + length (choices ++ middle)) done (omega (arith, place, near)) far)
+      (subst (λ n. Right n writes) (sym place) (writing_right out to done rs (omega (arith, near)) far)))
 
   -- the rules for packets of connections
   tracking_right : (at done outwards : ℕ) → at + 4 ≤ done → done ≤ total → at + 4 ≤ outwards → outwards ≤ total → Right at (tracking done outwards)
   tracking_right at done outwards near far out out_far =
       let third = ruled (positive tests.Est ∷ []) (rules.Skip done) in
       let fourth = ruled (positive tests.Outward ∷ []) (rules.Skip outwards) in
-      right_first at (ruled (negative tests.Outward ∷ []) rules.RecDst) (ruled (positive tests.Outward ∷ []) rules.RecSrc ∷ third ∷ fourth ∷ []) refl
-      (right_first (at + 1) (ruled (positive tests.Outward ∷ []) rules.RecSrc) (third ∷ fourth ∷ []) refl
-      (right_first ((at + 1) + 1) third (fourth ∷ []) (skip_ok ((at + 1) + 1) done (omega (arith, near)) far)
-      (right_first (((at + 1) + 1) + 1) fourth [] (skip_ok (((at + 1) + 1) + 1) outwards (omega (arith, out)) out_far) refl)))
+      right.first at (ruled (negative tests.Outward ∷ []) rules.RecDst) (ruled (positive tests.Outward ∷ []) rules.RecSrc ∷ third ∷ fourth ∷ []) refl
+      (right.first (at + 1) (ruled (positive tests.Outward ∷ []) rules.RecSrc) (third ∷ fourth ∷ []) refl
+      (right.first ((at + 1) + 1) third (fourth ∷ []) (right.skip ((at + 1) + 1) done (omega (arith, near)) far)
+      (right.first (((at + 1) + 1) + 1) fourth [] (right.skip (((at + 1) + 1) + 1) outwards (omega (arith, out)) out_far) refl)))
 
   -- the rules of an instance, or of none
   translating_right : (at done : ℕ) (nat : Option IpfwNat) → at + translating_width nat ≤ done → done ≤ total → Right at (translating at done nat)
-  translating_right at done None near far = right_first at (always (rules.Skip done)) [] (skip_ok at done (omega (arith, near)) far) refl
+  translating_right at done None near far = right.first at (always (rules.Skip done)) [] (right.skip at done (omega (arith, near)) far) refl
   translating_right at done (Some nat) near far =
       let rs = by_trial nat.redirects in
       let outwards = at + (4 + redirecting_width false rs) in
@@ -121,21 +98,12 @@ module _ (chains total : ℕ) where
       let outer = redirecting true nat.alias outwards done rs in
       let wide : length inner ≡ redirecting_width false rs = redirecting_length false nat.alias (at + 4) done rs in
       let all : length (tracks ++ inner) ≡ 4 + length inner = length-append tracks inner in
-      let place : outwards ≡ at + length (tracks ++ inner) = omega (arith, wide, all) in
-      right_joined at (tracks ++ inner) outer
-      (right_joined at tracks inner (tracking_right at done outwards (omega (arith, near)) far (omega arith) (omega (arith, near, far)))
+      right.joined at outwards (tracks ++ inner) outer (omega (arith, wide, all))
+      (right.joined at (at + 4) tracks inner refl (tracking_right at done outwards (omega (arith, near)) far (omega arith) (omega (arith, near, far)))
       (redirecting_right false nat.alias (at + 4) done rs (omega (arith, near)) far))
-      (right_at outwards (at + length (tracks ++ inner)) outer (redirecting_right true nat.alias outwards done rs (omega (arith, near)) far) place)
+      (redirecting_right true nat.alias outwards done rs (omega (arith, near)) far)
 
   -- Acts
-
-  -- rules met where a condition holds
-  guarded_right : (at : ℕ) (test : List Lit) (inner : List Rule) → Right (at + 2) inner → at + (2 + length inner) ≤ total → Right at (guarded at test inner)
-  guarded_right at test inner right far =
-      let next : at + 2 ≡ (at + 1) + 1 = omega arith in
-      right_first at (ruled test (rules.Skip (at + 2))) (always (rules.Skip (at + (2 + length inner))) ∷ inner) (skip_ok at (at + 2) (omega arith) (omega (arith, far)))
-      (right_first (at + 1) (always (rules.Skip (at + (2 + length inner)))) inner (skip_ok (at + 1) (at + (2 + length inner)) (omega arith) far)
-      (right_at (at + 2) ((at + 1) + 1) inner right next))
 
   -- where a pass ends accepted
   abbrev EndsWithin : Bool → ℕ → ℕ → Type 0
@@ -161,11 +129,11 @@ module _ (chains total : ℕ) where
   -- a pass ends accepted
   accepting_ok : (translated : Bool) (ends at past : ℕ) → EndsWithin translated ends past → at < past → act_ok chains total at (accepting translated ends) ≡ true
   accepting_ok true ends at past ending lt = refl
-  accepting_ok false ends at past (near, far) lt = skip_ok at ends (omega (arith, near, lt)) far
+  accepting_ok false ends at past (near, far) lt = right.skip at ends (omega (arith, near, lt)) far
 
   -- one rule
   one_right : (at : ℕ) (r : Rule) → act_ok chains total at r.act ≡ true → Right at (r ∷ [])
-  one_right at r ok = right_first at r [] ok refl
+  one_right at r ok = right.first at r [] ok refl
 
   -- the rules of an act
   acting_right : (nats : List IpfwNat) (translated : Bool) (ends done to at past : ℕ) (test : List Lit) (act : IpfwAct) → Within translated ends done to past act
@@ -176,29 +144,29 @@ module _ (chains total : ℕ) where
   acting_right nats translated ends done to at past test acts.Deny within is = one_right at (ruled test rules.Drop) refl
   acting_right nats true ends done to at past test acts.Count within is =
       let far : past ≤ total = within.here in
-      one_right at (ruled test (rules.Skip (at + 1))) (skip_ok at (at + 1) (omega arith) (omega (arith, is, far)))
+      one_right at (ruled test (rules.Skip (at + 1))) (right.skip at (at + 1) (omega arith) (omega (arith, is, far)))
   acting_right nats false ends done to at past test acts.Count within is =
       let far : past ≤ total = within.here in
-      one_right at (ruled test (rules.Skip (at + 1))) (skip_ok at (at + 1) (omega arith) (omega (arith, is, far)))
+      one_right at (ruled test (rules.Skip (at + 1))) (right.skip at (at + 1) (omega arith) (omega (arith, is, far)))
   acting_right nats true ends done to at past test (acts.Skip n) within is =
       let near : past ≤ to = within.skipping.0 in
-      one_right at (ruled test (rules.Skip to)) (skip_ok at to (omega (arith, is, near)) within.skipping.1)
+      one_right at (ruled test (rules.Skip to)) (right.skip at to (omega (arith, is, near)) within.skipping.1)
   acting_right nats false ends done to at past test (acts.Skip n) within is =
       let near : past ≤ to = within.skipping.0 in
-      one_right at (ruled test (rules.Skip to)) (skip_ok at to (omega (arith, is, near)) within.skipping.1)
+      one_right at (ruled test (rules.Skip to)) (right.skip at to (omega (arith, is, near)) within.skipping.1)
   acting_right nats true ends done to at past test acts.Check within is = one_right at (ruled (test ++ positive tests.Est ∷ []) rules.Accept) refl
   acting_right nats false ends done to at past test acts.Check within is =
       one_right at (ruled (test ++ positive tests.Est ∷ []) (rules.Skip ends)) (accepting_ok false ends at past within.ending (omega (arith, is)))
   acting_right nats true ends done to at past test (acts.Nat n) within is =
       let far : past ≤ total = within.here in
-      one_right at (ruled test (rules.Skip (at + 1))) (skip_ok at (at + 1) (omega arith) (omega (arith, is, far)))
+      one_right at (ruled test (rules.Skip (at + 1))) (right.skip at (at + 1) (omega arith) (omega (arith, is, far)))
   acting_right nats false ends done to at past test (acts.Nat n) within is =
       let nat = nat_numbered n nats in
       let inner = translating (at + 2) done nat in
       let wide : length inner ≡ translating_width nat = translating_length (at + 2) done nat in
       let far : past ≤ total = within.here in
       let near : past ≤ done = within.translating.0 in
-      guarded_right at test inner (translating_right (at + 2) done nat (omega (arith, is, near)) within.translating.1) (omega (arith, is, far, wide))
+      right.guarded at test inner (translating_right (at + 2) done nat (omega (arith, is, near)) within.translating.1) (omega (arith, is, far, wide))
 
   -- a change where the condition holds, and the act behind it
   tagged_right : (nats : List IpfwNat) (translated : Bool) (ends done to at past : ℕ) (test : List Lit) (act : IpfwAct) (change : Rule)
@@ -208,9 +176,10 @@ module _ (chains total : ℕ) where
       let more = acting nats translated ends done to (at + 3) [] act in
       let many : length more ≡ acting_width nats translated act = acting_length nats translated ends done to (at + 3) [] act in
       let far : past ≤ total = within.here in
-      guarded_right at test (change ∷ more)
-      (right_first (at + 2) change more (ok (at + 2))
-      (right_at (at + 3) ((at + 2) + 1) more (acting_right nats translated ends done to (at + 3) past [] act within (omega (arith, is))) (omega arith)))
+      let next : at + 3 ≡ (at + 2) + 1 = omega arith in
+      right.guarded at test (change ∷ more)
+      (right.first (at + 2) change more (ok (at + 2))
+      (subst (λ n. Right n more) next (acting_right nats translated ends done to (at + 3) past [] act within (omega (arith, is)))))
       (omega (arith, is, many, far))
 
   -- a tag, and the act behind it
@@ -236,8 +205,8 @@ module _ (chains total : ℕ) where
       let here = at + keeping_width r.keep in
       let inner = tagging_first nats translated ends done to here r.cond r.act r.tag in
       let wide : length kept ≡ keeping_width r.keep = keeping_length r.keep translated ends in
-      right_joined at kept inner (keeping_right r.keep translated ends at past within.ending (omega (arith, is)))
-      (right_at here (at + length kept) inner (tagging_right nats translated ends done to here past r.cond r.act r.tag within (omega (arith, is))) (omega (arith, wide)))
+      right.joined at here kept inner (omega (arith, wide)) (keeping_right r.keep translated ends at past within.ending (omega (arith, is)))
+      (tagging_right nats translated ends done to here past r.cond r.act r.tag within (omega (arith, is)))
 
   -- Halves
 
@@ -299,14 +268,14 @@ module _ (chains total : ℕ) where
       let many : length here ≡ width nats translated r = block_length nats translated ends done to at r in
       let left : next + widths nats translated rs ≡ past = omega (arith, is) in
       let before : next ≤ past = omega (arith, left) in
-      right_joined at here more
+      right.joined at next here more (omega (arith, many))
       (block_right nats translated ends done to at next r (record {
         here = omega (arith, before, le);
         ending = ending_earlier translated ends next past ending before;
         skipping = skips_within nats translated next past rs r.act left le;
         translating = translating_earlier translated r.act done next past on.0 before;
       }) refl)
-      (right_at next (at + length here) more (blocks_right nats one_pass translated ends past next (other + width nats true r) rs left le ending on.1) (omega (arith, many)))
+      (blocks_right nats one_pass translated ends past next (other + width nats true r) rs left le ending on.1)
 
   -- Behind translations
 
@@ -367,7 +336,7 @@ module _ (chains total : ℕ) where
       (second_onwards c.nats site.one_pass (ending_place site c) (second_place c + widths c.nats true c.rules) (second_place c) c.rules)
 
   -- all rules
-  pub all_right : (site : Site) (c : IpfwConfig) → ending_place site c + 3 ≤ total → Right 0 (all_rules site c)
+  all_right : (site : Site) (c : IpfwConfig) → ending_place site c + 3 ≤ total → Right 0 (all_rules site c)
   all_right site c le =
       let first = half site c false in
       let second = second_half site c in
@@ -375,14 +344,12 @@ module _ (chains total : ℕ) where
       let ends = ending_place site c in
       let past = widths c.nats false c.rules in
       let long : length first ≡ past = blocks_length c.nats site.one_pass false ends 0 (second_place c) c.rules in
-      let place : second_place c ≡ (0 + length first) + 1 = omega (arith, long) in
       let on : Onwards c.nats site.one_pass false ends past (second_place c) c.rules =
       all_onwards site c site.one_pass (list_any (λ (r : IpfwRule). translates r.act) c.rules) refl refl ends past (omega arith) (omega arith) (omega (arith, le)) (omega (arith, le)) in
-      right_joined 0 (first ++ drop ∷ second) (drop ∷ ending)
-      (right_joined 0 first (drop ∷ second)
+      right.joined 0 (0 + length (first ++ drop ∷ second)) (first ++ drop ∷ second) (drop ∷ ending) refl
+      (right.joined 0 past first (drop ∷ second) (omega (arith, long))
       (blocks_right c.nats site.one_pass false ends past 0 (second_place c) c.rules (omega arith) (omega (arith, le)) (omega arith, omega (arith, le)) on)
-      (right_first (0 + length first) drop second refl
-      (right_at (second_place c) ((0 + length first) + 1) second (second_right site c (goes_on site c) (omega (arith, le))) place)))
+      (right.first past drop second refl (second_right site c (goes_on site c) (omega (arith, le)))))
       refl
 
 -- how many rules there are
@@ -398,11 +365,16 @@ all_length site c =
     omega (arith, long, wide, front, all)
 
 -- the rules of a pass are right among any number of chains
-pub rules_right : (chains : ℕ) (site : Site) (c : IpfwConfig) → rules_ok chains (length (all_rules site c)) 0 (all_rules site c) ≡ true
-rules_right chains site c =
-    let all : length (all_rules site c) ≡ ending_place site c + 3 = all_length site c in
-    all_right chains (length (all_rules site c)) site c (omega (arith, all))
+rules_right : (law : RulesAreRightByParts) (chains : ℕ) (site : Site) (c : IpfwConfig) → rules_ok chains (length (all_rules site c)) 0 (all_rules site c) ≡ true
+rules_right law chains site c =
+    let total = length (all_rules site c) in
+    let all : total ≡ ending_place site c + 3 = all_length site c in
+    all_right chains total (law chains total) site c (omega (arith, all))
 
 -- every number in the diagram is right
-pub diagram_ok : (site : Site) (c : IpfwConfig) → ifcl_ok (diagram_of site c) ≡ true
-diagram_ok site c = ap (λ b. (b && true) && true && true && true && true) (rules_right 2 site c)
+pub diagram_ok : (law : RulesAreRightByParts) (site : Site) (c : IpfwConfig) → ifcl_ok (diagram_of site c) ≡ true
+diagram_ok law site c = ap (λ b. (b && true) && true && true && true && true) (rules_right law 2 site c)
+
+-- no rule names a chain
+pub diagram_straight : (law : RulesAreRightByParts) (site : Site) (c : IpfwConfig) → is_straight (diagram_of site c) ≡ true
+diagram_straight law site c = ap (λ b. b && true) (rules_right law 0 site c)

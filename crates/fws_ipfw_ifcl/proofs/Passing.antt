@@ -15,7 +15,7 @@ use Rattle.fws_net.specs.Routes.{exit_at}
 use Rattle.fws_net.specs.Transits.{with_verdict, with_dst, with_tracked_dst, has_tag, entered, onwards, outcome_of}
 use Rattle.fws_ifcl.specs.declared.diagram.Stage.{Stage}
 use Rattle.fws_ifcl.specs.Walk.{chain_walk, stage_end, stage_walk, stages_walk, means}
-use Rattle.fws_draw.specs.Skips.{SkipsGoOn}
+use Rattle.fws_draw.specs.Places.{WalksGoByPlaces}
 use Rattle.fws_ipfw.specs.declared.config.IpfwAct.{IpfwAct}
 use Rattle.fws_ipfw.specs.declared.config.IpfwAct.TheVariants as acts
 use Rattle.fws_ipfw.specs.declared.config.IpfwTag.{IpfwTag}
@@ -137,7 +137,7 @@ all_of : (o : Option Transit) → option_and_then (λ t. Some t) o ≡ o
 all_of None = refl
 all_of (Some t) = refl
 
-module _ (law : SkipsGoOn) (site : Site) (c : IpfwConfig) (fits : list_all nat_fits c.nats ≡ true) (p : Packet) (k : Kind) where
+module _ (law : WalksGoByPlaces) (site : Site) (c : IpfwConfig) (fits : list_all nat_fits c.nats ≡ true) (p : Packet) (k : Kind) where
   abbrev drawn : List Stage → Transit → Option Transit
   drawn stages t = stages_walk (chains_of site c) site p k stages t
 
@@ -188,5 +188,5 @@ module _ (law : SkipsGoOn) (site : Site) (c : IpfwConfig) (fits : list_all nat_f
   means_kept = ap (outcome_of k) (two_ways (nat_eq p.entry 0) _ _ _ _ sent arrived)
 
 -- what the diagram says of a packet is what becomes of it
-pub keeps_walks : (law : SkipsGoOn) (site : Site) (c : IpfwConfig) → IsDrawable c → (p : Packet) (k : Kind) → means (diagram_of site c) site p k ≡ walk c site p k
+pub keeps_walks : (law : WalksGoByPlaces) (site : Site) (c : IpfwConfig) → IsDrawable c → (p : Packet) (k : Kind) → means (diagram_of site c) site p k ≡ walk c site p k
 keeps_walks law site c drawable p k = means_kept law site c drawable.fitting p k

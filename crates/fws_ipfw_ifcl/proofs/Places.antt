@@ -1,5 +1,5 @@
 -- Where the rules of rules begin.
-use Rattle.std.proofs.Common.{◌≡◌, ℕ, zero, suc, ◌+◌, ◌≤◌, ◌<◌, Bool, true, false, cond, nat_lt, nat_le, max, le_refl, List, [], ◌∷◌, ◌++◌, length, drop, append_assoc, length-append, get_or, slice_index, slice_index_or, refl, sym, ap, ◌∙◌, arith}
+use Rattle.std.proofs.Common.{◌≡◌, ℕ, zero, suc, ◌+◌, ◌≤◌, ◌<◌, Bool, true, nat_lt, nat_le, max, le_refl, List, [], ◌∷◌, ◌++◌, length, drop, append_assoc, length-append, get_or, slice_index, refl, sym, ap, ◌∙◌, arith}
 use Rattle.std.proofs.lemmas.Bool.{le-ltb, lt-ltb, cond-true, cond-false, and_parts, leb-true}
 use Rattle.std.specs.List.Sorted.{IsNonDecreasingBy}
 use Rattle.fws_ifcl.specs.declared.diagram.Rule.{Rule}

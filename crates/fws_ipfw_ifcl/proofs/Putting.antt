@@ -5,13 +5,13 @@ use Rattle.std.specs.Prelude.{not, is_some, is_none}
 use Rattle.fws_net.specs.declared.condition.Lit.{Lit}
 use Rattle.fws_ifcl.specs.declared.diagram.Act.{Act}
 use Rattle.fws_ifcl.specs.declared.diagram.Rule.{Rule}
-use Rattle.fws_draw.specs.Rules.{ruled, always}
+use Rattle.fws_draw.specs.Rules.{always, guard, guarded}
 use Rattle.fws_ipfw.specs.declared.config.IpfwAct.{IpfwAct}
 use Rattle.fws_ipfw.specs.declared.config.IpfwNat.{IpfwNat}
 use Rattle.fws_ipfw.specs.declared.config.IpfwRule.{IpfwRule}
 use Rattle.fws_ipfw.specs.declared.config.Redirect.{Redirect}
 use Rattle.fws_ipfw_ifcl.specs.Translating.{is_of_ports, is_of_address, by_trial, redirecting, redirecting_width, tracking, translating_by, translating_width}
-use Rattle.fws_ipfw_ifcl.specs.Blocks.{guard, guarded, acting, acting_width, tagging_first, translating_once, keeping, keeping_width, block}
+use Rattle.fws_ipfw_ifcl.specs.Blocks.{acting, acting_width, tagging_first, translating_once, keeping, keeping_width, block}
 use Rattle.fws_ipfw_ifcl.proofs.Lengths.{redirecting_length, translating_length, acting_length, keeping_length}
 
 other_kind : (r : Redirect) → is_of_address r ≡ not (is_of_ports r)

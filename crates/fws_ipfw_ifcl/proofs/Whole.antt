@@ -1,12 +1,12 @@
 -- The rules of a pass, put one part behind the other.
-use Rattle.std.proofs.Common.{◌≡◌, ℕ, ◌+◌, Bool, true, false, cond, List, [], ◌∷◌, ◌++◌, length, arith, refl, sym, ap, ◌∙◌, append_assoc, length-append}
+use Rattle.std.proofs.Common.{◌≡◌, ℕ, ◌+◌, Bool, true, false, cond, List, [], ◌∷◌, ◌++◌, length, arith, sym, ap, ◌∙◌, append_assoc, length-append}
 use Rattle.fws_net.specs.declared.site.Site.{Site}
 use Rattle.fws_ifcl.specs.declared.diagram.Act.TheVariants.{Drop}
 use Rattle.fws_ifcl.specs.declared.diagram.Rule.{Rule}
 use Rattle.fws_draw.specs.Rules.{always}
 use Rattle.fws_ipfw.specs.declared.config.IpfwConfig.{IpfwConfig}
 use Rattle.fws_ipfw_ifcl.specs.Blocks.{widths}
-use Rattle.fws_ipfw_ifcl.specs.Diagram.{goes_on, second_width, second_place, ending_place, half, half_place, second_half, ending, all_rules}
+use Rattle.fws_ipfw_ifcl.specs.Diagram.{goes_on, second_width, second_place, ending_place, half, second_half, ending, all_rules}
 use Rattle.fws_ipfw_ifcl.proofs.Lengths.{blocks_length}
 
 -- the second half stands behind the first and the rule that drops

@@ -1,13 +1,13 @@
 -- The rules of a diagram to which a rule of ipfw is unfolded. They stand twice where a packet goes on behind a translation:
 -- in the first half for packets that weren't translated in their pass, in the second for those that were.
-use Rattle.std.specs.Prelude.{ℕ, ◌+◌, Bool, true, false, nat_lt, Option, List, [], ◌∷◌, ◌++◌, length, if◌then◌else◌}
+use Rattle.std.specs.Prelude.{ℕ, ◌+◌, Bool, true, false, nat_lt, Option, List, [], ◌∷◌, ◌++◌, if◌then◌else◌}
 use Rattle.fws_net.specs.declared.condition.Lit.{Lit}
 use Rattle.fws_net.specs.declared.condition.Test.TheVariants.{Est}
 use Rattle.fws_ifcl.specs.declared.diagram.Act.{Act}
 use Rattle.fws_ifcl.specs.declared.diagram.Act.TheVariants.{Accept, Drop, Skip, AddTag, DelTag}
 use Rattle.fws_ifcl.specs.declared.diagram.Rule.{Rule}
 use Rattle.fws_rule.specs.Literals.{positive}
-use Rattle.fws_draw.specs.Rules.{ruled, always}
+use Rattle.fws_draw.specs.Rules.{ruled, always, guarded}
 use Rattle.fws_ipfw.specs.declared.config.IpfwAct.{IpfwAct}
 use Rattle.fws_ipfw.specs.declared.config.IpfwAct.TheVariants as acts
 use Rattle.fws_ipfw.specs.declared.config.IpfwTag.{IpfwTag}
@@ -22,15 +22,6 @@ use Rattle.fws_ipfw_ifcl.specs.Translating.{translating, translating_width}
 -- a pass ends accepted: in the first half by the rules at the place ends, which give a packet of a connection its end
 abbrev pub accepting : Bool → ℕ → Act
 accepting translated ends = if translated then Accept else Skip ends
-
--- rules of which the first has the place at, ahead of so many inner ones: where the condition holds the walk comes to those,
--- else it goes on behind them
-abbrev pub guard : ℕ → List Lit → ℕ → List Rule
-guard at cond inner = ruled cond (Skip (at + 2)) ∷ always (Skip (at + (2 + inner))) ∷ []
-
--- the inner rules, met where the condition holds
-abbrev pub guarded : ℕ → List Lit → List Rule → List Rule
-guarded at cond inner = guard at cond (length inner) ++ inner
 
 -- a packet is translated once: in the second half it stays as it is
 abbrev pub translating_once : Bool → ℕ → ℕ → List Lit → Option IpfwNat → List Rule

@@ -1,15 +1,15 @@
 //! The rules to which a rule is unfolded.
 
 ghost use Rattle.std.specs.Prelude.{◌≡◌, ◌+◌, ◌++◌, ◌∷◌, [], true, false, Some, length, IfOk, OnOk};
-ghost use Rattle.fws_draw.specs.Rules.{always, ruled};
+ghost use Rattle.fws_draw.specs.Rules.{always, guarded, ruled};
 ghost use Rattle.fws_ipfw.specs.Soundness.{are_apart};
 ghost use Rattle.fws_ipfw.specs.Walk.{nat_numbered};
-ghost use Rattle.fws_ipfw_ifcl.specs.Blocks.{accepting, acting, block, guard, guarded, keeping, tagging_first, translating_once};
+ghost use Rattle.fws_ipfw_ifcl.specs.Blocks.{accepting, acting, block, keeping, tagging_first, translating_once};
 
 use crate::instances::Instances;
-use crate::translating::{put_always, put_skip, put_translating};
-use crate::widths::{acting_width, sum, translating_width};
-use fws_draw::{narrowed, place_behind, put_rule, ruled_by};
+use crate::translating::{put_skip, put_translating};
+use crate::widths::{acting_width, translating_width};
+use fws_draw::{narrowed, place_behind, put_always, put_guard, put_rule, ruled_by, sum};
 use fws_ifcl::{Act, Rule};
 use fws_ipfw::{IpfwAct, IpfwNat, IpfwRule, IpfwTag};
 use fws_net::{Cond, Test};
@@ -47,17 +47,6 @@ fn put_skipping(rules: &mut Vec<Rule>, cond: Cond, to: usize) -> Result<(), Memo
 {
     let place = place_behind(to, 0)?;
     put_rule(rules, cond, Act::Skip(place))
-}
-
-/// Puts the two rules ahead of so many inner ones: where the condition holds the walk comes to them, else
-/// it goes on behind them. An error is want of memory.
-fn put_guard(alloc: Global, rules: &mut Vec<Rule>, cond: Cond, inner: usize) -> Result<(), Memory>
-    ensures { OnOk result (rules.new.items ≡ rules.old.items ++ guard (length rules.old.items) cond inner) }
-{
-    let first = place_behind(rules.len(), 2)?;
-    let past = place_behind(rules.len(), sum(2, inner)?)?;
-    put_rule(rules, cond, Act::Skip(first))?;
-    put_always(alloc, rules, Act::Skip(past))
 }
 
 /// Puts behind the others the rules that translate by an instance where the condition holds, behind which

@@ -16,9 +16,10 @@ ghost use Rattle.fws_ipfw_ifcl.specs.Fitting.{IsDrawable};
 use crate::blocks::{Leads, put_block};
 use crate::instances::Instances;
 use crate::layout::{skipping_to, starts_from};
-use crate::translating::put_always;
-use crate::widths::sum;
-use fws_draw::{always, ruled_by, skips_go_on};
+use fws_draw::{
+    always, put_always, ruled_by, rules_are_right_by_parts, straight_diagrams_unfold, sum,
+    walks_go_by_places,
+};
 use fws_ifcl::{Act, Chain, Ifcl, Rule, Stage};
 use fws_ipfw::{IpfwAct, IpfwConfig, IpfwRule};
 use fws_net::{Site, Test};
@@ -288,7 +289,9 @@ pub fn to_ifcl(alloc: Global, c: &IpfwConfig, site: &Site) -> Result<Ifcl, Memor
     ensures means { IfOk result (λ d. (p : Packet) (k : Kind) → means d site.now p k ≡ walk c.now site.now p k) }
     ensures unfolds { IfOk result (λ d. refusal_of d ≡ None) }
 {
-    skips_go_on();
+    walks_go_by_places();
+    rules_are_right_by_parts();
+    straight_diagrams_unfold();
     let d = drawn(alloc, c, site)?;
     Ok(d)
 }

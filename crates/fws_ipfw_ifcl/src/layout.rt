@@ -8,7 +8,8 @@ ghost use Rattle.fws_ipfw.specs.Soundness.{are_apart, are_ordered};
 ghost use Rattle.fws_ipfw_ifcl.specs.Blocks.{place_from, skipping_to, starts_from, widths};
 
 use crate::instances::Instances;
-use crate::widths::{sum, width};
+use crate::widths::width;
+use fws_draw::sum;
 use fws_ipfw::{IpfwAct, IpfwNat, IpfwRule};
 use fws_num::Memory;
 use std::alloc::Global;

@@ -5,22 +5,13 @@ ghost use Rattle.fws_draw.specs.Rules.{always};
 ghost use Rattle.fws_ipfw_ifcl.specs.Translating.{aliasing, aliasing_width, choosing_all, redirecting, tracking, translating_by, writing_all};
 
 use crate::redirects::{asking, by_trial, writing};
-use crate::widths::sum;
-use fws_draw::{always, place_behind, put_rule, ruled_by};
+use fws_draw::{place_behind, put_always, put_rule, ruled_by, sum};
 use fws_ifcl::{Act, Rule};
 use fws_ipfw::{IpfwNat, Redirect};
 use fws_net::{End, Test};
 use fws_num::Memory;
 use fws_rule::{negative, positive};
 use std::alloc::Global;
-
-/// Puts a rule that acts everywhere behind the others. An error is want of memory.
-pub(crate) fn put_always(alloc: Global, rules: &mut Vec<Rule>, act: Act) -> Result<(), Memory>
-    ensures { OnOk result (rules.new.items ≡ rules.old.items ++ always act ∷ []) }
-{
-    rules.push(always(alloc, act))?;
-    Ok(())
-}
 
 /// Puts a rule that skips to a place behind the others. An error is want of memory.
 pub(crate) fn put_skip(alloc: Global, rules: &mut Vec<Rule>, to: usize) -> Result<(), Memory>

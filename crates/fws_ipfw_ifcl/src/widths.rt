@@ -1,21 +1,15 @@
 //! How many rules of a diagram a rule is unfolded to.
 
-ghost use Rattle.std.specs.Prelude.{◌≡◌, ◌+◌, true, Some, IfOk};
+ghost use Rattle.std.specs.Prelude.{◌≡◌, true, Some, IfOk};
 ghost use Rattle.fws_ipfw.specs.Soundness.{are_apart};
 ghost use Rattle.fws_ipfw_ifcl.specs.Blocks.{acting_width, keeping_width, tagging_width, width};
 ghost use Rattle.fws_ipfw_ifcl.specs.Translating.{translating_width};
 
 use crate::instances::Instances;
 use crate::translating::redirecting_width;
+use fws_draw::sum;
 use fws_ipfw::{IpfwAct, IpfwNat, IpfwRule, IpfwTag};
 use fws_num::Memory;
-
-/// The sum. An error is want of memory, which a sum past all numbers counts as.
-pub(crate) fn sum(a: usize, b: usize) -> Result<usize, Memory>
-    ensures { IfOk result (λ n. n ≡ a + b) }
-{
-    a.checked_add(b).ok_or(Memory)
-}
 
 /// How many rules translate by an instance. An error is want of memory.
 pub(crate) fn translating_width(nat: &IpfwNat) -> Result<usize, Memory>

@@ -17,7 +17,7 @@ use Rattle.fws_ifcl.specs.declared.step.ChainEnd.{ChainEnd}
 use Rattle.fws_ifcl.specs.declared.step.ChainEnd.TheVariants.{Accepted}
 use Rattle.fws_ifcl.specs.Walk.{sees, step_of, stepped, rules_walk}
 use Rattle.fws_draw.specs.Rules.{ruled, always}
-use Rattle.fws_ipt_ifcl.specs.Blocks.{guarded}
+use Rattle.fws_ipt_ifcl.specs.Blocks.{guarded_writes}
 
 -- what an act that writes an end does
 abbrev pub written : Packet → Act → Transit → Transit
@@ -101,11 +101,12 @@ module _ (enter : ℕ → Transit → ChainEnd) (site : Site) (p : Packet) (k : 
 
   -- where the condition holds the rules write and accept, else the walk goes on behind them
   pub guarded_walk : (at : ℕ) (test : List Lit) (writes rest : List Rule) (t : Transit) → are_writes writes ≡ true
-      → from at (guarded at test writes ++ rest) 0 t
+      → from at (guarded_writes at test writes ++ rest) 0 t
       ≡ cond (holds test (sees site k stage t)) (Accepted (written_by site p k stage writes t)) (from (at + (3 + length writes)) rest 0 t)
   guarded_walk at test writes rest t are =
-      let past = always (Skip (at + (3 + length writes))) in
-      let body = (writes ++ always Accept ∷ []) ++ rest in
+      let inner = writes ++ always Accept ∷ [] in
+      let past = always (Skip (at + (2 + length inner))) in
+      let body = inner ++ rest in
       let one : nat_lt (suc at) (at + 2) ≡ true = lt-ltb (suc at) (at + 2) (omega arith) in
       let yes : from (suc at) (past ∷ body) (at + 2) t ≡ Accepted (written_by site p k stage writes t) =
       cond-true (nat_lt (suc at) (at + 2)) _ _ one
@@ -113,12 +114,12 @@ module _ (enter : ℕ → Transit → ChainEnd) (site : Site) (p : Packet) (k : 
       ∙ ap (λ rules. from (suc (suc at)) rules 0 t) (append_assoc writes (always Accept ∷ []) rest)
       ∙ writes_walk (suc (suc at)) writes (always Accept ∷ rest) t are
       ∙ first_rule (suc (suc at) + length writes) (always Accept) rest (written_by site p k stage writes t) in
-      let all : length (writes ++ always Accept ∷ []) ≡ length writes + 1 = length-append writes (always Accept ∷ []) in
-      let far : suc (suc at) + length (writes ++ always Accept ∷ []) ≡ at + (3 + length writes) = omega (arith, all) in
+      let all : length inner ≡ length writes + 1 = length-append writes (always Accept ∷ []) in
+      let far : suc (suc at) + length inner ≡ at + (3 + length writes) = omega (arith, all) in
       let no : from (suc at) (past ∷ body) 0 t ≡ from (at + (3 + length writes)) rest 0 t =
       first_rule (suc at) past body t
-      ∙ passed_over (suc (suc at)) (writes ++ always Accept ∷ []) rest (at + (3 + length writes)) t (omega (arith, far))
-      ∙ ap (λ n. from n rest (at + (3 + length writes)) t) far
-      ∙ from_here (at + (3 + length writes)) rest (at + (3 + length writes)) t (omega arith) in
+      ∙ passed_over (suc (suc at)) inner rest (at + (2 + length inner)) t (omega arith)
+      ∙ from_here (suc (suc at) + length inner) rest (at + (2 + length inner)) t (omega arith)
+      ∙ ap (λ n. from n rest 0 t) far in
       first_rule at (ruled test (Skip (at + 2))) (past ∷ body) t
       ∙ branched (holds test (sees site k stage t)) _ _ _ _ yes no

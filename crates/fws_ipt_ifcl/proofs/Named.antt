@@ -18,6 +18,7 @@ use Rattle.fws_ifcl.specs.Refusals.{named_by as called_by, all_named as all_call
 use Rattle.fws_ifcl.specs.Soundness.{act_ok, rules_ok, chain_ok, stage_ok, ifcl_ok}
 use Rattle.fws_ifcl.specs.Walk.{rules_at}
 use Rattle.fws_rule.specs.Literals.{positive, negative}
+use Rattle.fws_draw.specs.Right.{RulesAreRightByParts}
 use Rattle.fws_draw.specs.Rules.{always}
 use Rattle.fws_ipt.specs.declared.config.IptChain.{IptChain}
 use Rattle.fws_ipt.specs.declared.config.IptConfig.{IptConfig}
@@ -31,7 +32,7 @@ use Rattle.fws_ipt.specs.declared.hook.Hook.TheVariants.{Prerouting, Input, Forw
 use Rattle.fws_ipt.specs.Refusals.{named_by, all_named, named_in, width_of, rules_width, head_width, chain_width, width_at}
 use Rattle.fws_ipt.specs.Soundness.{is_user_chain, fits, chain_fits, is_fitting}
 use Rattle.fws_ipt.specs.Walk.{is_table, builtin_from, arriving, delivered, forwarded, sent_out}
-use Rattle.fws_ipt_ifcl.specs.Blocks.{all_entries, guarded, masquerading, redirecting, mapping, unfolded}
+use Rattle.fws_ipt_ifcl.specs.Blocks.{all_entries, guarded_writes, masquerading, redirecting, mapping, unfolded}
 use Rattle.fws_ipt_ifcl.specs.Diagram.{own_chains, own_stage, headed, unfolded_all, chain_for, is_on_source, tracked_at, stage_for, builtin_stage, stages_for, diagram_of}
 use Rattle.fws_ipt_ifcl.proofs.RulesMet.{mapping_writes, redirecting_writes, masquerading_writes}
 use Rattle.fws_ipt_ifcl.proofs.Files.{file_rules, built_in, built_within}
@@ -128,16 +129,6 @@ file_widths site chains c = ap length (file_rules site chains c) ∙ wide_of sit
 
 -- Numbers that are right
 
-ok_both : (n all at : ℕ) (xs ys : List Rule) → rules_ok n all at xs ≡ true → rules_ok n all (at + length xs) ys ≡ true → rules_ok n all at (xs ++ ys) ≡ true
-ok_both n all at [] ys first next =
-    let same : at + 0 ≡ at = omega arith in
-    subst (λ i. rules_ok n all i ys ≡ true) same next
-ok_both n all at (r ∷ rs) ys first next =
-    let both = and_parts (act_ok n all at r.act) (rules_ok n all (suc at) rs) first in
-    let far : at + suc (length rs) ≡ suc at + length rs = omega arith in
-    and_from (act_ok n all at r.act) (rules_ok n all (suc at) (rs ++ ys)) both.0
-    (ok_both n all (suc at) rs ys both.1 (subst (λ i. rules_ok n all i ys ≡ true) far next))
-
 write_ok : (n all at : ℕ) (act : Act) → is_write act ≡ true → act_ok n all at act ≡ true
 write_ok n all at (Src e) is = refl
 write_ok n all at (Dst e) is = refl
@@ -149,16 +140,12 @@ writes_ok n all at (r ∷ rs) are =
     let both = and_parts (is_write r.act) (are_writes rs) are in
     and_from (act_ok n all at r.act) (rules_ok n all (suc at) (rs ++ always Accept ∷ [])) (write_ok n all at r.act both.0) (writes_ok n all (suc at) rs both.1)
 
-skip_ok : (all at to : ℕ) → at < to → to ≤ all → (nat_lt at to && nat_le to all) ≡ true
-skip_ok all at to lt le = and_from (nat_lt at to) (nat_le to all) (lt-ltb at to lt) (le-leb to all le)
-
-guarded_ok : (n all at : ℕ) (test : List Lit) (writes : List Rule) → are_writes writes ≡ true → at + (3 + length writes) ≤ all
-    → rules_ok n all at (guarded at test writes) ≡ true
-guarded_ok n all at test writes are le =
-    and_from (nat_lt at (at + 2) && nat_le (at + 2) all) (rules_ok n all (suc at) (always (Skip (at + (3 + length writes))) ∷ writes ++ always Accept ∷ []))
-    (skip_ok all at (at + 2) (omega arith) (omega (arith, le)))
-    (and_from (nat_lt (suc at) (at + (3 + length writes)) && nat_le (at + (3 + length writes)) all) (rules_ok n all (suc (suc at)) (writes ++ always Accept ∷ []))
-    (skip_ok all (suc at) (at + (3 + length writes)) (omega arith) le) (writes_ok n all (suc (suc at)) writes are))
+guarded_ok : (law : RulesAreRightByParts) (n all at : ℕ) (test : List Lit) (writes : List Rule) → are_writes writes ≡ true → at + (3 + length writes) ≤ all
+    → rules_ok n all at (guarded_writes at test writes) ≡ true
+guarded_ok law n all at test writes are le =
+    let inner = writes ++ always Accept ∷ [] in
+    let long : length inner ≡ length writes + 1 = length-append writes (always Accept ∷ []) in
+    (law n all).guarded at test inner (writes_ok n all (at + 2) writes are) (omega (arith, le, long))
 
 call_ok : (n c : ℕ) → c + 3 < n → (nat_lt (c + 3) n && true) ≡ true
 call_ok n c lt = and_from (nat_lt (c + 3) n) true (lt-ltb (c + 3) n lt) refl
@@ -171,46 +158,45 @@ within_if table chains c (Some chain) is user = slice_get_within chains c chain 
 user_within : (table : IptTable) (chains : List IptChain) (c : ℕ) → is_user_chain table chains c ≡ true → c < length chains
 user_within table chains c user = within_if table chains c (slice_get chains c) refl user
 
-unfolded_ok : (site : Site) (chains : List IptChain) (table : IptTable) (on_source : Bool) (all at : ℕ) (test : List Lit) (go : IptGo)
+unfolded_ok : (law : RulesAreRightByParts) (site : Site) (chains : List IptChain) (table : IptTable) (on_source : Bool) (all at : ℕ) (test : List Lit) (go : IptGo)
     → fits table chains go ≡ true → at + width_of (length site.faces) go ≤ all
     → rules_ok (length chains + 3) all at (unfolded site on_source at test go) ≡ true
-unfolded_ok site chains table on_source all at test goes.Accept fit le = refl
-unfolded_ok site chains table on_source all at test goes.Drop fit le = refl
-unfolded_ok site chains table on_source all at test goes.Return fit le = refl
-unfolded_ok site chains table on_source all at test goes.Next fit le =
-    and_from (nat_lt at (at + 1) && nat_le (at + 1) all) true (skip_ok all at (at + 1) (omega arith) (omega (arith, le))) refl
-unfolded_ok site chains table on_source all at test (goes.Jump c) fit le =
+unfolded_ok law site chains table on_source all at test goes.Accept fit le = refl
+unfolded_ok law site chains table on_source all at test goes.Drop fit le = refl
+unfolded_ok law site chains table on_source all at test goes.Return fit le = refl
+unfolded_ok law site chains table on_source all at test goes.Next fit le =
+    ap (λ b. b && true) ((law (length chains + 3) all).skip at (at + 1) (omega arith) (omega (arith, le)))
+unfolded_ok law site chains table on_source all at test (goes.Jump c) fit le =
     let within : c < length chains = user_within table chains c fit in
     call_ok (length chains + 3) c (omega (arith, within))
-unfolded_ok site chains table on_source all at test (goes.Goto c) fit le =
+unfolded_ok law site chains table on_source all at test (goes.Goto c) fit le =
     let within : c < length chains = user_within table chains c fit in
     call_ok (length chains + 3) c (omega (arith, within))
-unfolded_ok site chains table on_source all at test (goes.Mark v) fit le = refl
-unfolded_ok site chains table on_source all at test (goes.Source e) fit le = guarded_ok (length chains + 3) all at (test ++ positive Outward ∷ []) (always (Src e) ∷ []) refl le
-unfolded_ok site chains table on_source all at test goes.Masquerade fit le =
-    guarded_ok (length chains + 3) all at (test ++ positive Outward ∷ positive (Xmit (all_entries site)) ∷ []) (masquerading site) (masquerading_writes site)
+unfolded_ok law site chains table on_source all at test (goes.Mark v) fit le = refl
+unfolded_ok law site chains table on_source all at test (goes.Source e) fit le = guarded_ok law (length chains + 3) all at (test ++ positive Outward ∷ []) (always (Src e) ∷ []) refl le
+unfolded_ok law site chains table on_source all at test goes.Masquerade fit le =
+    guarded_ok law (length chains + 3) all at (test ++ positive Outward ∷ positive (Xmit (all_entries site)) ∷ []) (masquerading site) (masquerading_writes site)
     (subst (λ w. at + w ≤ all) (sym (sym (guarded_width at (test ++ positive Outward ∷ positive (Xmit (all_entries site)) ∷ []) (masquerading site)) ∙ unfolded_width site on_source at test goes.Masquerade)) le)
-unfolded_ok site chains table on_source all at test (goes.Dest e) fit le = guarded_ok (length chains + 3) all at (test ++ negative Outward ∷ []) (always (Dst e) ∷ []) refl le
-unfolded_ok site chains table on_source all at test (goes.Redirect port) fit le =
-    guarded_ok (length chains + 3) all at (test ++ negative Outward ∷ []) (redirecting site port) (redirecting_writes site port)
+unfolded_ok law site chains table on_source all at test (goes.Dest e) fit le = guarded_ok law (length chains + 3) all at (test ++ negative Outward ∷ []) (always (Dst e) ∷ []) refl le
+unfolded_ok law site chains table on_source all at test (goes.Redirect port) fit le =
+    guarded_ok law (length chains + 3) all at (test ++ negative Outward ∷ []) (redirecting site port) (redirecting_writes site port)
     (subst (λ w. at + w ≤ all) (sym (sym (guarded_width at (test ++ negative Outward ∷ []) (redirecting site port)) ∙ unfolded_width site on_source at test (goes.Redirect port))) le)
-unfolded_ok site chains table on_source all at test (goes.Netmap net) fit le =
-    guarded_ok (length chains + 3) all at test (always (mapping on_source net) ∷ []) (mapping_writes on_source net) le
+unfolded_ok law site chains table on_source all at test (goes.Netmap net) fit le =
+    guarded_ok law (length chains + 3) all at test (always (mapping on_source net) ∷ []) (mapping_writes on_source net) le
 
-all_ok : (site : Site) (chains : List IptChain) (table : IptTable) (on_source : Bool) (all at : ℕ) (rules : List IptRule)
+all_ok : (law : RulesAreRightByParts) (site : Site) (chains : List IptChain) (table : IptTable) (on_source : Bool) (all at : ℕ) (rules : List IptRule)
     → list_all (λ (rule : IptRule). fits table chains rule.go) rules ≡ true → at + length (unfolded_all site on_source at rules) ≤ all
     → rules_ok (length chains + 3) all at (unfolded_all site on_source at rules) ≡ true
-all_ok site chains table on_source all at [] fit le = refl
-all_ok site chains table on_source all at (r ∷ rs) fit le =
+all_ok law site chains table on_source all at [] fit le = refl
+all_ok law site chains table on_source all at (r ∷ rs) fit le =
     let both = and_parts (fits table chains r.go) (list_all (λ (rule : IptRule). fits table chains rule.go) rs) fit in
     let w = width_of (length site.faces) r.go in
     let here : length (unfolded site on_source at r.cond r.go) ≡ w = unfolded_width site on_source at r.cond r.go in
     let sizes : length (unfolded_all site on_source at (r ∷ rs)) ≡ length (unfolded site on_source at r.cond r.go) + length (unfolded_all site on_source (at + w) rs) =
     length-append (unfolded site on_source at r.cond r.go) (unfolded_all site on_source (at + w) rs) in
-    ok_both (length chains + 3) all at (unfolded site on_source at r.cond r.go) (unfolded_all site on_source (at + w) rs)
-    (unfolded_ok site chains table on_source all at r.cond r.go both.0 (omega (arith, le, here, sizes)))
-    (subst (λ i. rules_ok (length chains + 3) all (at + i) (unfolded_all site on_source (at + w) rs) ≡ true) (sym here)
-    (all_ok site chains table on_source all (at + w) rs both.1 (omega (arith, le, here, sizes))))
+    (law (length chains + 3) all).joined at (at + w) (unfolded site on_source at r.cond r.go) (unfolded_all site on_source (at + w) rs) (omega (arith, here))
+    (unfolded_ok law site chains table on_source all at r.cond r.go both.0 (omega (arith, le, here, sizes)))
+    (all_ok law site chains table on_source all (at + w) rs both.1 (omega (arith, le, here, sizes)))
 
 headed_ok : (n all : ℕ) (table : IptTable) (policy : Option Bool) → rules_ok n all 0 (headed table policy) ≡ true
 headed_ok n all Nat (Some accepts) = refl
@@ -218,26 +204,23 @@ headed_ok n all Nat None = refl
 headed_ok n all Filter policy = refl
 headed_ok n all Mangle policy = refl
 
-omega_sum : (n at : ℕ) → n ≡ at → at ≡ 0 + n
-omega_sum n at is = omega (arith, is)
-
-drawn_ok : (site : Site) (chains : List IptChain) (chain : IptChain) → chain_fits chains chain ≡ true → chain_ok (length chains + 3) (chain_for site chain) ≡ true
-drawn_ok site chains chain fit =
+drawn_ok : (law : RulesAreRightByParts) (site : Site) (chains : List IptChain) (chain : IptChain) → chain_fits chains chain ≡ true → chain_ok (length chains + 3) (chain_for site chain) ≡ true
+drawn_ok law site chains chain fit =
     let head = headed chain.table chain.policy in
     let at = head_width chain.table chain.policy in
     let behind = unfolded_all site (is_on_source chain.name) at chain.rules in
     let ahead : length head ≡ at = headed_width chain.table chain.policy in
     let sizes : length (head ++ behind) ≡ length head + length behind = length-append head behind in
-    ok_both (length chains + 3) (length (head ++ behind)) 0 head behind (headed_ok (length chains + 3) (length (head ++ behind)) chain.table chain.policy)
-    (subst (λ i. rules_ok (length chains + 3) (length (head ++ behind)) i behind ≡ true) (omega_sum (length head) at ahead)
-    (all_ok site chains chain.table (is_on_source chain.name) (length (head ++ behind)) at chain.rules fit (omega (arith, ahead, sizes))))
+    let all = length (head ++ behind) in
+    (law (length chains + 3) all).joined 0 at head behind (omega (arith, ahead)) (headed_ok (length chains + 3) all chain.table chain.policy)
+    (all_ok law site chains chain.table (is_on_source chain.name) all at chain.rules fit (omega (arith, ahead, sizes)))
 
-all_drawn_ok : (site : Site) (chains rest : List IptChain) → list_all (chain_fits chains) rest ≡ true → list_all (chain_ok (length chains + 3)) (map (chain_for site) rest) ≡ true
-all_drawn_ok site chains [] fit = refl
-all_drawn_ok site chains (chain ∷ rest) fit =
+all_drawn_ok : (law : RulesAreRightByParts) (site : Site) (chains rest : List IptChain) → list_all (chain_fits chains) rest ≡ true → list_all (chain_ok (length chains + 3)) (map (chain_for site) rest) ≡ true
+all_drawn_ok law site chains [] fit = refl
+all_drawn_ok law site chains (chain ∷ rest) fit =
     let both = and_parts (chain_fits chains chain) (list_all (chain_fits chains) rest) fit in
-    and_from (chain_ok (length chains + 3) (chain_for site chain)) (list_all (chain_ok (length chains + 3)) (map (chain_for site) rest)) (drawn_ok site chains chain both.0)
-    (all_drawn_ok site chains rest both.1)
+    and_from (chain_ok (length chains + 3) (chain_for site chain)) (list_all (chain_ok (length chains + 3)) (map (chain_for site) rest)) (drawn_ok law site chains chain both.0)
+    (all_drawn_ok law site chains rest both.1)
 
 -- Stages
 
@@ -288,8 +271,8 @@ five true true false d e first second third fourth fifth = third
 five true false c d e first second third fourth fifth = second
 five false b c d e first second third fourth fifth = first
 
-pub diagram_ok : (site : Site) (c : IptConfig) → is_fitting c ≡ true → ifcl_ok (diagram_of site c) ≡ true
-diagram_ok site c fit =
+pub diagram_ok : (law : RulesAreRightByParts) (site : Site) (c : IptConfig) → is_fitting c ≡ true → ifcl_ok (diagram_of site c) ≡ true
+diagram_ok law site c fit =
     let n = length c.chains + 3 in
     let drawn = own_chains ++ map (chain_for site) c.chains in
     let staged : (places : List (IptTable × Hook)) → list_all (stage_ok n) (own_stage 0 ∷ stages_for c.chains places) ≡ true =
@@ -299,4 +282,4 @@ diagram_ok site c fit =
     (sym (drawn_count site c.chains))
     (five (list_all (chain_ok n) drawn) (list_all (stage_ok n) (own_stage 0 ∷ stages_for c.chains arriving)) (list_all (stage_ok n) (stages_for c.chains delivered))
     (list_all (stage_ok n) (stages_for c.chains forwarded)) (list_all (stage_ok n) (own_stage 0 ∷ stages_for c.chains sent_out))
-    (all_drawn_ok site c.chains c.chains fit) (staged arriving) (stages_ok c.chains delivered) (stages_ok c.chains forwarded) (staged sent_out))
+    (all_drawn_ok law site c.chains c.chains fit) (staged arriving) (stages_ok c.chains delivered) (stages_ok c.chains forwarded) (staged sent_out))

@@ -43,7 +43,7 @@ use Rattle.fws_ipt.specs.declared.passage.ChainEnd.TheVariants as ends
 use Rattle.fws_ipt.specs.Refusals.{width_of, named_by}
 use Rattle.fws_ipt.specs.Soundness.{fits}
 use Rattle.fws_ipt.specs.Walk.{is_table, view_at, with_dst, with_mark, writes_src_at, redirect_addr, back, act, rules_walk as ipt_rules}
-use Rattle.fws_ipt_ifcl.specs.Blocks.{all_entries, guarded, by_entry, masquerading, redirecting, mapping, unfolded}
+use Rattle.fws_ipt_ifcl.specs.Blocks.{all_entries, guarded_writes, by_entry, masquerading, redirecting, mapping, unfolded}
 use Rattle.fws_ipt_ifcl.specs.Diagram.{unfolded_all}
 use Rattle.fws_ipt_ifcl.specs.Fitting.{is_sideless, is_netmap}
 use Rattle.fws_ipt_ifcl.proofs.Ends.{source_met, dest_met, netmap_met, masquerade_met, redirect_met}
@@ -100,7 +100,7 @@ module _ (site : Site) (p : Packet) (k : Kind) (table : IptTable) (hook : Hook) 
       → cond (holds more (sees site k here (shown accepts m))) (Accepted (written_by site p k here writes (shown accepts m)))
       (rules_walk enter site p k here (at + width) rest 0 (shown accepts m)) ≡ shown_end accepts x
       → rules_walk enter site p k here (at + width) rest 0 (shown accepts m) ≡ shown_end accepts y
-      → rules_walk enter site p k here at (guarded at (test ++ more) writes ++ rest) 0 (shown accepts m) ≡ shown_end accepts (cond (sight m test) x y)
+      → rules_walk enter site p k here at (guarded_writes at (test ++ more) writes ++ rest) 0 (shown accepts m) ≡ shown_end accepts (cond (sight m test) x y)
   guard_met at test more writes rest width m x y plain are wide does on =
       guarded_walk enter site p k here at (test ++ more) writes rest (shown accepts m) are
       ∙ ap (λ w. cond (holds (test ++ more) (sees site k here (shown accepts m))) (Accepted (written_by site p k here writes (shown accepts m)))
@@ -114,7 +114,7 @@ module _ (site : Site) (p : Packet) (k : Kind) (table : IptTable) (hook : Hook) 
       → list_all (λ (lit : Lit). is_sideless lit.test) test ≡ true → are_writes writes ≡ true → 3 + length writes ≡ width
       → Accepted (written_by site p k here writes (shown accepts m)) ≡ shown_end accepts x
       → rules_walk enter site p k here (at + width) rest 0 (shown accepts m) ≡ shown_end accepts y
-      → rules_walk enter site p k here at (guarded at test writes ++ rest) 0 (shown accepts m) ≡ shown_end accepts (cond (sight m test) x y)
+      → rules_walk enter site p k here at (guarded_writes at test writes ++ rest) 0 (shown accepts m) ≡ shown_end accepts (cond (sight m test) x y)
   write_met at test writes rest width m x y plain are wide does on =
       guarded_walk enter site p k here at test writes rest (shown accepts m) are
       ∙ ap (λ w. cond (holds test (sees site k here (shown accepts m))) (Accepted (written_by site p k here writes (shown accepts m)))

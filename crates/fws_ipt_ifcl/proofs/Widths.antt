@@ -18,10 +18,10 @@ use Rattle.fws_ipt.specs.declared.config.IptGo.{IptGo}
 use Rattle.fws_ipt.specs.declared.config.IptGo.TheVariants as goes
 use Rattle.fws_ipt.specs.declared.config.IptRule.{IptRule}
 use Rattle.fws_ipt.specs.Refusals.{width_of, head_width}
-use Rattle.fws_ipt_ifcl.specs.Blocks.{all_entries, guarded, by_entry, masquerading, redirecting, mapping, unfolded}
+use Rattle.fws_ipt_ifcl.specs.Blocks.{all_entries, guarded_writes, by_entry, masquerading, redirecting, mapping, unfolded}
 use Rattle.fws_ipt_ifcl.specs.Diagram.{headed, unfolded_all}
 
-pub guarded_width : (at : ℕ) (cond : List Lit) (writes : List Rule) → length (guarded at cond writes) ≡ 3 + length writes
+pub guarded_width : (at : ℕ) (cond : List Lit) (writes : List Rule) → length (guarded_writes at cond writes) ≡ 3 + length writes
 guarded_width at cond writes =
     let all : length (writes ++ always Accept ∷ []) ≡ length writes + 1 = length-append writes (always Accept ∷ []) in
     omega (arith, all)

@@ -12,7 +12,7 @@ use Rattle.fws_ifcl.specs.declared.diagram.Act.{Act}
 use Rattle.fws_ifcl.specs.declared.diagram.Act.TheVariants.{Accept, Drop, Return, Skip, Call, Goto, Src, Dst, OnlyTag}
 use Rattle.fws_ifcl.specs.declared.diagram.Rule.{Rule}
 use Rattle.fws_rule.specs.Literals.{one, positive, negative}
-use Rattle.fws_draw.specs.Rules.{ruled, always}
+use Rattle.fws_draw.specs.Rules.{ruled, always, guarded}
 use Rattle.fws_ipt.specs.declared.config.IptGo.{IptGo}
 use Rattle.fws_ipt.specs.declared.config.IptGo.TheVariants as goes
 use Rattle.fws_rule.specs.Networks.{net_end}
@@ -23,9 +23,8 @@ all_entries site = one 1 (length site.faces + 1)
 
 -- rules of which the first has the place at: where the condition holds they write and end the stage, else the walk goes on
 -- behind them
-abbrev pub guarded : ℕ → List Lit → List Rule → List Rule
-guarded at cond writes =
-    ruled cond (Skip (at + 2)) ∷ always (Skip (at + (3 + length writes))) ∷ writes ++ always Accept ∷ []
+abbrev pub guarded_writes : ℕ → List Lit → List Rule → List Rule
+guarded_writes at cond writes = guarded at cond (writes ++ always Accept ∷ [])
 
 -- rules for n entries from one on: each acts where the test finds its entry alone
 abbrev pub by_entry : (List Iv → Test) → (ℕ → Act) → ℕ → ℕ → List Rule
@@ -56,9 +55,9 @@ unfolded site on_source at cond goes.Next = ruled cond (Skip (at + 1)) ∷ []
 unfolded site on_source at cond (goes.Jump c) = ruled cond (Call (c + 3)) ∷ []
 unfolded site on_source at cond (goes.Goto c) = ruled cond (Goto (c + 3)) ∷ []
 unfolded site on_source at cond (goes.Mark v) = ruled cond (OnlyTag v) ∷ []
-unfolded site on_source at cond (goes.Source e) = guarded at (cond ++ positive Outward ∷ []) (always (Src e) ∷ [])
+unfolded site on_source at cond (goes.Source e) = guarded_writes at (cond ++ positive Outward ∷ []) (always (Src e) ∷ [])
 unfolded site on_source at cond goes.Masquerade =
-    guarded at (cond ++ positive Outward ∷ positive (Xmit (all_entries site)) ∷ []) (masquerading site)
-unfolded site on_source at cond (goes.Dest e) = guarded at (cond ++ negative Outward ∷ []) (always (Dst e) ∷ [])
-unfolded site on_source at cond (goes.Redirect port) = guarded at (cond ++ negative Outward ∷ []) (redirecting site port)
-unfolded site on_source at cond (goes.Netmap net) = guarded at cond (always (mapping on_source net) ∷ [])
+    guarded_writes at (cond ++ positive Outward ∷ positive (Xmit (all_entries site)) ∷ []) (masquerading site)
+unfolded site on_source at cond (goes.Dest e) = guarded_writes at (cond ++ negative Outward ∷ []) (always (Dst e) ∷ [])
+unfolded site on_source at cond (goes.Redirect port) = guarded_writes at (cond ++ negative Outward ∷ []) (redirecting site port)
+unfolded site on_source at cond (goes.Netmap net) = guarded_writes at cond (always (mapping on_source net) ∷ [])

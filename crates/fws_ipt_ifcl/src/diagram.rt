@@ -9,6 +9,7 @@ ghost use Rattle.fws_ipt_ifcl.specs.Kept.{KeepsWalks, KeepsChains, KeepsStages, 
 
 use crate::chains::chains_for;
 use crate::stages::{arrive_stages, deliver_stages, forward_stages, send_stages};
+use fws_draw::rules_are_right_by_parts;
 use fws_ifcl::Ifcl;
 use fws_ipt::{
     IptConfig, fitting_names_chains, loops_are_found, sizes_stand_still, walks_stand_still,
@@ -49,6 +50,7 @@ pub fn to_ifcl(alloc: Global, c: &IptConfig, site: &Site) -> Result<Ifcl, Memory
     ensures refused { IfOk result (λ d. KeepsRefusals d site.now c.now) }
 {
     routes_are_entries();
+    rules_are_right_by_parts();
     fitting_names_chains();
     walks_stand_still();
     loops_are_found();

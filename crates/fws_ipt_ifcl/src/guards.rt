@@ -2,9 +2,9 @@
 
 ghost use Rattle.std.specs.Prelude.{◌≡◌, ◌≤◌, ◌++◌, length, IfOk, OnOk};
 ghost use Rattle.fws_rule.specs.Literals.{one};
-ghost use Rattle.fws_ipt_ifcl.specs.Blocks.{all_entries, guarded};
+ghost use Rattle.fws_ipt_ifcl.specs.Blocks.{all_entries, guarded_writes};
 
-use fws_draw::{always, place_behind};
+use fws_draw::{put_always, put_guard};
 use fws_ifcl::{Act, Rule};
 use fws_iv::{Ivs, one};
 use fws_net::{Cond, Site};
@@ -34,16 +34,10 @@ pub(crate) fn put_guarded(
     cond: Cond,
     mut writes: Vec<Rule>,
 ) -> Result<(), Memory>
-    ensures { OnOk result (rules.new.items ≡ rules.old.items ++ guarded (length rules.old.items) cond writes.items) }
+    ensures { OnOk result (rules.new.items ≡ rules.old.items ++ guarded_writes (length rules.old.items) cond writes.items) }
 {
-    let first = place_behind(rules.len(), 2)?;
-    let past = place_behind(rules.len(), writes.len() + 3)?;
-    rules.push(Rule {
-        cond,
-        act: Act::Skip(first),
-    })?;
-    rules.push(always(alloc, Act::Skip(past)))?;
+    put_always(alloc, &mut writes, Act::Accept)?;
+    put_guard(alloc, rules, cond, writes.len())?;
     rules.append(&mut writes)?;
-    rules.push(always(alloc, Act::Accept))?;
     Ok(())
 }

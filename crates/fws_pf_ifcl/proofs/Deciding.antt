@@ -1,6 +1,6 @@
 -- The rules of the tail decide as its filter rules do.
-use Rattle.std.proofs.Common.{◌≡◌, ℕ, suc, ◌+◌, ◌-◌, ◌<◌, ◌≤◌, ◌⊎◌, inl, inr, Bool, true, false, not, cond, ◌&&◌, ◌||◌, Option, Some, None, is_some, List, [], ◌∷◌, ◌++◌, length, get_or, take, drop, take-suc, arith, refl, sym, ap, ◌∙◌, append_assoc, append-nil}
-use Rattle.std.proofs.lemmas.Bool.{false≢true, or_parts}
+use Rattle.std.proofs.Common.{◌≡◌, ℕ, suc, ◌+◌, ◌-◌, ◌<◌, ◌≤◌, ◌⊎◌, inl, inr, Bool, true, false, not, cond, ◌&&◌, ◌||◌, nat_lt, Option, Some, None, is_some, List, [], ◌∷◌, ◌++◌, length, get_or, take, drop, take-suc, arith, refl, sym, ap, ◌∙◌, append_assoc, append-nil}
+use Rattle.std.proofs.lemmas.Bool.{false≢true, le-ltb, cond-false, or_parts}
 use Rattle.std.specs.List.{list_any}
 use Rattle.fws_net.specs.declared.condition.Lit.{Lit}
 use Rattle.fws_net.specs.declared.connection.Kind.TheVariants.{New}
@@ -12,13 +12,14 @@ use Rattle.fws_net.specs.Transits.{with_verdict, decided}
 use Rattle.fws_ifcl.specs.declared.diagram.Act.TheVariants.{Accept, Drop}
 use Rattle.fws_ifcl.specs.declared.diagram.Rule.{Rule}
 use Rattle.fws_ifcl.specs.declared.step.ChainEnd.TheVariants.{Accepted, Dropped}
-use Rattle.fws_ifcl.specs.Walk.{rules_walk as walk_rules}
+use Rattle.fws_ifcl.specs.Walk.{step_of, stepped, rules_walk as walk_rules}
+use Rattle.fws_draw.specs.Places.{sight, run}
 use Rattle.fws_draw.specs.Rules.{ruled}
 use Rattle.fws_pf.specs.declared.config.PfRule.{PfRule}
 use Rattle.fws_pf.specs.Walk.{view_on, tagged, is_met, rules_walk}
 use Rattle.fws_pf_ifcl.specs.Blocks.{puts_tag, behind_tags, tail_place, deciding, quick_rule, slow_rule, quick_rules, slow_rules, tail_rules}
 use Rattle.fws_pf_ifcl.specs.Diagram.{pass_stage}
-use Rattle.fws_pf_ifcl.proofs.Running.{Course, sight, run, first_rule}
+use Rattle.fws_pf_ifcl.proofs.Courses.{Course}
 use Rattle.fws_pf_ifcl.proofs.Settling.{settled, left, left_by}
 
 -- Where the tail begins
@@ -136,16 +137,23 @@ filter_decides site outward (r ∷ rs) t passes none =
 abbrev through : {outward : Bool} → Course New outward → ℕ → List Rule → Transit → Option Transit
 through {outward} w at rules t = left (walk_rules w.enter w.site w.p New (pass_stage outward) at rules 0 t)
 
+-- the first rule of a walk
+first_rule : (outward : Bool) (w : Course New outward) (at : ℕ) (r : Rule) (rest : List Rule) (t : Transit)
+    → walk_rules w.enter w.site w.p New (pass_stage outward) at (r ∷ rest) 0 t
+    ≡ cond (holds r.cond (sight w t)) (stepped w.enter (walk_rules w.enter w.site w.p New (pass_stage outward) (suc at) rest) (step_of w.p New r.act t))
+    (walk_rules w.enter w.site w.p New (pass_stage outward) (suc at) rest 0 t)
+first_rule outward w at r rest t = cond-false (nat_lt at 0) _ _ (le-ltb at 0 (omega arith))
+
 act_walk : (outward : Bool) (w : Course New outward) (pass : Bool) (test : List Lit) (rest : List Rule) (t : Transit) (o : Option Transit)
     → ((at : ℕ) → through w at rest t ≡ o) → (at : ℕ) → through w at (ruled test (cond pass Accept Drop) ∷ rest) t ≡ cond (holds test (sight w t)) (held pass t) o
 act_walk outward w true test rest t o is at =
     let b = holds test (sight w t) in
-    ap left (first_rule w at (ruled test Accept) rest t)
+    ap left (first_rule outward w at (ruled test Accept) rest t)
     ∙ left_by b (Accepted t) (walk_rules w.enter w.site w.p New (pass_stage outward) (suc at) rest 0 t)
     ∙ ap (cond b (held true t)) (is (suc at))
 act_walk outward w false test rest t o is at =
     let b = holds test (sight w t) in
-    ap left (first_rule w at (ruled test Drop) rest t)
+    ap left (first_rule outward w at (ruled test Drop) rest t)
     ∙ left_by b Dropped (walk_rules w.enter w.site w.p New (pass_stage outward) (suc at) rest 0 t)
     ∙ ap (cond b (held false t)) (is (suc at))
 

@@ -7,31 +7,29 @@ use Rattle.fws_net.specs.declared.connection.Kind.TheVariants.{New}
 use Rattle.fws_net.specs.declared.transit.Transit.{Transit}
 use Rattle.fws_net.specs.Conditions.{holds}
 use Rattle.fws_net.specs.Transits.{with_only_tag, with_verdict, decided}
-use Rattle.fws_ifcl.specs.declared.diagram.Act.TheVariants.{Accept, Drop, Hold, OnlyTag}
+use Rattle.fws_ifcl.specs.declared.diagram.Act.TheVariants.{Accept, Drop, OnlyTag}
 use Rattle.fws_ifcl.specs.declared.diagram.Rule.{Rule}
 use Rattle.fws_ifcl.specs.declared.step.ChainEnd.{ChainEnd}
 use Rattle.fws_ifcl.specs.declared.step.ChainEnd.TheVariants.{Accepted, Dropped}
-use Rattle.fws_draw.specs.Rules.{ruled, always}
+use Rattle.fws_draw.specs.Places.{sight, run, Stands}
+use Rattle.fws_draw.specs.Rules.{ruled, always, guard}
 use Rattle.fws_pf.specs.declared.config.PfRule.{PfRule}
 use Rattle.fws_pf.specs.Walk.{tagged, is_met, acted, rules_walk}
-use Rattle.fws_pf_ifcl.specs.Blocks.{guard, passing_at_once, holding, filter_rule, met_rule, met_rules, tail_place, tail_rules, filter_from}
-use Rattle.fws_pf_ifcl.proofs.Running.{Course, sight, run, Stands, second_part, step, step_in, guarded_walk}
+use Rattle.fws_pf_ifcl.specs.Blocks.{passing_at_once, holding, filter_rule, met_rule, met_rules, tail_place, tail_rules, filter_from}
+use Rattle.fws_pf_ifcl.proofs.Courses.{Course}
 use Rattle.fws_pf_ifcl.proofs.Deciding.{Untagged, tail_untagged, tail_walk}
 use Rattle.fws_pf_ifcl.proofs.Settling.{settled, left, left_by, settled_by}
 
 -- a rule that passes packets at once
 passing_walk : (outward : Bool) (w : Course New outward) (at : ℕ) (test : List Lit) (tag : Option ℕ) → Stands w at (passing_at_once at test tag) → (t : Transit)
     → left (run w at t) ≡ cond (holds test (sight w t)) (Some (with_verdict true (tagged tag t))) (left (run w (at + length (passing_at_once at test tag)) t))
-passing_walk outward w at test None s t = ap left (step w at test Accept s t) ∙ left_by (holds test (sight w t)) (Accepted t) (run w (at + 1) t)
+passing_walk outward w at test None s t = ap left (w.law.walked s (tt, tt) t) ∙ left_by (holds test (sight w t)) (Accepted t) (run w (at + 1) t)
 passing_walk outward w at test (Some n) s t =
     let inner = always (OnlyTag n) ∷ always Accept ∷ [] in
-    let inside : Stands w (at + 2) inner = second_part w at (guard at test (length inner)) inner s in
-    let same : at + 2 ≡ (at + 2) + 0 = omega arith in
+    let parts = w.law.parts (at + 2) (guard at test (length inner)) inner s refl in
     ap left
-    (guarded_walk w at test inner s t (Accepted (with_only_tag n t))
-    (ap (λ place. run w place t) same
-    ∙ step_in w (at + 2) inner 0 [] (OnlyTag n) inside refl t
-    ∙ step_in w (at + 2) inner 1 [] Accept inside refl (with_only_tag n t)))
+    (w.law.walked parts.0 (omega arith, (omega arith, tt)) t
+    ∙ ap (λ end. cond (holds test (sight w t)) end (run w (at + 4) t)) (w.law.walked parts.1 (tt, (tt, tt)) t))
     ∙ left_by (holds test (sight w t)) (Accepted (with_only_tag n t)) (run w (at + 4) t)
 
 -- two rules with the same condition
@@ -43,17 +41,11 @@ twice false x y z v = refl
 holding_walk : (outward : Bool) (w : Course New outward) (at : ℕ) (passes : Bool) (test : List Lit) (tag : Option ℕ) → Stands w at (holding passes test tag) → (t : Transit)
     → run w at t
     ≡ cond (holds test (sight w t)) (run w (at + length (holding passes test tag)) (with_verdict passes (tagged tag t))) (run w (at + length (holding passes test tag)) t)
-holding_walk outward w at passes test None s t = step w at test (Hold passes) s t
+holding_walk outward w at passes test None s t = w.law.walked s (tt, tt) t
 holding_walk outward w at passes test (Some n) s t =
-    let rules = ruled test (Hold passes) ∷ ruled test (OnlyTag n) ∷ [] in
-    let b = holds test (sight w t) in
     let held = with_verdict passes t in
-    let same : at ≡ at + 0 = omega arith in
-    ap (λ place. run w place t) same
-    ∙ step_in w at rules 0 test (Hold passes) s refl t
-    ∙ ap (λ end. cond b end (run w (at + 1) t)) (step_in w at rules 1 test (OnlyTag n) s refl held)
-    ∙ ap (cond b (cond b (run w (at + 2) (with_only_tag n held)) (run w (at + 2) held))) (step_in w at rules 1 test (OnlyTag n) s refl t)
-    ∙ twice b (run w (at + 2) (with_only_tag n held)) (run w (at + 2) held) (run w (at + 2) (with_only_tag n t)) (run w (at + 2) t)
+    w.law.walked s (tt, (tt, tt)) t
+    ∙ twice (holds test (sight w t)) (run w (at + 2) (with_only_tag n held)) (run w (at + 2) held) (run w (at + 2) (with_only_tag n t)) (run w (at + 2) t)
 
 -- the rules of a rule, by what it does
 abbrev pub rules_by : Bool → Bool → ℕ → List Lit → Option ℕ → List Rule
@@ -68,7 +60,7 @@ rule_walk : (outward : Bool) (w : Course New outward) (at : ℕ) (quick pass : B
 rule_walk outward w at true true test tag go s next t =
     passing_walk outward w at test tag s t ∙ ap (cond (holds test (sight w t)) (Some (with_verdict true (tagged tag t)))) (next t)
 rule_walk outward w at true false test tag go s next t =
-    ap left (step w at test Drop s t) ∙ left_by (holds test (sight w t)) Dropped (run w (at + 1) t) ∙ ap (cond (holds test (sight w t)) None) (next t)
+    ap left (w.law.walked s (tt, tt) t) ∙ left_by (holds test (sight w t)) Dropped (run w (at + 1) t) ∙ ap (cond (holds test (sight w t)) None) (next t)
 rule_walk outward w at false pass test tag go s next t =
     let b = holds test (sight w t) in
     let past = at + length (holding pass test tag) in

@@ -2,25 +2,20 @@
 use Rattle.std.proofs.Common.{◌≡◌, ℕ, suc, ◌+◌, Bool, true, false, List, [], ◌∷◌, ◌++◌, length, arith, refl, length-append}
 use Rattle.fws_net.specs.declared.condition.Lit.{Lit}
 use Rattle.fws_ifcl.specs.declared.diagram.Act.{Act}
-use Rattle.fws_ifcl.specs.declared.diagram.Act.TheVariants.{Skip}
 use Rattle.fws_ifcl.specs.declared.diagram.Rule.{Rule}
-use Rattle.fws_draw.specs.Rules.{ruled, always}
+use Rattle.fws_draw.specs.Rules.{always, guard, guarded}
 use Rattle.fws_pf.specs.declared.config.PfConfig.{PfConfig}
 use Rattle.fws_pf.specs.declared.config.PfNat.{PfNat}
 use Rattle.fws_pf.specs.Walk.{translations}
-use Rattle.fws_pf_ifcl.specs.Blocks.{guarded, changing, leaving, translating, translation, width_with, translation_width, translation_widths, translations_from}
+use Rattle.fws_pf_ifcl.specs.Blocks.{changing, leaving, translating, translation, width_with, translation_width, translation_widths, translations_from}
 use Rattle.fws_pf_ifcl.specs.Diagram.{tracking, skipping, translations_place, filter_place}
-
--- rules met where a condition holds
-pub guarded_length : (at : ℕ) (cond : List Lit) (inner : List Rule) → length (guarded at cond inner) ≡ 2 + length inner
-guarded_length at cond inner = length-append (ruled cond (Skip (at + 2)) ∷ always (Skip (at + (2 + length inner))) ∷ []) inner
 
 -- the rules of a translation, by what it changes
 pub translating_length : (at : ℕ) (cond : List Lit) (leave : Act) (changes : List Rule) → length (translating at cond leave changes) ≡ width_with changes
 translating_length at cond leave [] = refl
 translating_length at cond leave (change ∷ changes) =
     let inner = change ∷ changes ++ always leave ∷ [] in
-    let all : length (guarded at cond inner) ≡ 2 + length inner = guarded_length at cond inner in
+    let all : length (guarded at cond inner) ≡ 2 + length inner = length-append (guard at cond (length inner)) inner in
     let more : length inner ≡ suc (length changes) + 1 = length-append (change ∷ changes) (always leave ∷ []) in
     omega (arith, all, more)
 

@@ -1,10 +1,9 @@
+mod Courses
 mod Deciding
 mod Filtering
 mod Lengths
 mod Numbered
 mod Passing
 mod Putting
-mod Running
 mod Settling
 mod Translated
-mod Unfolding

@@ -1,73 +1,42 @@
 -- Each skip of the diagram goes forward, to at most one past the last rule.
-use Rattle.std.proofs.Common.{◌≡◌, ℕ, suc, ◌+◌, ◌<◌, ◌≤◌, Bool, true, false, not, cond, ◌&&◌, nat_lt, nat_le, Option, Some, None, List, [], ◌∷◌, ◌++◌, length, take, drop, arith, refl, ap, ◌∙◌, subst, length-append}
-use Rattle.std.proofs.lemmas.Bool.{le-leb, lt-ltb, and_from, and_parts}
+use Rattle.std.proofs.Common.{◌≡◌, ℕ, ◌+◌, ◌<◌, ◌≤◌, Bool, true, false, not, cond, ◌&&◌, Option, Some, None, List, [], ◌∷◌, ◌++◌, length, take, drop, arith, refl, ap, ◌∙◌, length-append}
+use Rattle.std.specs.List.{list_all}
 use Rattle.fws_net.specs.declared.condition.Lit.{Lit}
 use Rattle.fws_net.specs.declared.outcome.End.{End}
 use Rattle.fws_ifcl.specs.declared.diagram.Act.TheVariants as rules
 use Rattle.fws_ifcl.specs.declared.diagram.Rule.{Rule}
-use Rattle.fws_ifcl.specs.Soundness.{act_ok, rules_ok, ifcl_ok}
+use Rattle.fws_ifcl.specs.Soundness.{act_ok, rules_ok, chain_ok, ifcl_ok}
+use Rattle.fws_draw.specs.Right.{RightAmong, RightByParts, RulesAreRightByParts}
 use Rattle.fws_draw.specs.Rules.{ruled, always}
+use Rattle.fws_draw.specs.Straight.{is_straight}
 use Rattle.fws_pf.specs.declared.config.PfConfig.{PfConfig}
 use Rattle.fws_pf.specs.declared.config.PfNat.{PfNat}
 use Rattle.fws_pf.specs.declared.config.PfRule.{PfRule}
 use Rattle.fws_pf.specs.Walk.{is_met, translations}
-use Rattle.fws_pf_ifcl.specs.Blocks.{guarded, tagging, writing, translating, translation, width_with, translation_width, translation_widths, translations_from, passing_at_once, holding, filter_rule, met_rule, met_rules, tail_place, deciding, quick_rule, slow_rule, quick_rules, slow_rules, filter_from}
-use Rattle.fws_pf_ifcl.specs.Diagram.{tracking, skipping, translations_place, filter_place, pass_rules, diagram_of}
+use Rattle.fws_pf_ifcl.specs.Blocks.{tagging, writing, translating, translation, width_with, translation_width, translation_widths, translations_from, passing_at_once, holding, filter_rule, met_rule, met_rules, tail_place, deciding, quick_rule, slow_rule, quick_rules, slow_rules, filter_from}
+use Rattle.fws_pf_ifcl.specs.Diagram.{tracking, skipping, translations_place, filter_place, pass_rules, chains_of, diagram_of}
 use Rattle.fws_pf_ifcl.proofs.Lengths.{translation_length, first_length, front_length}
 use Rattle.fws_pf_ifcl.proofs.Translated.{leaver, changing_by}
 use Rattle.fws_pf_ifcl.proofs.Filtering.{rules_by}
 
 -- among so many chains, and in a chain of so many rules
-module _ (chains total : ℕ) where
+module _ (chains total : ℕ) (right : RightByParts chains total) where
   -- rules of which the first has the place at are right
   abbrev Right : ℕ → List Rule → Type 0
-  Right at xs = rules_ok chains total at xs ≡ true
-
-  -- a skip forward within the rules
-  skip_ok : (at to : ℕ) → at < to → to ≤ total → act_ok chains total at (rules.Skip to) ≡ true
-  skip_ok at to lt le = and_from (nat_lt at to) (nat_le to total) (lt-ltb at to lt) (le-leb to total le)
-
-  -- a rule in front
-  right_first : (at : ℕ) (r : Rule) (rs : List Rule) → act_ok chains total at r.act ≡ true → Right (at + 1) rs → Right at (r ∷ rs)
-  right_first at r rs here rest =
-      let next : at + 1 ≡ suc at = omega arith in
-      and_from (act_ok chains total at r.act) (rules_ok chains total (suc at) rs) here (subst (λ n. Right n rs) next rest)
-
-  -- rules behind rules
-  right_joined : (at : ℕ) (xs ys : List Rule) → Right at xs → Right (at + length xs) ys → Right at (xs ++ ys)
-  right_joined at [] ys first second =
-      let same : at + 0 ≡ at = omega arith in
-      subst (λ n. Right n ys) same second
-  right_joined at (x ∷ xs) ys first second =
-      let both = and_parts (act_ok chains total at x.act) (rules_ok chains total (suc at) xs) first in
-      let next : at + suc (length xs) ≡ suc at + length xs = omega arith in
-      and_from (act_ok chains total at x.act) (rules_ok chains total (suc at) (xs ++ ys)) both.0
-      (right_joined (suc at) xs ys both.1 (subst (λ n. Right n ys) next second))
-
-  -- rules at the same place
-  right_at : (from to : ℕ) (xs : List Rule) → Right from xs → from ≡ to → Right to xs
-  right_at from to xs right same = subst (λ n. Right n xs) same right
-
-  -- rules met where a condition holds
-  guarded_right : (at : ℕ) (test : List Lit) (inner : List Rule) → Right (at + 2) inner → at + (2 + length inner) ≤ total → Right at (guarded at test inner)
-  guarded_right at test inner right far =
-      let next : at + 2 ≡ (at + 1) + 1 = omega arith in
-      right_first at (ruled test (rules.Skip (at + 2))) (always (rules.Skip (at + (2 + length inner))) ∷ inner) (skip_ok at (at + 2) (omega arith) (omega (arith, far)))
-      (right_first (at + 1) (always (rules.Skip (at + (2 + length inner)))) inner (skip_ok (at + 1) (at + (2 + length inner)) (omega arith) far)
-      (right_at (at + 2) ((at + 1) + 1) inner right next))
+  Right at rules = RightAmong chains total at rules
 
   -- Translations
 
   -- what leaves one
   leave_right : (at filter : ℕ) (past : Bool) (test : List Lit) → at < filter → filter ≤ total → Right at (ruled test (leaver past filter) ∷ [])
   leave_right at filter true test lt le = refl
-  leave_right at filter false test lt le = right_first at (ruled test (rules.Skip filter)) [] (skip_ok at filter lt le) refl
+  leave_right at filter false test lt le = right.first at (ruled test (rules.Skip filter)) [] (right.skip at filter lt le) refl
 
   -- a tag, and what leaves
   tag_right : (at filter : ℕ) (past : Bool) (tag : Option ℕ) → at + length (tagging tag) < filter → filter ≤ total → Right at (tagging tag ++ always (leaver past filter) ∷ [])
   tag_right at filter past None lt le = leave_right at filter past [] (omega (arith, lt)) le
   tag_right at filter past (Some n) lt le =
-      right_first at (always (rules.OnlyTag n)) (always (leaver past filter) ∷ []) refl (leave_right (at + 1) filter past [] lt le)
+      right.first at (always (rules.OnlyTag n)) (always (leaver past filter) ∷ []) refl (leave_right (at + 1) filter past [] lt le)
 
   -- an end
   write_ok : (outward : Bool) (at : ℕ) (e : End) → act_ok chains total at (writing outward e) ≡ true
@@ -79,12 +48,12 @@ module _ (chains total : ℕ) where
       → at + width_with (changing_by outward to tag) ≤ filter → filter ≤ total → Right at (translating at test (leaver past filter) (changing_by outward to tag))
   translating_right outward at filter past None None test near far = leave_right at filter past test (omega (arith, near)) far
   translating_right outward at filter past None (Some n) test near far =
-      guarded_right at test (always (rules.OnlyTag n) ∷ always (leaver past filter) ∷ []) (tag_right (at + 2) filter past (Some n) (omega (arith, near)) far) (omega (arith, near, far))
+      right.guarded at test (always (rules.OnlyTag n) ∷ always (leaver past filter) ∷ []) (tag_right (at + 2) filter past (Some n) (omega (arith, near)) far) (omega (arith, near, far))
   translating_right outward at filter past (Some e) tag test near far =
       let others = tagging tag ++ always (leaver past filter) ∷ [] in
       let long : length others ≡ length (tagging tag) + 1 = length-append (tagging tag) (always (leaver past filter) ∷ []) in
-      guarded_right at test (always (writing outward e) ∷ others)
-      (right_first (at + 2) (always (writing outward e)) others (write_ok outward (at + 2) e) (tag_right ((at + 2) + 1) filter past tag (omega (arith, near)) far))
+      right.guarded at test (always (writing outward e) ∷ others)
+      (right.first (at + 2) (always (writing outward e)) others (write_ok outward (at + 2) e) (tag_right ((at + 2) + 1) filter past tag (omega (arith, near)) far))
       (omega (arith, near, far, long))
 
   -- translations
@@ -96,14 +65,14 @@ module _ (chains total : ℕ) where
       let here = translation outward filter at nat in
       let more = translations_from outward filter next nats in
       let many : length here ≡ translation_width outward nat = translation_length outward filter at nat in
-      right_joined at here more (translating_right outward at filter nat.past nat.to nat.tag nat.cond (omega (arith, wide)) le)
-      (right_at next (at + length here) more (translations_right outward filter next nats (omega (arith, wide)) le) (omega (arith, many)))
+      right.joined at next here more (omega (arith, many)) (translating_right outward at filter nat.past nat.to nat.tag nat.cond (omega (arith, wide)) le)
+      (translations_right outward filter next nats (omega (arith, wide)) le)
 
   -- Filter rules
 
   passing_right : (at : ℕ) (test : List Lit) (tag : Option ℕ) → at + length (passing_at_once at test tag) ≤ total → Right at (passing_at_once at test tag)
   passing_right at test None le = refl
-  passing_right at test (Some n) le = guarded_right at test (always (rules.OnlyTag n) ∷ always rules.Accept ∷ []) refl le
+  passing_right at test (Some n) le = right.guarded at test (always (rules.OnlyTag n) ∷ always rules.Accept ∷ []) refl le
 
   holding_right : (at : ℕ) (passes : Bool) (test : List Lit) (tag : Option ℕ) → Right at (holding passes test tag)
   holding_right at passes test None = refl
@@ -125,7 +94,7 @@ module _ (chains total : ℕ) where
       let next = at + length here in
       let more = met_rules outward next rs in
       let many : length (here ++ more) ≡ length here + length more = length-append here more in
-      right_joined at here more (met_right at (is_met r.way outward) r (omega (arith, le, many))) (met_rules_right outward next rs (omega (arith, le, many)))
+      right.joined at next here more refl (met_right at (is_met r.way outward) r (omega (arith, le, many))) (met_rules_right outward next rs (omega (arith, le, many)))
 
   -- The tail
 
@@ -141,13 +110,15 @@ module _ (chains total : ℕ) where
   quick_right outward at [] = refl
   quick_right outward at (r ∷ rs) =
       let here = quick_rule outward r in
-      right_joined at here (quick_rules outward rs) (deciding_right at (is_met r.way outward && r.quick) r) (quick_right outward (at + length here) rs)
+      let next = at + length here in
+      right.joined at next here (quick_rules outward rs) refl (deciding_right at (is_met r.way outward && r.quick) r) (quick_right outward next rs)
 
   slow_right : (outward : Bool) (at : ℕ) (rs : List PfRule) → Right at (slow_rules outward rs)
   slow_right outward at [] = refl
   slow_right outward at (r ∷ rs) =
       let ahead = slow_rules outward rs in
-      right_joined at ahead (slow_rule outward r) (slow_right outward at rs) (deciding_right (at + length ahead) (is_met r.way outward && not r.quick) r)
+      let next = at + length ahead in
+      right.joined at next ahead (slow_rule outward r) refl (slow_right outward at rs) (deciding_right next (is_met r.way outward && not r.quick) r)
 
   filter_right : (outward : Bool) (at : ℕ) (rs : List PfRule) → at + length (filter_from outward at rs) ≤ total → Right at (filter_from outward at rs)
   filter_right outward at rs le =
@@ -157,8 +128,10 @@ module _ (chains total : ℕ) where
       let quick = quick_rules outward tail in
       let slow = slow_rules outward tail in
       let many : length (ahead ++ (quick ++ slow)) ≡ length ahead + length (quick ++ slow) = length-append ahead (quick ++ slow) in
-      right_joined at ahead (quick ++ slow) (met_rules_right outward at (take n rs) (omega (arith, le, many)))
-      (right_joined (at + length ahead) quick slow (quick_right outward (at + length ahead) tail) (slow_right outward ((at + length ahead) + length quick) tail))
+      let next = at + length ahead in
+      let last = next + length quick in
+      right.joined at next ahead (quick ++ slow) refl (met_rules_right outward at (take n rs) (omega (arith, le, many)))
+      (right.joined next last quick slow refl (quick_right outward next tail) (slow_right outward last tail))
 
   -- Passes
 
@@ -166,7 +139,7 @@ module _ (chains total : ℕ) where
   first_right true c = refl
   first_right false c = refl
 
-  pub all_right : (outward : Bool) (c : PfConfig) → length (pass_rules outward c) ≤ total → Right 0 (pass_rules outward c)
+  all_right : (outward : Bool) (c : PfConfig) → length (pass_rules outward c) ≤ total → Right 0 (pass_rules outward c)
   all_right outward c le =
       let first = tracking outward ++ skipping c in
       let nats = translations c outward in
@@ -177,17 +150,27 @@ module _ (chains total : ℕ) where
       let few : length first ≡ place = first_length outward c in
       let front : length (first ++ middle) ≡ filter = front_length outward c in
       let all : length (pass_rules outward c) ≡ length (first ++ middle) + length last = length-append (first ++ middle) last in
-      right_joined 0 (first ++ middle) last
-      (right_joined 0 first middle (first_right outward c)
-      (right_at place (0 + length first) middle (translations_right outward filter place nats refl (omega (arith, le, front, all))) (omega (arith, few))))
-      (right_at filter (0 + length (first ++ middle)) last (filter_right outward filter c.filter (omega (arith, le, front, all))) (omega (arith, front)))
+      right.joined 0 filter (first ++ middle) last (omega (arith, front))
+      (right.joined 0 place first middle (omega (arith, few)) (first_right outward c)
+      (translations_right outward filter place nats refl (omega (arith, le, front, all))))
+      (filter_right outward filter c.filter (omega (arith, le, front, all)))
 
 -- the rules of a pass are right among any number of chains
-pub rules_right : (chains : ℕ) (outward : Bool) (c : PfConfig) → rules_ok chains (length (pass_rules outward c)) 0 (pass_rules outward c) ≡ true
-rules_right chains outward c = all_right chains (length (pass_rules outward c)) outward c (omega arith)
+rules_right : (law : RulesAreRightByParts) (chains : ℕ) (outward : Bool) (c : PfConfig) → rules_ok chains (length (pass_rules outward c)) 0 (pass_rules outward c) ≡ true
+rules_right law chains outward c =
+    let total = length (pass_rules outward c) in
+    all_right chains total (law chains total) outward c (omega arith)
+
+-- so are those of both passes
+both_right : (law : RulesAreRightByParts) (chains : ℕ) (c : PfConfig) → list_all (chain_ok chains) (chains_of c) ≡ true
+both_right law chains c =
+    ap (λ b. b && (rules_ok chains (length (pass_rules true c)) 0 (pass_rules true c) && true)) (rules_right law chains false c)
+    ∙ ap (λ b. b && true) (rules_right law chains true c)
 
 -- every number in the diagram is right
-pub diagram_ok : (c : PfConfig) → ifcl_ok (diagram_of c) ≡ true
-diagram_ok c =
-    ap (λ b. (b && (rules_ok 2 (length (pass_rules true c)) 0 (pass_rules true c) && true)) && true && true && true && true) (rules_right 2 false c)
-    ∙ ap (λ b. (b && true) && true && true && true && true) (rules_right 2 true c)
+pub diagram_ok : (law : RulesAreRightByParts) (c : PfConfig) → ifcl_ok (diagram_of c) ≡ true
+diagram_ok law c = ap (λ b. b && true && true && true && true) (both_right law 2 c)
+
+-- no rule names a chain
+pub diagram_straight : (law : RulesAreRightByParts) (c : PfConfig) → is_straight (diagram_of c) ≡ true
+diagram_straight law c = both_right law 0 c

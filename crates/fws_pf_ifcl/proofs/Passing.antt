@@ -1,8 +1,7 @@
 -- The diagram's stages are pf's passes.
-use Rattle.std.proofs.Common.{◌≡◌, ℕ, ◌+◌, Bool, true, false, cond, ◌&&◌, nat_eq, Option, Some, None, option_and_then, List, [], ◌∷◌, ◌++◌, length, drop, arith, refl, sym, ap, ◌∙◌, append-nil}
+use Rattle.std.proofs.Common.{◌≡◌, ℕ, Bool, true, false, cond, ◌&&◌, nat_eq, Option, Some, None, option_and_then, List, [], ◌∷◌, ◌++◌, length, drop, arith, refl, sym, ap, ◌∙◌}
 use Rattle.std.proofs.Math.Seq.{drop-append_seam}
 use Rattle.std.specs.Option.{option_map_or}
-use Rattle.fws_net.specs.declared.condition.Test.TheVariants as tests
 use Rattle.fws_net.specs.declared.connection.Kind.{Kind}
 use Rattle.fws_net.specs.declared.connection.Kind.TheVariants.{New, Est}
 use Rattle.fws_net.specs.declared.exit.Exit.{Exit}
@@ -14,30 +13,24 @@ use Rattle.fws_net.specs.declared.transit.Transit.{Transit}
 use Rattle.fws_net.specs.Conditions.{is_shown}
 use Rattle.fws_net.specs.Routes.{exit_at}
 use Rattle.fws_net.specs.Transits.{with_verdict, with_tracked_dst, decided, entered, onwards, outcome_of}
-use Rattle.fws_ifcl.specs.declared.diagram.Act.TheVariants.{Accept, RecDst}
 use Rattle.fws_ifcl.specs.declared.diagram.Stage.{Stage}
 use Rattle.fws_ifcl.specs.declared.step.ChainEnd.{ChainEnd}
 use Rattle.fws_ifcl.specs.declared.step.ChainEnd.TheVariants.{Accepted}
 use Rattle.fws_ifcl.specs.Walk.{chain_walk, stage_walk, stages_walk, means}
-use Rattle.fws_rule.specs.Literals.{positive}
-use Rattle.fws_draw.specs.Skips.{SkipsGoOn}
+use Rattle.fws_draw.specs.Places.{WalksGoByPlaces, run, Stands}
 use Rattle.fws_pf.specs.declared.config.PfConfig.{PfConfig}
 use Rattle.fws_pf.specs.declared.config.PfNat.{PfNat}
 use Rattle.fws_pf.specs.declared.config.PfRule.{PfRule}
 use Rattle.fws_pf.specs.Walk.{written, tagged, translated_by, translations, chosen, matches, acted, rules_walk, behind, interface_of, pass_of, walk}
 use Rattle.fws_pf_ifcl.specs.Blocks.{translations_from, filter_from}
 use Rattle.fws_pf_ifcl.specs.Diagram.{tracking, skipping, translations_place, filter_place, pass_rules, chains_of, pass_stage, diagram_of}
+use Rattle.fws_pf_ifcl.proofs.Courses.{Course, course}
 use Rattle.fws_pf_ifcl.proofs.Lengths.{first_length, front_length}
-use Rattle.fws_pf_ifcl.proofs.Running.{Course, run, Stands, first_part, second_part, moved, step_in}
 use Rattle.fws_pf_ifcl.proofs.Settling.{settled, left, left_by, settled_by, is_settled, either, decided_settled}
 use Rattle.fws_pf_ifcl.proofs.Filtering.{filter_walk}
 use Rattle.fws_pf_ifcl.proofs.Translated.{translations_walk}
 
 -- Passes
-
--- a packet on its pass through the diagram's rules
-abbrev course : SkipsGoOn → (ℕ → Transit → ChainEnd) → (site : Site) → Packet → (k : Kind) (outward : Bool) → PfConfig → Course k outward
-course law enter site p k outward c = record { law = law; enter = enter; site = site; p = p; full = pass_rules outward c }
 
 and_true : (b : Bool) → (b && true) ≡ b
 and_true true = refl
@@ -47,29 +40,23 @@ and_true false = refl
 first_rules : (outward : Bool) (w : Course New outward) (c : PfConfig) → Stands w 0 (tracking outward ++ skipping c) → (t : Transit)
     → run w 0 t ≡ cond (is_shown (interface_of w.site outward t) c.skip) (Accepted t) (run w (translations_place outward) t)
 first_rules true w c s t =
-    let rules = tracking true ++ skipping c in
-    step_in w 0 rules 0 (positive tests.Est ∷ []) Accept s refl t
-    ∙ step_in w 0 rules 1 (positive (tests.Via c.skip) ∷ []) Accept s refl t
+    w.law.walked s (tt, (tt, tt)) t
     ∙ ap (λ b. cond b (Accepted t) (run w 2 t)) (and_true (is_shown (interface_of w.site true t) c.skip))
 first_rules false w c s t =
-    let rules = tracking false ++ skipping c in
-    step_in w 0 rules 0 (positive tests.Est ∷ []) RecDst s refl t
-    ∙ step_in w 0 rules 1 (positive tests.Est ∷ []) Accept s refl t
-    ∙ step_in w 0 rules 2 (positive (tests.Via c.skip) ∷ []) Accept s refl t
+    w.law.walked s (tt, (tt, (tt, tt))) t
     ∙ ap (λ b. cond b (Accepted t) (run w 3 t)) (and_true (is_shown (interface_of w.site false t) c.skip))
 
 -- a pass through all rules
-pub pass_drawn : (law : SkipsGoOn) (enter : ℕ → Transit → ChainEnd) (site : Site) (p : Packet) (k : Kind) (outward : Bool) (c : PfConfig) (t : Transit)
+pub pass_drawn : (law : WalksGoByPlaces) (enter : ℕ → Transit → ChainEnd) (site : Site) (p : Packet) (k : Kind) (outward : Bool) (c : PfConfig) (t : Transit)
     → left (run (course law enter site p k outward c) 0 t) ≡ settled (pass_of c site p k outward t)
 pass_drawn law enter site p (Est r) true c t =
     let w = course law enter site p (Est r) true c in
-    ap left (step_in w 0 (pass_rules true c) 0 (positive tests.Est ∷ []) Accept (record { rest = []; are = sym (append-nil (pass_rules true c)) }) refl t)
+    let first : Stands w 0 (tracking true) = record { rest = drop 1 (pass_rules true c); are = refl } in
+    ap left (w.law.walked first (tt, tt) t)
 pass_drawn law enter site p (Est r) false c t =
     let w = course law enter site p (Est r) false c in
-    let all : Stands w 0 (pass_rules false c) = record { rest = []; are = sym (append-nil (pass_rules false c)) } in
-    ap left
-    (step_in w 0 (pass_rules false c) 0 (positive tests.Est ∷ []) RecDst all refl t
-    ∙ step_in w 0 (pass_rules false c) 1 (positive tests.Est ∷ []) Accept all refl (with_tracked_dst (Est r) t))
+    let first : Stands w 0 (tracking false) = record { rest = drop 2 (pass_rules false c); are = refl } in
+    ap left (w.law.walked first (tt, (tt, tt)) t)
 pass_drawn law enter site p New outward c t =
     let w = course law enter site p New outward c in
     let first = tracking outward ++ skipping c in
@@ -78,15 +65,14 @@ pass_drawn law enter site p New outward c t =
     let filter = filter_place outward c in
     let middle = translations_from outward filter place nats in
     let last = filter_from outward filter c.filter in
-    let all : Stands w 0 (pass_rules outward c) = record { rest = []; are = sym (append-nil (pass_rules outward c)) } in
-    let front : Stands w 0 (first ++ middle) = first_part w 0 (first ++ middle) last all in
+    let ahead : Stands w 0 (first ++ middle) = record { rest = last; are = refl } in
     let few : length first ≡ place = first_length outward c in
-    let stand : Stands w place middle = moved w (0 + length first) place middle (second_part w 0 first middle front) (omega (arith, few)) in
+    let parts = w.law.parts place first middle ahead (omega (arith, few)) in
     let rest : drop filter w.full ≡ last = ap (λ n. drop n (pass_rules outward c)) (sym (front_length outward c)) ∙ drop-append_seam (first ++ middle) last in
     let b = is_shown (interface_of site outward t) c.skip in
-    ap left (first_rules outward w c (first_part w 0 first middle front) t)
+    ap left (first_rules outward w c parts.0 t)
     ∙ left_by b (Accepted t) (run w place t)
-    ∙ ap (cond b (settled (Some t))) (translations_walk outward w c filter (filter_walk outward w filter c.filter rest) place nats stand refl t)
+    ∙ ap (cond b (settled (Some t))) (translations_walk outward w c filter (filter_walk outward w filter c.filter rest) place nats parts.1 refl t)
     ∙ settled_by b (Some t) (behind c site p outward (chosen site outward nats t) t)
 
 -- What a pass accepts is settled
@@ -142,7 +128,7 @@ outcome_settles k None = refl
 outcome_settles New (Some t) = refl
 outcome_settles (Est r) (Some t) = refl
 
-module _ (law : SkipsGoOn) (site : Site) (c : PfConfig) (p : Packet) (k : Kind) where
+module _ (law : WalksGoByPlaces) (site : Site) (c : PfConfig) (p : Packet) (k : Kind) where
   abbrev drawn : List Stage → Transit → Option Transit
   drawn stages t = stages_walk (chains_of c) site p k stages t
 
@@ -194,5 +180,5 @@ module _ (law : SkipsGoOn) (site : Site) (c : PfConfig) (p : Packet) (k : Kind) 
       ∙ sym (outcome_settles k _)
 
 -- what the diagram says of a packet is what becomes of it
-pub keeps_walks : (law : SkipsGoOn) (site : Site) (c : PfConfig) (p : Packet) (k : Kind) → means (diagram_of c) site p k ≡ walk c site p k
+pub keeps_walks : (law : WalksGoByPlaces) (site : Site) (c : PfConfig) (p : Packet) (k : Kind) → means (diagram_of c) site p k ≡ walk c site p k
 keeps_walks law site c p k = means_kept law site c p k

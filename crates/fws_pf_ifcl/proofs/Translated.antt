@@ -8,17 +8,18 @@ use Rattle.fws_net.specs.declared.transit.Transit.{Transit}
 use Rattle.fws_net.specs.Conditions.{holds}
 use Rattle.fws_net.specs.Transits.{with_only_tag}
 use Rattle.fws_ifcl.specs.declared.diagram.Act.{Act}
-use Rattle.fws_ifcl.specs.declared.diagram.Act.TheVariants.{Accept, Skip, Src, Dst, OnlyTag}
+use Rattle.fws_ifcl.specs.declared.diagram.Act.TheVariants.{Accept, Skip, OnlyTag}
 use Rattle.fws_ifcl.specs.declared.diagram.Rule.{Rule}
 use Rattle.fws_ifcl.specs.declared.step.ChainEnd.{ChainEnd}
 use Rattle.fws_ifcl.specs.declared.step.ChainEnd.TheVariants.{Accepted}
-use Rattle.fws_draw.specs.Rules.{ruled, always}
+use Rattle.fws_draw.specs.Places.{sight, run, Stands}
+use Rattle.fws_draw.specs.Rules.{ruled, always, guard}
 use Rattle.fws_pf.specs.declared.config.PfConfig.{PfConfig}
 use Rattle.fws_pf.specs.declared.config.PfNat.{PfNat}
 use Rattle.fws_pf.specs.Walk.{tagged, written, translated_by, chosen, rules_walk, behind}
-use Rattle.fws_pf_ifcl.specs.Blocks.{guard, tagging, writing, translating, translation, width_with, translation_width, translation_widths, translations_from}
+use Rattle.fws_pf_ifcl.specs.Blocks.{tagging, writing, translating, translation, width_with, translation_width, translation_widths, translations_from}
+use Rattle.fws_pf_ifcl.proofs.Courses.{Course}
 use Rattle.fws_pf_ifcl.proofs.Lengths.{translation_length}
-use Rattle.fws_pf_ifcl.proofs.Running.{Course, sight, run, Stands, first_part, second_part, moved, behind_first, step, skip, guarded_walk}
 use Rattle.fws_pf_ifcl.proofs.Settling.{settled, left, left_by}
 
 -- What one does
@@ -33,23 +34,22 @@ leaves w filter past t = cond past (Accepted t) (run w filter t)
 
 leave_walk : (outward : Bool) (w : Course New outward) (filter at : ℕ) (past : Bool) (test : List Lit) → Stands w at (ruled test (leaver past filter) ∷ []) → at < filter → (t : Transit)
     → run w at t ≡ cond (holds test (sight w t)) (leaves w filter past t) (run w (at + 1) t)
-leave_walk outward w filter at true test s lt t = step w at test Accept s t
-leave_walk outward w filter at false test s lt t = skip w at test filter s lt t
+leave_walk outward w filter at true test s lt t = w.law.walked s (tt, tt) t
+leave_walk outward w filter at false test s lt t = w.law.walked s (omega (arith, lt), tt) t
 
 -- an end
 write_walk : (outward : Bool) (w : Course New outward) (at : ℕ) (e : End) → Stands w at (always (writing outward e) ∷ []) → (t : Transit)
     → run w at t ≡ run w (at + 1) (written w.p outward e t)
-write_walk true w at e s t = step w at [] (Src e) s t
-write_walk false w at e s t = step w at [] (Dst e) s t
+write_walk true w at e s t = w.law.walked s (tt, tt) t
+write_walk false w at e s t = w.law.walked s (tt, tt) t
 
 -- a tag, and what leaves
 tag_walk : (outward : Bool) (w : Course New outward) (filter at : ℕ) (past : Bool) (tag : Option ℕ) → Stands w at (tagging tag ++ always (leaver past filter) ∷ [])
     → at + length (tagging tag) < filter → (t : Transit) → run w at t ≡ leaves w filter past (tagged tag t)
 tag_walk outward w filter at past None s lt t = leave_walk outward w filter at past [] s (omega (arith, lt)) t
 tag_walk outward w filter at past (Some n) s lt t =
-    let last = always (leaver past filter) in
-    step w at [] (OnlyTag n) (first_part w at (always (OnlyTag n) ∷ []) (last ∷ []) s) t
-    ∙ leave_walk outward w filter (at + 1) past [] (behind_first w at (always (OnlyTag n)) (last ∷ []) s) lt (with_only_tag n t)
+    let both = w.law.parts (at + 1) (always (OnlyTag n) ∷ []) (always (leaver past filter) ∷ []) s refl in
+    w.law.walked both.0 (tt, tt) t ∙ leave_walk outward w filter (at + 1) past [] both.1 lt (with_only_tag n t)
 
 -- the rules that change a packet
 abbrev pub changing_by : Bool → Option End → Option ℕ → List Rule
@@ -65,10 +65,8 @@ change_walk : (outward : Bool) (w : Course New outward) (filter at : ℕ) (past 
     → at + length (changing_by outward to tag) < filter → (t : Transit) → run w at t ≡ leaves w filter past (changed_by w to tag t)
 change_walk outward w filter at past None tag s lt t = tag_walk outward w filter at past tag s lt t
 change_walk outward w filter at past (Some e) tag s lt t =
-    let first = always (writing outward e) in
-    let others = tagging tag ++ always (leaver past filter) ∷ [] in
-    write_walk outward w at e (first_part w at (first ∷ []) others s) t
-    ∙ tag_walk outward w filter (at + 1) past tag (behind_first w at first others s) (omega (arith, lt)) (written w.p outward e t)
+    let both = w.law.parts (at + 1) (always (writing outward e) ∷ []) (tagging tag ++ always (leaver past filter) ∷ []) s refl in
+    write_walk outward w at e both.0 t ∙ tag_walk outward w filter (at + 1) past tag both.1 (omega (arith, lt)) (written w.p outward e t)
 
 -- a translation with changes
 with_changes : (outward : Bool) (w : Course New outward) (filter at : ℕ) (past : Bool) (to : Option End) (tag : Option ℕ) (test : List Lit) (inner : List Rule)
@@ -76,9 +74,10 @@ with_changes : (outward : Bool) (w : Course New outward) (filter at : ℕ) (past
     → (at + 2) + length (changing_by outward to tag) < filter → (t : Transit)
     → run w at t ≡ cond (holds test (sight w t)) (leaves w filter past (changed_by w to tag t)) (run w (at + (2 + length inner)) t)
 with_changes outward w filter at past to tag test inner is s lt t =
-    let inside : Stands w (at + 2) inner = second_part w at (guard at test (length inner)) inner s in
-    guarded_walk w at test inner s t (leaves w filter past (changed_by w to tag t))
-    (change_walk outward w filter (at + 2) past to tag (subst (Stands w (at + 2)) is inside) lt t)
+    let parts = w.law.parts (at + 2) (guard at test (length inner)) inner s refl in
+    w.law.walked parts.0 (omega arith, (omega arith, tt)) t
+    ∙ ap (λ end. cond (holds test (sight w t)) end (run w (at + (2 + length inner)) t))
+    (change_walk outward w filter (at + 2) past to tag (subst (Stands w (at + 2)) is parts.1) lt t)
 
 -- a translation, by what it changes
 translating_walk : (outward : Bool) (w : Course New outward) (filter at : ℕ) (past : Bool) (to : Option End) (tag : Option ℕ) (test : List Lit)
@@ -119,11 +118,11 @@ module _ (outward : Bool) (w : Course New outward) (c : PfConfig) (filter : ℕ)
       let here = translation outward filter at nat in
       let more = translations_from outward filter next nats in
       let many : length here ≡ translation_width outward nat = translation_length outward filter at nat in
-      let rest : Stands w next more = moved w (at + length here) next more (second_part w at here more s) (omega (arith, many)) in
+      let parts = w.law.parts next here more s (omega (arith, many)) in
       let b = holds nat.cond (sight w t) in
       let after = translated_by w.p outward nat t in
-      ap left (translating_walk outward w filter at nat.past nat.to nat.tag nat.cond (first_part w at here more s) (omega (arith, wide)) t)
+      ap left (translating_walk outward w filter at nat.past nat.to nat.tag nat.cond parts.0 (omega (arith, wide)) t)
       ∙ left_by b (leaves w filter nat.past after) (run w next t)
       ∙ ap (λ end. cond b end (left (run w next t))) (left_behind nat.past after)
-      ∙ ap (cond b (settled (behind c w.site w.p outward (Some nat) t))) (translations_walk next nats rest (omega (arith, wide)) t)
+      ∙ ap (cond b (settled (behind c w.site w.p outward (Some nat) t))) (translations_walk next nats parts.1 (omega (arith, wide)) t)
       ∙ first_or_later b nat (chosen w.site outward nats t) t

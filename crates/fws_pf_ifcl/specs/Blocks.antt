@@ -6,19 +6,10 @@ use Rattle.fws_net.specs.declared.outcome.End.{End}
 use Rattle.fws_ifcl.specs.declared.diagram.Act.{Act}
 use Rattle.fws_ifcl.specs.declared.diagram.Act.TheVariants.{Accept, Drop, Hold, Skip, Src, Dst, OnlyTag}
 use Rattle.fws_ifcl.specs.declared.diagram.Rule.{Rule}
-use Rattle.fws_draw.specs.Rules.{ruled, always}
+use Rattle.fws_draw.specs.Rules.{ruled, always, guarded}
 use Rattle.fws_pf.specs.declared.config.PfNat.{PfNat}
 use Rattle.fws_pf.specs.declared.config.PfRule.{PfRule}
 use Rattle.fws_pf.specs.Walk.{is_met}
-
--- rules of which the first has the place at, ahead of so many inner ones: where the condition holds the walk comes to those,
--- else it goes on behind them
-abbrev pub guard : ℕ → List Lit → ℕ → List Rule
-guard at cond inner = ruled cond (Skip (at + 2)) ∷ always (Skip (at + (2 + inner))) ∷ []
-
--- the inner rules, met where the condition holds
-abbrev pub guarded : ℕ → List Lit → List Rule → List Rule
-guarded at cond inner = guard at cond (length inner) ++ inner
 
 -- a tag becomes the only one
 abbrev pub tagging : Option ℕ → List Rule

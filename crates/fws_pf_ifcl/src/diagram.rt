@@ -9,10 +9,11 @@ ghost use Rattle.fws_ifcl.specs.Walk.{means};
 ghost use Rattle.fws_pf.specs.Walk.{translations, walk};
 ghost use Rattle.fws_pf_ifcl.specs.Diagram.{chains_of, diagram_of, filter_place, pass_rules, pass_stage, skipping, tracking};
 
-use crate::blocks::sum;
 use crate::filter::put_filter;
 use crate::translating::{put_translations, translation_widths};
-use fws_draw::{ruled_by, skips_go_on};
+use fws_draw::{
+    ruled_by, rules_are_right_by_parts, straight_diagrams_unfold, sum, walks_go_by_places,
+};
 use fws_ifcl::{Act, Chain, Ifcl, Rule, Stage};
 use fws_net::{Site, Test};
 use fws_num::{Items, Memory, Text};
@@ -138,7 +139,9 @@ pub fn to_ifcl(alloc: Global, c: &PfConfig, site: &Site) -> Result<Ifcl, Memory>
     ensures means { IfOk result (λ d. (p : Packet) (k : Kind) → means d site.now p k ≡ walk c.now site.now p k) }
     ensures unfolds { IfOk result (λ d. refusal_of d ≡ None) }
 {
-    skips_go_on();
+    walks_go_by_places();
+    rules_are_right_by_parts();
+    straight_diagrams_unfold();
     let d = drawn(alloc, c)?;
     Ok(d)
 }

@@ -3,9 +3,8 @@
 ghost use Rattle.std.specs.Prelude.{◌≡◌, ◌++◌, length, OnOk};
 ghost use Rattle.fws_pf_ifcl.specs.Blocks.{filter_from, filter_rule, holding, met_rule, met_rules, passing_at_once};
 
-use crate::blocks::{put_always, put_guard};
 use crate::tail::{is_met, put_tail, tail_place};
-use fws_draw::put_rule;
+use fws_draw::{put_always, put_guard, put_rule};
 use fws_ifcl::{Act, Rule};
 use fws_net::Cond;
 use fws_num::Memory;

@@ -1,7 +1,6 @@
 //! The control diagram of a pf configuration.
 #![tactic(auto)]
 
-mod blocks;
 mod diagram;
 mod filter;
 mod tail;

@@ -1,10 +1,9 @@
 //! The rules to which translations are unfolded.
 
 ghost use Rattle.std.specs.Prelude.{◌≡◌, ◌+◌, ◌≤◌, ◌++◌, Bool, length, IfOk, OnOk};
-ghost use Rattle.fws_pf_ifcl.specs.Blocks.{changing, leaving, translation, translation_width, translation_widths, translations_from, writing};
+ghost use Rattle.fws_pf_ifcl.specs.Blocks.{changing, leaving, tagging, translation, translation_width, translation_widths, translations_from, writing};
 
-use crate::blocks::{put_always, put_guard, put_tagging, sum};
-use fws_draw::{place_behind, put_rule};
+use fws_draw::{place_behind, put_always, put_guard, put_rule, sum};
 use fws_ifcl::{Act, Rule};
 use fws_net::End;
 use fws_num::Memory;
@@ -19,6 +18,17 @@ fn writing(outward: bool, end: End) -> Act
         Act::Src(end)
     } else {
         Act::Dst(end)
+    }
+}
+
+/// Puts the rule behind the others that makes a tag the only one, if there is a tag. An error is want of
+/// memory.
+fn put_tagging(alloc: Global, rules: &mut Vec<Rule>, tag: Option<u32>) -> Result<(), Memory>
+    ensures { OnOk result (rules.new.items ≡ rules.old.items ++ tagging tag) }
+{
+    match tag {
+        Some(n) => put_always(alloc, rules, Act::OnlyTag(n)),
+        None => Ok(()),
     }
 }
 

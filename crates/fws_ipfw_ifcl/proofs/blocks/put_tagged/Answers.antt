@@ -1,4 +1,4 @@
-use Rattle.std.proofs.Common.{◌≡◌, ◌+◌, ◌++◌, length, ap, ◌∙◌}
+use Rattle.std.proofs.Common.{◌+◌, ◌++◌, length, ap, ◌∙◌}
 use Rattle.fws_ipfw_ifcl.specs.Blocks.{acting}
 use Rattle.fws_ipfw_ifcl.proofs.Putting.{tagged_put}
 use Rattle.fws_ipfw_ifcl.proofs.blocks.put_tagged.Goals as goal

@@ -1,5 +1,5 @@
-use Rattle.std.proofs.Common.{◌≡◌, ◌≤◌, ◌++◌, length, drop, slice_index}
-use Rattle.fws_ipfw_ifcl.specs.Blocks.{starts_from, blocks}
+use Rattle.std.proofs.Common.{◌≡◌, ◌≤◌, ◌++◌, length, slice_index}
+use Rattle.fws_ipfw_ifcl.specs.Blocks.{starts_from}
 use Rattle.fws_ipfw_ifcl.specs.Diagram.{half, half_place, second_place, ending_place}
 use Rattle.fws_ipfw_ifcl.proofs.Places.{Left}
 use Rattle.fws_ipfw_ifcl.proofs.diagram.put_half.Given as goal

@@ -1,7 +1,7 @@
-use Rattle.std.proofs.Common.{rules, ◌≡◌, ◌≤◌, nat_lt, arith}
+use Rattle.std.proofs.Common.{rules, nat_lt, arith}
 use Rattle.std.proofs.lemmas.Bool.{ltb-true, ltb-false}
 use Rattle.std.proofs.lemmas.List.Sorted.{IsPartitionedBy-ltb, IsPartitionPoint-from_clause}
-use Rattle.std.specs.List.Sorted.{IsPartitionedBy, IsPartitionPoint}
+use Rattle.std.specs.List.Sorted.{IsPartitionedBy}
 use Rattle.fws_ipfw.specs.declared.config.IpfwRule.{IpfwRule}
 use Rattle.fws_ipfw_ifcl.proofs.layout.count_below.Goals as goal
 

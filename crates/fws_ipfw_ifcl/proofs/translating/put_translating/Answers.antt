@@ -1,5 +1,4 @@
-use Rattle.std.proofs.Common.{rules, ◌≡◌, ◌+◌, ◌++◌, length, arith}
-use Rattle.fws_ipfw_ifcl.specs.Translating.{by_trial, redirecting_width}
+use Rattle.std.proofs.Common.{rules}
 use Rattle.fws_ipfw_ifcl.proofs.Putting.{translating_put}
 use Rattle.fws_ipfw_ifcl.proofs.translating.put_translating.Goals as goal
 

@@ -11,7 +11,7 @@ pub returns-clause-ok : goal.returns-clause-ok
 returns-clause-ok c =
     let f = c.args.c.now in
     let site = c.args.site.now in
-    subst (λ d. is_fitting f ≡ true → ifcl_ok d ≡ true) (sym c.in_ok-d.ensures) (diagram_ok site f)
+    subst (λ d. is_fitting f ≡ true → ifcl_ok d ≡ true) (sym c.in_ok-d.ensures) (diagram_ok c.rules_are_right_by_parts.ensures site f)
 
 pub returns-clause-means : goal.returns-clause-means
 returns-clause-means c =
