@@ -1,0 +1,11 @@
+pub mod AlikeWalks
+pub mod Applied
+pub mod Defined
+pub mod Entries
+pub mod Kept
+pub mod Lists
+pub mod Outcomes
+pub mod Regular
+pub mod Texts
+pub mod Translations
+pub mod Written
