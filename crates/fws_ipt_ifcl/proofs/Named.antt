@@ -1,6 +1,6 @@
 -- The chains that the diagram's rules name, and that its numbers are right.
-use Rattle.std.proofs.Common.{◌≡◌, ℕ, suc, ◌+◌, ◌<◌, ◌≤◌, Bool, true, false, ◌&&◌, nat_lt, nat_le, slice_get, Option, Some, None, is_none, option_map, List, [], ◌∷◌, ◌++◌, length, map, arith, refl, sym, ap, ◌∙◌, subst, append_assoc, length-append}
-use Rattle.std.proofs.lemmas.Bool.{false≢true, and_parts, and_from, lt-ltb, le-leb}
+use Rattle.std.proofs.Common.{◌≡◌, ℕ, suc, ◌+◌, ◌<◌, ◌≤◌, Bool, true, false, ◌&&◌, nat_lt, slice_get, Option, Some, None, is_none, option_map, List, [], ◌∷◌, ◌++◌, length, map, arith, refl, sym, ap, ◌∙◌, subst, append_assoc, length-append}
+use Rattle.std.proofs.lemmas.Bool.{false≢true, and_parts, and_from, lt-ltb}
 use Rattle.std.proofs.lemmas.List.{length-map}
 use Rattle.std.proofs.lemmas.List.Sums.{sum_by-cons}
 use Rattle.std.proofs.lemmas.List.Folds.{list_all-append}
@@ -11,7 +11,7 @@ use Rattle.fws_net.specs.declared.condition.Lit.{Lit}
 use Rattle.fws_net.specs.declared.condition.Test.TheVariants.{Xmit, Outward}
 use Rattle.fws_net.specs.declared.site.Site.{Site}
 use Rattle.fws_ifcl.specs.declared.diagram.Act.{Act}
-use Rattle.fws_ifcl.specs.declared.diagram.Act.TheVariants.{Accept, Skip, Src, Dst}
+use Rattle.fws_ifcl.specs.declared.diagram.Act.TheVariants.{Accept, Src, Dst}
 use Rattle.fws_ifcl.specs.declared.diagram.Chain.{Chain}
 use Rattle.fws_ifcl.specs.declared.diagram.Rule.{Rule}
 use Rattle.fws_ifcl.specs.Refusals.{named_by as called_by, all_named as all_called, named_in as called_in}

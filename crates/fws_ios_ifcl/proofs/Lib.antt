@@ -1,0 +1,8 @@
+mod Applied
+mod Chosen
+mod Holding
+mod Listed
+mod Named
+mod Numbered
+mod Passing
+mod Translated

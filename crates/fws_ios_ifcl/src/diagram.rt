@@ -1,0 +1,177 @@
+//! The diagram of a configuration.
+
+ghost use Rattle.std.specs.Prelude.{◌≡◌, ◌++◌, ◌∷◌, [], None, true, IfOk, OnOk};
+ghost use Rattle.fws_net.specs.declared.connection.Kind.{Kind};
+ghost use Rattle.fws_net.specs.declared.packet.Packet.{Packet};
+ghost use Rattle.fws_ifcl.specs.Refusals.{refusal_of};
+ghost use Rattle.fws_ifcl.specs.Soundness.{ifcl_ok};
+ghost use Rattle.fws_ifcl.specs.Walk.{means};
+ghost use Rattle.fws_draw.specs.Rules.{ruled};
+ghost use Rattle.fws_ios.specs.Walk.{walk};
+ghost use Rattle.fws_ios_ifcl.specs.Diagram.{chains_of, destination_rules, diagram_of, kept_destinations, kept_sources, list_rules, source_rules, stage_of};
+
+use crate::applying::put_all_applied;
+use crate::choosing::put_all_choosing;
+use crate::names::Lists;
+use crate::statics::put_statics;
+use fws_draw::{ruled_by, rules_are_right_by_parts, straight_diagrams_unfold, walks_go_by_places};
+use fws_ifcl::{Act, Chain, Ifcl, Rule, Stage};
+use fws_ios::IosConfig;
+use fws_net::{Lit, Site, Test};
+use fws_num::{Items, Memory, Text};
+use fws_rule::{negative, positive};
+use std::alloc::Global;
+
+/// Puts a rule behind the others that acts where the literal holds. An error is want of memory.
+fn put_where(alloc: Global, rules: &mut Vec<Rule>, lit: Lit, act: Act) -> Result<(), Memory>
+    ensures { OnOk result (rules.new.items ≡ rules.old.items ++ ruled (lit ∷ []) act ∷ []) }
+{
+    let rule = ruled_by(alloc, lit, act)?;
+    rules.push(rule)?;
+    Ok(())
+}
+
+/// The rules of the lists that are applied in a direction. An error is want of memory.
+fn list_rules(
+    alloc: Global,
+    outward: bool,
+    lists: &Lists,
+    c: &IosConfig,
+) -> Result<Vec<Rule>, Memory>
+    requires { lists.now ≡ c.now.lists }
+    ensures { IfOk result (λ rules. rules.items ≡ list_rules outward c.now) }
+{
+    let mut rules = Vec::new(alloc);
+    put_all_applied(alloc, &mut rules, outward, lists, c.groups.as_slice())?;
+    Ok(rules)
+}
+
+/// The rules of packets that keep their destinations, or have that of their connection. An error is want of memory.
+fn kept_destinations(alloc: Global, c: &IosConfig) -> Result<Vec<Rule>, Memory>
+    ensures { IfOk result (λ rules. rules.items ≡ kept_destinations c.now) }
+{
+    let outside = c.outside.copy(alloc)?;
+    let mut rules = Vec::new(alloc);
+    put_where(alloc, &mut rules, positive(Test::Est), Act::RecDst)?;
+    put_where(alloc, &mut rules, positive(Test::Est), Act::Accept)?;
+    put_where(
+        alloc,
+        &mut rules,
+        negative(Test::Recv(outside)),
+        Act::Accept,
+    )?;
+    Ok(rules)
+}
+
+/// The rules that translate destinations. An error is want of memory.
+fn destination_rules(alloc: Global, c: &IosConfig) -> Result<Vec<Rule>, Memory>
+    ensures { IfOk result (λ rules. rules.items ≡ destination_rules c.now) }
+{
+    let mut rules = kept_destinations(alloc, c)?;
+    put_statics(alloc, &mut rules, false, c.nats.as_slice())?;
+    Ok(rules)
+}
+
+/// The rules of packets that keep their sources, or have that of their connection. An error is want of memory.
+fn kept_sources(alloc: Global, c: &IosConfig) -> Result<Vec<Rule>, Memory>
+    ensures { IfOk result (λ rules. rules.items ≡ kept_sources c.now) }
+{
+    let inside = c.inside.copy(alloc)?;
+    let outside = c.outside.copy(alloc)?;
+    let mut rules = Vec::new(alloc);
+    put_where(alloc, &mut rules, positive(Test::Est), Act::RecSrc)?;
+    put_where(alloc, &mut rules, positive(Test::Est), Act::Accept)?;
+    put_where(alloc, &mut rules, negative(Test::Recv(inside)), Act::Accept)?;
+    put_where(
+        alloc,
+        &mut rules,
+        negative(Test::Xmit(outside)),
+        Act::Accept,
+    )?;
+    Ok(rules)
+}
+
+/// The rules that translate sources, by statics first and by lists then. An error is want of memory.
+fn source_rules(alloc: Global, lists: &Lists, c: &IosConfig) -> Result<Vec<Rule>, Memory>
+    requires { lists.now ≡ c.now.lists }
+    ensures { IfOk result (λ rules. rules.items ≡ source_rules c.now) }
+{
+    let nats = c.nats.as_slice();
+    let mut rules = kept_sources(alloc, c)?;
+    put_statics(alloc, &mut rules, true, nats)?;
+    put_all_choosing(alloc, &mut rules, lists, nats)?;
+    Ok(rules)
+}
+
+/// The chain of these rules. An error is want of memory.
+fn chain(alloc: Global, name: &[u8], rules: Vec<Rule>) -> Result<Chain, Memory>
+    ensures { IfOk result (λ chain. chain ≡ record { name = name.now; rules = rules.items }) }
+{
+    Ok(Chain {
+        name: Text::of(alloc, name)?,
+        rules: Items::from_vec(rules),
+    })
+}
+
+/// The chains: lists as packets come in, destinations, sources, and lists as packets go out. An error is want of memory.
+fn chains_of(alloc: Global, c: &IosConfig) -> Result<Items<Chain>, Memory>
+    ensures { IfOk result (λ chains. chains ≡ chains_of c.now) }
+{
+    let lists = Lists::of(alloc, c.lists.as_slice())?;
+    let mut chains = Items::new(alloc);
+    chains.put(chain(alloc, b"in", list_rules(alloc, false, &lists, c)?)?)?;
+    chains.put(chain(alloc, b"destination", destination_rules(alloc, c)?)?)?;
+    chains.put(chain(alloc, b"source", source_rules(alloc, &lists, c)?)?)?;
+    chains.put(chain(alloc, b"out", list_rules(alloc, true, &lists, c)?)?)?;
+    Ok(chains)
+}
+
+/// The stage of a chain, on the side of packets that come in or that go out.
+fn stage_of(outward: bool, chain: u32) -> Stage
+    ensures { result ≡ stage_of outward chain }
+{
+    Stage {
+        chain,
+        shows_recv: true,
+        shows_xmit: outward,
+        outward,
+        end: true,
+    }
+}
+
+/// The diagram, put together from its chains and stages. An error is want of memory.
+fn drawn(alloc: Global, c: &IosConfig) -> Result<Ifcl, Memory>
+    ensures { IfOk result (λ d. d ≡ diagram_of c.now) }
+{
+    let mut arrive = Items::new(alloc);
+    arrive.put(stage_of(false, 0))?;
+    arrive.put(stage_of(false, 1))?;
+    let mut forward = Items::new(alloc);
+    forward.put(stage_of(true, 2))?;
+    forward.put(stage_of(true, 3))?;
+    Ok(Ifcl {
+        chains: chains_of(alloc, c)?,
+        arrive,
+        deliver: Items::new(alloc),
+        forward,
+        send: Items::new(alloc),
+    })
+}
+
+/// The control diagram of a configuration. On every site it does with each packet what the configuration does, new or of a
+/// connection, and it can be unfolded. One chain has the lists that are applied to packets that come in, one translates
+/// destinations, one sources, and one has the lists of packets that go out. An error is want of memory, or of numbers for
+/// rules. Linear in the entries of the lists that are applied, each time that they are, in the translations, and in the entries
+/// of the lists that these ask.
+pub fn to_ifcl(alloc: Global, c: &IosConfig, site: &Site) -> Result<Ifcl, Memory>
+    ensures diagram { IfOk result (λ d. d ≡ diagram_of c.now) }
+    ensures ok { IfOk result (λ d. ifcl_ok d ≡ true) }
+    ensures means { IfOk result (λ d. (p : Packet) (k : Kind) → means d site.now p k ≡ walk c.now site.now p k) }
+    ensures unfolds { IfOk result (λ d. refusal_of d ≡ None) }
+{
+    walks_go_by_places();
+    rules_are_right_by_parts();
+    straight_diagrams_unfold();
+    let d = drawn(alloc, c)?;
+    Ok(d)
+}

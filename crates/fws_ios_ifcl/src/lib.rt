@@ -1,0 +1,11 @@
+//! The control diagram of a Cisco IOS configuration.
+#![tactic(auto)]
+
+mod applying;
+mod choosing;
+mod diagram;
+mod listing;
+mod names;
+mod statics;
+
+pub use diagram::to_ifcl;
