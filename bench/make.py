@@ -1,7 +1,7 @@
 """python3 make.py N FAMILY [LANG]
 
-Writes a file of a family in the language LANG, which is `iptables` where it lacks, `ipfw` or `pf`; the same one each time. Of
-these, N is the number of rules of the chain FORWARD:
+Writes a file of a family in the language LANG, which is `iptables` where it lacks, `ipfw`, `pf` or `ios`; the same one each
+time. Of these, N is the number of rules of the chain FORWARD:
 
 overlapping: sources and destinations are drawn from 64 networks, so that rules overlap.
 apart: each rule has a source and a destination of its own.
@@ -36,6 +36,13 @@ This one is written in iptables and pf, with the same table; in iptables INPUT, 
 decided: N rules that pass or block packets of a source and a destination drawn from the 64 networks, or some of the two, of
 TCP at a port or of any protocol; about half of them are quick. In iptables the quick ones stand first, in their order, and
 the others behind them, the last one first.
+
+These are written in iptables and Cisco IOS, with the same table; in iptables the lists are chains that mangle PREROUTING calls
+for what comes in by an interface, and FORWARD for what goes out by one:
+
+applied: one list of N entries, which permit or deny as those of decided do; it is applied to what comes in by wan.
+bordered: each of the 62 interfaces of make_site.py has a list of N entries for what comes in, by sources of their own, and
+another one for what goes out, by destinations of their own.
 
 And this one in ipfw alone:
 
@@ -294,6 +301,79 @@ def decided_pf(rng, count):
     return [rule(*found) for found in decisions(rng, count)]
 
 
+# Files with the same rules in iptables and Cisco IOS
+
+FACES = 62
+
+
+def iptables_entry(permits, source, destination, port):
+    tests = ['-s ' + source] if source else []
+    tests += ['-d ' + destination] if destination else []
+    tests += ['-p tcp -m tcp --dport %d' % port] if port is not None else []
+    return ' '.join(tests + ['-j ' + ('ACCEPT' if permits else 'DROP')])
+
+
+def wildcard(network):
+    """A network as Cisco IOS writes it in lists."""
+    address, length = network.split('/')
+    return '%s %s' % (address, quad((1 << 32 - int(length)) - 1))
+
+
+def ios_entry(permits, source, destination, port):
+    words = ['permit' if permits else 'deny', 'ip' if port is None else 'tcp']
+    words += [wildcard(network) if network else 'any' for network in (source, destination)]
+    return ' '.join(words + (['eq %d' % port] if port is not None else []))
+
+
+def chain_of(name, entries):
+    return ['%s %s' % (name, iptables_entry(*entry)) for entry in entries] + [name + ' -j DROP']
+
+
+def list_of(name, entries):
+    return ['ip access-list extended ' + name] + [' ' + ios_entry(*entry) for entry in entries]
+
+
+def applied(rng, count):
+    entries = [found[1:] for found in decisions(rng, count)]
+    return table('mangle', ['PREROUTING ACCEPT', 'EDGE -'], ['PREROUTING -i eth1 -j EDGE'] + chain_of('EDGE', entries))
+
+
+def applied_ios(rng, count):
+    entries = [found[1:] for found in decisions(rng, count)]
+    return ['interface GigabitEthernet0/1', ' ip access-group EDGE in'] + list_of('EDGE', entries)
+
+
+def borders(rng, count):
+    """For each interface its number, and the entries of its two lists."""
+    def drawn():
+        return rng.random() < 0.5, spelled(network_or_host(rng))
+
+    def entry(place):
+        permits, network = drawn()
+        return (permits, network, None, None) if place == 0 else (permits, None, network, None)
+
+    return [(face, [entry(0) for _ in range(count)], [entry(1) for _ in range(count)]) for face in range(FACES)]
+
+
+def bordered(rng, count):
+    drawn = borders(rng, count)
+    arriving = ['PREROUTING -i eth%d -j IN%d' % (face, face) for face, _, _ in drawn]
+    leaving = ['FORWARD -o eth%d -j OUT%d' % (face, face) for face, _, _ in drawn]
+    for face, inward, outward in drawn:
+        arriving += chain_of('IN%d' % face, inward)
+        leaving += chain_of('OUT%d' % face, outward)
+    return (table('mangle', ['PREROUTING ACCEPT'] + ['IN%d -' % face for face, _, _ in drawn], arriving)
+            + table('filter', ['FORWARD ACCEPT'] + ['OUT%d -' % face for face, _, _ in drawn], leaving))
+
+
+def bordered_ios(rng, count):
+    lines = []
+    for face, inward, outward in borders(rng, count):
+        lines += ['interface GigabitEthernet0/%d' % face, ' ip access-group IN%d in' % face, ' ip access-group OUT%d out' % face]
+        lines += list_of('IN%d' % face, inward) + list_of('OUT%d' % face, outward)
+    return lines
+
+
 def expanded_pf(rng, count):
     sources = ' '.join(drawn_addresses(rng, count))
     ports = ', '.join(str(port) for port in rng.sample(range(65536), 500))
@@ -301,9 +381,10 @@ def expanded_pf(rng, count):
 
 
 FILES = {
-    'iptables': {family.__name__: family for family in (called, shared, rewritten, services, unfolded, marked, crossing, skipping, sources, decided)},
+    'iptables': {family.__name__: family for family in (called, shared, rewritten, services, unfolded, marked, crossing, skipping, sources, decided, applied, bordered)},
     'ipfw': {'skipping': skipping_ipfw, 'sources': sources_ipfw, 'redirected': redirected_ipfw},
     'pf': {'decided': decided_pf, 'expanded': expanded_pf},
+    'ios': {'applied': applied_ios, 'bordered': bordered_ios},
 }
 
 

@@ -1,11 +1,10 @@
 #!/usr/bin/env bash
 # Runs the built programs over growing inputs, and prints a line `family size seconds megabytes counts` for each:
 # filter files of growing length, files with chains of the user's and with rules of nat and mangle, an instance of ipfw with
-# many redirects, the same rules in ipfw or pf and in iptables, lists of pf that stand for many rules, 400 rules at sites
-# of growing size, the writing of these sites by the command site2, texts of up to 4 MiB that are read and not executed,
-# execution alone and that of established packets,
-# trees that are made of rows or recoloured, and diagrams that are unfolded or refused. Exit status 1 where a bound is
-# passed. Build first: ./fws --build
+# many redirects, the same rules in ipfw, pf or Cisco IOS and in iptables, lists of pf that stand for many rules, 400 rules
+# at sites of growing size, the writing of these sites by the command site2, texts of up to 4 MiB that are read and not
+# executed, execution alone and that of established packets, trees that are made of rows or recoloured, and diagrams that
+# are unfolded or refused. Exit status 1 where a bound is passed. Build first: ./fws --build
 set -u
 top=$(cd "$(dirname "$0")/.." && pwd)
 program=$top/crates/fws/out/fws
@@ -59,6 +58,10 @@ python3 "$top/bench/ratio.py" ipfw sources 65534 2 "$program" "$site" || status=
 echo 'family sources seconds megabytes rows'
 rules_in pf expanded 10 400
 python3 "$top/bench/ratio.py" pf decided 4000 4 "$program" "$site" || status=1
+
+python3 "$top/bench/ratio.py" ios applied 4000 2 "$program" "$site" || status=1
+python3 "$top/bench/make_site.py" 256 >"$work/site" || exit 1
+python3 "$top/bench/ratio.py" ios bordered 64 2 "$program" "$work/site" || status=1
 
 echo 'family routes seconds megabytes rows'
 python3 "$top/bench/make.py" 400 routed >"$work/file" || exit 1

@@ -14,7 +14,7 @@ use std::alloc::Global;
 fn closing(language: Language) -> &'static [u8] {
     match language {
         Language::Iptables => b"\nCOMMIT\n",
-        Language::Ipfw | Language::Pf => b"\n",
+        Language::Ipfw | Language::Pf | Language::Ios => b"\n",
     }
 }
 

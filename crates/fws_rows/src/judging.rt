@@ -77,8 +77,8 @@ fn is_refused_so(
     }
 }
 
-/// Whether a configuration is refused for this reason at this chain by the slow model; those of ipfw, which have no
-/// chains, are refused for none.
+/// Whether a configuration is refused for this reason at this chain by the slow model; those of other systems than
+/// iptables, which have no chains, are refused for none.
 fn is_config_refused_so(
     alloc: Global,
     site: &Site,
@@ -93,7 +93,7 @@ fn is_config_refused_so(
             let found = refusal(alloc, site, config)?;
             Ok(is_refused_so(config, found, what, chain))
         }
-        Config::Ipfw(_) | Config::Pf(_) => Ok(what == b"none".as_slice()),
+        Config::Ipfw(_) | Config::Pf(_) | Config::Ios(_) => Ok(what == b"none".as_slice()),
     }
 }
 

@@ -6,6 +6,10 @@ ghost use Rattle.fws_ipfw_ifcl.specs.Fitting.{IsDrawable};
 
 use crate::stop::Stop;
 use fws_ifcl::Ifcl;
+use fws_ios::IosConfig;
+use fws_ios::model::walk_packet as walk_ios;
+use fws_ios_ifcl::to_ifcl as draw_ios;
+use fws_ios_read::read as read_ios;
 use fws_ipfw::IpfwConfig;
 use fws_ipfw::model::walk_packet as walk_ipfw;
 use fws_ipfw_ifcl::{spelled_diagrams, to_ifcl as draw_ipfw};
@@ -30,6 +34,8 @@ pub enum Language {
     Ipfw,
     /// pf of FreeBSD, as pf.conf(5) writes its rules.
     Pf,
+    /// Cisco IOS, as a running configuration writes access lists and NAT.
+    Ios,
 }
 
 /// A configuration of one of the languages.
@@ -41,6 +47,8 @@ pub enum Config {
     Ipfw(IpfwConfig),
     /// Of pf.
     Pf(PfConfig),
+    /// Of Cisco IOS.
+    Ios(IosConfig),
 }
 
 /// A configuration and its control diagram.
@@ -58,6 +66,7 @@ pub fn language_of(word: &[u8]) -> Result<Language, Stop> {
         b"iptables" => Ok(Language::Iptables),
         b"ipfw" => Ok(Language::Ipfw),
         b"pf" => Ok(Language::Pf),
+        b"ios" => Ok(Language::Ios),
         _ => Err(Stop::Malformed),
     }
 }
@@ -92,6 +101,16 @@ fn try_pf(alloc: Global, site: &Site, text: &[u8]) -> Result<(), ReadAnswer>
     }
 }
 
+/// Reads a text of Cisco IOS, and gives how it is refused.
+fn try_ios(alloc: Global, site: &Site, text: &[u8]) -> Result<(), ReadAnswer>
+    requires { IsSound site.now }
+{
+    match read_ios(alloc, text, site) {
+        Ok(_) => Ok(()),
+        Err(answer) => Err(answer),
+    }
+}
+
 impl Language {
     /// Reads a text, and gives how it is refused.
     pub fn try_text(self, alloc: Global, site: &Site, text: &[u8]) -> Result<(), ReadAnswer>
@@ -101,6 +120,7 @@ impl Language {
             Language::Iptables => try_ipt(alloc, site, text),
             Language::Ipfw => try_ipfw(alloc, site, text),
             Language::Pf => try_pf(alloc, site, text),
+            Language::Ios => try_ios(alloc, site, text),
         }
     }
 
@@ -112,6 +132,7 @@ impl Language {
             Language::Iptables => drawn_ipt(alloc, site, text),
             Language::Ipfw => drawn_ipfw(alloc, site, text),
             Language::Pf => drawn_pf(alloc, site, text),
+            Language::Ios => drawn_ios(alloc, site, text),
         }
     }
 }
@@ -168,6 +189,20 @@ fn drawn_pf(alloc: Global, site: &Site, text: &[u8]) -> Result<Drawn, Stop>
     })
 }
 
+/// The configuration of a text of Cisco IOS, with its diagram.
+fn drawn_ios(alloc: Global, site: &Site, text: &[u8]) -> Result<Drawn, Stop>
+    requires { IsSound site.now }
+{
+    let Ok(config) = read_ios(alloc, text, site) else {
+        return Err(Stop::Malformed);
+    };
+    let diagram = draw_ios(alloc, &config, site)?;
+    Ok(Drawn {
+        config: Config::Ios(config),
+        diagram,
+    })
+}
+
 /// What a configuration makes of a packet of a class, by the slow model.
 pub fn walk_config(
     alloc: Global,
@@ -182,5 +217,6 @@ pub fn walk_config(
         Config::Iptables(config) => Ok(walk_ipt(alloc, config, site, packet, kind)?),
         Config::Ipfw(config) => Ok(walk_ipfw(alloc, config, site, packet, kind)?),
         Config::Pf(config) => Ok(walk_pf(alloc, config, site, packet, kind)?),
+        Config::Ios(config) => Ok(walk_ios(alloc, config, site, packet, kind)?),
     }
 }

@@ -8,7 +8,7 @@ use Rattle.fws_top.specs.Asks.{are_asks, are_shown}
 use Rattle.fws_top.specs.declared.form.Form.{Form}
 use Rattle.fws_top.specs.declared.form.Form.TheVariants.{Unknown, Help, Version, Synth, Query, Trace, SecondForm}
 use Rattle.fws_top.specs.declared.lang.SourceLang.{SourceLang}
-use Rattle.fws_top.specs.declared.lang.SourceLang.TheVariants.{Iptables, Ipfw, Pf}
+use Rattle.fws_top.specs.declared.lang.SourceLang.TheVariants.{Iptables, Ipfw, Pf, Ios}
 
 -- What the words ask for, each file by its name
 
@@ -30,6 +30,7 @@ lang_of word =
     if bytes_eq word (codes "iptables") then Some Iptables
     else if bytes_eq word (codes "ipfw") then Some Ipfw
     else if bytes_eq word (codes "pf") then Some Pf
+    else if bytes_eq word (codes "ios") then Some Ios
     else None
 
 -- which packets a table is about

@@ -6,6 +6,9 @@ use Rattle.fws_ifcl.specs.declared.diagram.Ifcl.{Ifcl}
 use Rattle.fws_ifcl.specs.declared.refusal.UnfoldRefusal.{UnfoldRefusal}
 use Rattle.fws_ifcl.specs.declared.refusal.UnfoldRefusal.TheVariants.{Loop, Deep, Long}
 use Rattle.fws_ifcl.specs.Refusals.{refusal_of}
+use Rattle.fws_ios.specs.declared.config.IosConfig.{IosConfig}
+use Rattle.fws_ios.specs.FileText.{spelled as ios_spelled}
+use Rattle.fws_ios.specs.Walk.{walk as ios_walk}
 use Rattle.fws_ipfw.specs.declared.config.IpfwConfig.{IpfwConfig}
 use Rattle.fws_ipfw.specs.FileText.{spelled as ipfw_spelled}
 use Rattle.fws_ipfw.specs.Walk.{walk as ipfw_walk}
@@ -26,7 +29,7 @@ use Rattle.fws_pf.specs.declared.config.PfConfig.{PfConfig}
 use Rattle.fws_pf.specs.FileText.{spelled as pf_spelled}
 use Rattle.fws_pf.specs.Walk.{walk as pf_walk}
 use Rattle.fws_top.specs.declared.lang.SourceLang.{SourceLang}
-use Rattle.fws_top.specs.declared.lang.SourceLang.TheVariants.{Iptables, Ipfw, Pf}
+use Rattle.fws_top.specs.declared.lang.SourceLang.TheVariants.{Iptables, Ipfw, Pf, Ios}
 use Rattle.fws_top.specs.Lines.{line_words, loop_words, deep_words, long_words, cause_text}
 
 -- Refusals for the chains
@@ -79,6 +82,10 @@ ipfw_refusal site c = None
 abbrev pub pf_refusal : Site → PfConfig → Option ChainRefusal
 pf_refusal site c = None
 
+-- nor one of Cisco IOS
+abbrev pub ios_refusal : Site → IosConfig → Option ChainRefusal
+ios_refusal site c = None
+
 -- Judging
 
 -- a packet of the site: it comes from the host, loopback or an interface
@@ -109,3 +116,4 @@ abbrev pub judge : SourceLang → Site → List ℕ → Judged
 judge Iptables site text = judged_by (ipt_refusal site) (λ config. ipt_walk config site) (ipt_spelled site text)
 judge Ipfw site text = judged_by (ipfw_refusal site) (λ config. ipfw_walk config site) (ipfw_spelled site text)
 judge Pf site text = judged_by (pf_refusal site) (λ config. pf_walk config site) (pf_spelled site text)
+judge Ios site text = judged_by (ios_refusal site) (λ config. ios_walk config site) (ios_spelled site text)

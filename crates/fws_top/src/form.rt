@@ -45,6 +45,8 @@ fn read_lang(word: &Text) -> Option<SourceLang>
         Some(SourceLang::Ipfw)
     } else if is(word, b"pf") {
         Some(SourceLang::Pf)
+    } else if is(word, b"ios") {
+        Some(SourceLang::Ios)
     } else {
         None
     }

@@ -9,4 +9,6 @@ pub enum SourceLang {
     Ipfw,
     /// pf of FreeBSD, as pf.conf(5) writes its rules.
     Pf,
+    /// Cisco IOS, as a running configuration writes access lists and NAT.
+    Ios,
 }

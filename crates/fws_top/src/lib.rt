@@ -7,6 +7,7 @@ mod ask;
 mod ask_set;
 mod commands;
 mod form;
+mod ios;
 mod ipfw;
 mod iptables;
 mod lang;
@@ -22,6 +23,7 @@ mod tables;
 mod tests;
 mod texts;
 
+pub use ios::Ios;
 pub use ipfw::Ipfw;
 pub use iptables::Iptables;
 pub use lang::SourceLang;

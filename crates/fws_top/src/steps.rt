@@ -13,6 +13,7 @@ ghost use Rattle.fws_trace.specs.PacketText.{packets_of, IsOfSite};
 
 use crate::answer::{Answer, Stop, refused, refused_for_line, said};
 use crate::ask::are_known;
+use crate::ios::Ios;
 use crate::ipfw::Ipfw;
 use crate::iptables::Iptables;
 use crate::lang::SourceLang;
@@ -99,6 +100,7 @@ fn judge_source(
         SourceLang::Iptables => take_policy::<Iptables>(alloc, site, name, bytes),
         SourceLang::Ipfw => take_policy::<Ipfw>(alloc, site, name, bytes),
         SourceLang::Pf => take_policy::<Pf>(alloc, site, name, bytes),
+        SourceLang::Ios => take_policy::<Ios>(alloc, site, name, bytes),
     }
 }
 

@@ -29,6 +29,16 @@ const PASSING: &[u8] = b"add 100 allow ip from any to any\n";
 /// A pf rule that passes everything.
 const PASSED: &[u8] = b"pass flags any\n";
 
+/// A Cisco IOS list with a wildcard that isn't zeros followed by ones, on its second line.
+const SCATTERED: &[u8] = b"hostname R1\naccess-list 101 permit tcp any 10.0.0.0 0.0.255.0\n";
+
+/// A Cisco IOS list that is met by nothing.
+const LISTED: &[u8] = b"access-list 101 deny ip any any\n";
+
+/// A Cisco IOS router that hands port 80 of its outer address on to a host.
+const HANDED: &[u8] =
+    b"interface GigabitEthernet0/0\n ip nat inside\ninterface GigabitEthernet0/1\n ip nat outside\nip nat inside source static tcp 10.0.0.5 8080 203.0.113.2 80\n";
+
 /// An ipfw rule that goes back.
 const BACKWARD: &[u8] = b"add 200 skipto 200 ip from any to any\n";
 
@@ -63,6 +73,9 @@ fn full_shelf(alloc: Global, fails: Items<u64>) -> Result<MemShelf, Memory> {
     shelf.hold(b"I", PASSING)?;
     shelf.hold(b"B", BACKWARD)?;
     shelf.hold(b"Q", PASSED)?;
+    shelf.hold(b"R", LISTED)?;
+    shelf.hold(b"W", SCATTERED)?;
+    shelf.hold(b"H", HANDED)?;
     shelf.hold(b"C", CONNS)?;
     shelf.hold(b"P", PACKETS)?;
     shelf.hold(b"X", b"no such line\n")?;
@@ -80,7 +93,7 @@ fn told(alloc: Global, line: &str) -> Result<(Status, Text), Memory> {
 
 #[test]
 fn answers(rt: HostRuntime) -> Result<(), Fail> {
-    let table: [(&str, Status, &[u8]); 24] = [
+    let table: [(&str, Status, &[u8]); 29] = [
         ("--version", Status::Ok, b"fws 0.1.0\n"),
         ("--help", Status::Ok, HELP),
         ("--help --help", Status::Usage, USAGE_LINE),
@@ -130,6 +143,31 @@ fn answers(rt: HostRuntime) -> Result<(), Fail> {
             Status::Refused,
             b"refused F line 1 left-out\n",
         ),
+        (
+            "synth ios S R new",
+            Status::Ok,
+            b"table new 1\n* * * * * * * * : accept\n",
+        ),
+        (
+            "synth ios S R est",
+            Status::Ok,
+            b"table est 1\n* * * * * * * * * * * * : accept\n",
+        ),
+        (
+            "query ios S H new entry=wan proto=6 dst=203.0.113.2 dport=80",
+            Status::Ok,
+            b"query new 1\nwan 6 203.0.113.2 80 * * * * : accept dst=10.0.0.5:8080\n",
+        ),
+        (
+            "query ios S H new entry=lan proto=6 dst=198.51.100.9 dport=443 src=10.0.0.5",
+            Status::Ok,
+            b"query new 2\nlan 6 198.51.100.9 443 10.0.0.5 0-8079,8081-65535 * * : accept\nlan 6 198.51.100.9 443 10.0.0.5 8080 * * : accept src=203.0.113.2:80\n",
+        ),
+        (
+            "synth ios S W new",
+            Status::Refused,
+            b"refused W line 2 shape\n",
+        ),
         // what an established packet leaves with isn't asked of new ones
         (
             "query iptables S F new rdst=10.0.0.5",
@@ -137,7 +175,7 @@ fn answers(rt: HostRuntime) -> Result<(), Fail> {
             USAGE_LINE,
         ),
         ("synth iptables S F", Status::Usage, USAGE_LINE),
-        ("synth ios S F new", Status::Usage, USAGE_LINE),
+        ("synth cisco S F new", Status::Usage, USAGE_LINE),
         (
             "synth iptables S F new dst=1.2.3.4",
             Status::Usage,

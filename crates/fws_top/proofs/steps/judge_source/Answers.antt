@@ -18,3 +18,8 @@ pub returns-in-Pf-clause-refused : goal.returns-in-Pf-clause-refused
 returns-in-Pf-clause-refused c =
     subst (λ lang. IfErr c.take_policy-in-Pf.result (EndsIn (judged c.args.name.now (judge lang c.args.site.now c.args.bytes.now))))
     (sym c.in-Pf.is) c.take_policy-in-Pf.ensures.refused
+
+pub returns-in-Ios-clause-refused : goal.returns-in-Ios-clause-refused
+returns-in-Ios-clause-refused c =
+    subst (λ lang. IfErr c.take_policy-in-Ios.result (EndsIn (judged c.args.name.now (judge lang c.args.site.now c.args.bytes.now))))
+    (sym c.in-Ios.is) c.take_policy-in-Ios.ensures.refused
