@@ -1,0 +1,12 @@
+pub mod Answers
+pub mod Clauses
+pub mod Counts
+pub mod FitLaws
+pub mod Fits
+pub mod Found
+pub mod Lost
+pub mod Meaning
+pub mod Pairs
+pub mod Rewritings
+pub mod Seen
+pub mod Sides

@@ -1,0 +1,58 @@
+//! Whether a system can hold tables.
+
+ghost use Rattle.std.specs.Prelude.{◌≡◌, ◌⊎◌, IfOk, OnOk, Err};
+ghost use Rattle.fws_net.specs.declared.packet.Lang.TheVariants as langs;
+ghost use Rattle.fws_net.specs.Routes.{IsSound};
+ghost use Rattle.fws_place.specs.declared.clause.Clause.TheVariants as clauses;
+ghost use Rattle.fws_place.specs.Fits.{Fits, IsBreach};
+ghost use Rattle.fws_place.specs.Found.{IsSought};
+ghost use Rattle.fws_tree.specs.Regular.{AreRegular};
+
+use crate::breach::{Breach, FitAnswer, Pair};
+use crate::clause::{Clause, clauses_of};
+use crate::drops_by_one_view::drops_by_one_view;
+use crate::few_outcomes::few_outcomes;
+use fws_net::{Lang, Site};
+use fws_num::Memory;
+use fws_tree::Tables;
+use std::alloc::Global;
+
+// Packets that break the clause, if there are any.
+fn broken(
+    alloc: Global,
+    clause: Clause,
+    site: &Site,
+    tables: &Tables,
+) -> Result<Option<(Pair, Option<Pair>)>, Memory>
+    requires known { (clause ≡ clauses.FewOutcomes) ⊎ (clause ≡ clauses.DropsByOneView) }
+    requires sound { IsSound site.now }
+    requires regular { AreRegular site.now tables.now }
+    ensures { IfOk result (λ found. IsSought site.now tables.now clause found) }
+{
+    match clause {
+        Clause::FewOutcomes => few_outcomes(alloc, site, tables),
+        Clause::DropsByOneView => drops_by_one_view(alloc, site, tables),
+        _ => unreachable!(),
+    }
+}
+
+/// Whether the system can hold the tables: `Ok` exactly where they meet each of its clauses, and else the first
+/// clause that they don't meet, with packets that show so.
+pub fn check(alloc: Global, target: Lang, tables: &Tables, site: &Site) -> Result<(), FitAnswer>
+    requires iptables { target ≡ langs.Iptables }
+    requires sound { IsSound site.now }
+    requires regular { AreRegular site.now tables.now }
+    ensures fits { OnOk result (Fits target site.now tables.now) }
+    ensures breach { (b : Breach) → result ≡ Err (FitAnswer.Unfit b) → IsBreach target site.now tables.now b }
+{
+    for clause in clauses_of(target) {
+        if let Some((first, second)) = broken(alloc, *clause, site, tables)? {
+            return Err(FitAnswer::Unfit(Breach {
+                clause: *clause,
+                first,
+                second,
+            }));
+        }
+    }
+    Ok(())
+}

@@ -1,0 +1,26 @@
+//! When a system can hold a policy.
+#![tactic(auto)]
+
+mod breach;
+mod checking;
+mod clause;
+mod drops_by_one_view;
+mod few_outcomes;
+mod first_true;
+mod laws;
+mod lost;
+mod naming;
+mod point;
+mod redirect;
+mod seeing;
+
+pub use breach::{Breach, FitAnswer, Pair, PlaceAnswer};
+pub use checking::check;
+pub use clause::{Clause, clauses_of};
+pub use laws::{
+    breaches_refute_fits, fitting_drops_are_seen, fitting_pairs_are_told, lost_pairs_are_dropped,
+    points_are_of_pairs,
+};
+pub use point::{ends_at, packet_at};
+pub use redirect::{PublicEnd, Redirect};
+pub use seeing::{Views, seen};

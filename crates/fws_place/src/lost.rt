@@ -1,0 +1,46 @@
+//! Trees over pairs without those that are lost.
+
+ghost use Rattle.std.specs.Prelude.{◌≡◌, ℕ, false, ◌&&◌, not, nat_eq, List, Some, slice_index, IfOk, if◌then◌else◌};
+ghost use Rattle.fws_box.specs.Sides.{IsWithin, sides_have};
+ghost use Rattle.fws_net.specs.Points.{tops_of};
+ghost use Rattle.fws_net.specs.Routes.{IsSound, is_local};
+ghost use Rattle.fws_place.specs.Lost.{is_lost_at};
+ghost use Rattle.fws_tree.specs.Plain.{value};
+
+use fws_box::whole_sides;
+use fws_iv::{Ivs, one};
+use fws_net::{Site, local_set, tops};
+use fws_num::Memory;
+use fws_tree::Tree;
+use std::alloc::Global;
+
+// The sides of the pairs that arrive for another host.
+fn passing_sides(alloc: Global, site: &Site) -> Result<[Ivs; 12], Memory>
+    requires { IsSound site.now }
+    ensures { IfOk result (λ sides. (p : List ℕ) → IsWithin (tops_of site.now) p → sides_have sides p ≡ (not (nat_eq (slice_index p 0) 0) && not (is_local site.now (slice_index p 8)))) }
+{
+    let tops = tops(site);
+    let mut sides = whole_sides(alloc, &tops)?;
+    sides[0] = one(alloc, 1, tops[0])?;
+    let local = local_set(alloc, site)?;
+    sides[8] = one(alloc, 0, u32::MAX)?.minus(alloc, &local)?;
+    Ok(sides)
+}
+
+/// The tree that is false at lost pairs and this tree elsewhere. An error is want of memory.
+pub(crate) fn without_lost(
+    alloc: Global,
+    site: &Site,
+    tree: Tree<bool>,
+) -> Result<Tree<bool>, Memory>
+    requires sound { IsSound site.now }
+    requires tops { tree.0 ≡ tops_of site.now }
+    ensures tops { IfOk result (λ t. t.0 ≡ tops_of site.now) }
+    ensures value { IfOk result (λ t. (p : List ℕ) → IsWithin (tops_of site.now) p → value t.1 p ≡ (if is_lost_at site.now p then Some false else value tree.1 p)) }
+{
+    if site.forwarding {
+        return Ok(tree);
+    }
+    let sides = passing_sides(alloc, site)?;
+    tree.paint(alloc, &sides, false)
+}

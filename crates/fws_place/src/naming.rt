@@ -1,0 +1,36 @@
+//! Packets and pairs that are named.
+
+ghost use Rattle.std.specs.Prelude.{◌≡◌, IfOk, MatchOption};
+ghost use Rattle.fws_net.specs.Points.{tops_of};
+ghost use Rattle.fws_net.specs.Routes.{IsSound};
+ghost use Rattle.fws_place.specs.Found.{IsNamedPair, IsTrueAtNoPair};
+
+use crate::breach::Pair;
+use crate::first_true::first_true;
+use crate::point::{ends_at, packet_at};
+use fws_net::Site;
+use fws_num::Memory;
+use fws_tree::Tree;
+use std::alloc::Global;
+
+/// A pair at which the tree is true, with no second one. An error is want of memory.
+pub(crate) fn named_pair(
+    alloc: Global,
+    site: &Site,
+    tree: &Tree<bool>,
+) -> Result<Option<(Pair, Option<Pair>)>, Memory>
+    requires sound { IsSound site.now }
+    requires tops { tree.now.0 ≡ tops_of site.now }
+    ensures { IfOk result (λ found. MatchOption found (IsTrueAtNoPair site.now tree.now.1) (IsNamedPair site.now tree.now.1)) }
+{
+    match first_true(alloc, tree)? {
+        Some(point) => {
+            let pair = Pair {
+                packet: packet_at(&point),
+                rec: Some(ends_at(&point)),
+            };
+            Ok(Some((pair, None)))
+        }
+        None => Ok(None),
+    }
+}
