@@ -1,0 +1,10 @@
+pub mod Acts
+pub mod Blocks
+pub mod Branches
+pub mod Comings
+pub mod Conds
+pub mod Pieces
+pub mod Planned
+pub mod Reached
+pub mod Rules
+pub mod Shown

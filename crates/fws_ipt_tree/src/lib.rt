@@ -1,0 +1,18 @@
+//! Decision trees as chains of iptables.
+#![tactic(auto)]
+
+mod coming;
+mod conds;
+mod default;
+mod field;
+mod names;
+mod nodes;
+mod pieces;
+mod plan;
+mod port_lists;
+mod put;
+mod rules;
+mod verdict;
+
+pub use put::put_tree;
+pub use verdict::{Branch, Seen, Verdict};
