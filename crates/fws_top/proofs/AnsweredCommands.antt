@@ -1,5 +1,5 @@
 -- What commands answer where every step gives its value, and where one stops them.
-use Rattle.std.proofs.Common.{◌≡◌, ℕ, true, Option, List, All, refl, sym, subst}
+use Rattle.std.proofs.Common.{◌≡◌, ℕ, true, Option, List, refl, sym, subst}
 use Rattle.fws_flat.specs.declared.code.Flat.{Flat}
 use Rattle.fws_net.specs.declared.connection.Conn.{Conn}
 use Rattle.fws_net.specs.declared.connection.Kind.{Kind}
@@ -15,7 +15,7 @@ use Rattle.fws_top.specs.declared.status.Status.TheVariants as status
 use Rattle.fws_top.specs.Forms.{synth, query, trace, site2}
 use Rattle.fws_top.specs.Plan.{Plan, says, shows, plan_of, site_plan, asks_plan, source_plan, conns_plan, packets_plan}
 use Rattle.fws_top.specs.Stops.{Answered, AsksStopped, Does, GoesOn, IsTakenCode, Stopped, StopsAt}
-use Rattle.fws_top.specs.Tables.{Wanted, IsWanted, IsTable, IsAskedTable, table, asked_table}
+use Rattle.fws_top.specs.Tables.{IsTable, IsAskedTable, table, asked_table}
 use Rattle.fws_top.proofs.Chosen.{asks_on, asks_stopped, gone_on, stopped_behind, stopped_on}
 use Rattle.fws_trace.specs.TraceText.{trace_text}
 

@@ -4,13 +4,12 @@ use Rattle.std.specs.Option.{option_map_or}
 use Rattle.std.specs.Prelude.{slice_get}
 use Rattle.fws_ifcl.specs.declared.diagram.Chain.{Chain}
 use Rattle.fws_ifcl.specs.declared.diagram.Ifcl.{Ifcl}
-use Rattle.fws_ifcl.specs.declared.refusal.UnfoldRefusal.{UnfoldRefusal}
 use Rattle.fws_ifcl.specs.Refusals.{refusal_of}
 use Rattle.fws_ipt.specs.declared.config.IptChain.{IptChain}
 use Rattle.fws_ipt.specs.declared.refusal.UnfoldRefusal.{UnfoldRefusal as IptRefusal}
 use Rattle.fws_ipt.specs.declared.refusal.UnfoldRefusal.TheVariants.{Loop, Deep, Long}
 use Rattle.fws_ipt_ifcl.specs.Kept.{refused_behind}
-use Rattle.fws_top.specs.Judged.{ChainRefusal, loop_at, deep_at, long_at, chain_name, named_refusal, ipt_chain_name, ipt_named_refusal, diagram_refusal}
+use Rattle.fws_top.specs.Judged.{loop_at, deep_at, long_at, chain_name, named_refusal, ipt_chain_name, ipt_named_refusal, diagram_refusal}
 
 -- a list of names: that of a chain, or none
 abbrev or_none : Option (List ℕ) → List ℕ

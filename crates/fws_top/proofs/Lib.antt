@@ -6,3 +6,4 @@ mod Diagrams
 mod Plans
 mod Points
 mod Policies
+mod RegularTables

@@ -2,7 +2,7 @@
 use Rattle.std.proofs.Common.{◌≡◌, ℕ, Option, Some, List, inl, inr, refl, sym, subst}
 use Rattle.fws_top.specs.declared.status.Status.{Status}
 use Rattle.fws_top.specs.declared.status.Status.TheVariants as status
-use Rattle.fws_top.specs.Due.{Due, IsRead, IsReadInTurn, IsTold, CanEnd, IsReadFault, IsDue, IsAnswered, IsFaultless}
+use Rattle.fws_top.specs.Due.{Due, IsReadInTurn, IsTold, CanEnd, IsReadFault, IsDue, IsAnswered, IsFaultless}
 use Rattle.fws_top.specs.Plan.{Plan, says, shows, reads}
 use Rattle.fws_top.specs.Stops.{Answered, FaultSaid}
 

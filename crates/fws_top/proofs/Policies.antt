@@ -9,6 +9,7 @@ use Rattle.fws_net.specs.declared.outcome.Outcome.{Outcome}
 use Rattle.fws_net.specs.declared.packet.Packet.{Packet}
 use Rattle.fws_net.specs.declared.site.Site.{Site}
 use Rattle.fws_net.specs.Reading.{Refusal}
+use Rattle.fws_net.specs.RegularWalks.{IsRegularWalk}
 use Rattle.fws_top.specs.declared.answer.Answer.{Answer}
 use Rattle.fws_top.specs.declared.answer.Stop.{Stop}
 use Rattle.fws_top.specs.declared.answer.Stop.TheVariants.{Due}
@@ -16,7 +17,7 @@ use Rattle.fws_top.specs.declared.status.Status.TheVariants as status
 use Rattle.fws_top.specs.Due.{IsFaultless}
 use Rattle.fws_top.specs.Judged.{ChainRefusal, IsPacketOf, Judged, chain_words, diagram_refusal, judged_by, judged_chains, refused}
 use Rattle.fws_top.specs.Lines.{cause_text, line_words, refused_line}
-use Rattle.fws_top.specs.Plan.{Plan, judged, says}
+use Rattle.fws_top.specs.Plan.{judged, says}
 use Rattle.fws_top.specs.Stops.{EndsIn, IsCode, IsUnfolded}
 
 -- an answer that says why a text is refused
@@ -36,15 +37,17 @@ pub chain_refused : (name : List ℕ) (walk : Packet → Kind → Outcome) (foun
     → found ≡ Some r → a.status ≡ status.Refused → a.text ≡ refused_line name (chain_words r) → EndsIn (judged name (judged_chains found walk)) (Due a)
 chain_refused name walk found r a e s t = says_refused name (chain_words r) (judged_chains found walk) a (ap (λ o. judged_chains o walk) e) s t
 
--- code of a diagram that is a configuration's
+-- code of a diagram that is a configuration's, whose walk is regular
 pub policy_code : {C : Type 0} → (name : List ℕ) (site : Site) (refusal : C → Option ChainRefusal) (walk : C → Packet → Kind → Outcome) (read : Result C (Refusal Cause)) (config : C) (d : Ifcl) (flat : Flat)
+    → IsRegularWalk site (walk config)
     → read ≡ Ok config → diagram_refusal d ≡ refusal config → (refusal config ≡ None → (p : Packet) (k : Kind) → IsPacketOf site p → diagram_means d site p k ≡ walk config p k)
     → IsUnfolded d flat → IsCode (judged name (judged_by refusal walk read)) site flat
-policy_code name site refusal walk read config d flat given same means unfolded =
+policy_code name site refusal walk read config d flat regular given same means unfolded =
     let unrefused : refusal config ≡ None = sym same ∙ unfolded.unrefused in
     record {
       ok = unfolded.ok;
       walk = walk config;
+      regular = regular;
       does = λ p k inside. unfolded.does site p k ∙ means unrefused p k inside;
       chooses = λ next. ap (λ r. judged name (judged_by refusal walk r) next) given ∙ ap (λ o. judged name (judged_chains o (walk config)) next) unrefused;
     }

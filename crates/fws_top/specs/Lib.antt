@@ -4,5 +4,6 @@ pub mod Forms
 pub mod Judged
 pub mod Lines
 pub mod Plan
+pub mod RegularTables
 pub mod Stops
 pub mod Tables

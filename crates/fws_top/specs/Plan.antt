@@ -5,7 +5,6 @@ use Rattle.fws_net.specs.declared.connection.Conn.{Conn}
 use Rattle.fws_net.specs.declared.connection.Kind.{Kind}
 use Rattle.fws_net.specs.declared.outcome.Outcome.{Outcome}
 use Rattle.fws_net.specs.declared.packet.Packet.{Packet}
-use Rattle.fws_net.specs.declared.packet.State.{State}
 use Rattle.fws_net.specs.declared.site.Site.{Site}
 use Rattle.fws_net.specs.Reading.{Refusal}
 use Rattle.fws_net.specs.SiteSpelling.{site2_text}

@@ -10,7 +10,7 @@ use Rattle.fws_net.specs.declared.connection.Kind.{Kind}
 use Rattle.fws_net.specs.declared.outcome.Outcome.{Outcome}
 use Rattle.fws_net.specs.declared.packet.Packet.{Packet}
 use Rattle.fws_net.specs.declared.site.Site.{Site}
-use Rattle.fws_top.specs.declared.answer.Answer.{Answer}
+use Rattle.fws_net.specs.RegularWalks.{IsRegularWalk}
 use Rattle.fws_top.specs.declared.answer.Stop.{Stop}
 use Rattle.fws_top.specs.declared.answer.Stop.TheVariants.{Due, Memory}
 use Rattle.fws_top.specs.declared.status.Status.{Status}
@@ -85,16 +85,18 @@ pub record IsUnfolded (d : Ifcl) (flat : Flat) : Type 0 where
   pub unrefused : diagram_refusal d ≡ None
   pub does : (site : Site) (p : Packet) (k : Kind) → means flat site p k ≡ diagram_means d site p k
 
--- code that does what a walk says, for which the plan is what follows
+-- code that does what a regular walk says, for which the plan is what follows
 pub record IsCode (plan : ((Packet → Kind → Outcome) → Plan) → Plan) (site : Site) (flat : Flat) : Type 0 where
   pub ok : flat_ok flat ≡ true
   pub walk : Packet → Kind → Outcome
+  pub regular : IsRegularWalk site walk
   pub does : Does flat site walk
   pub chooses : Chooses plan walk
 
--- code that does what a walk says, with which the plan goes on
+-- code that does what a regular walk says, with which the plan goes on
 pub record IsTakenCode (plan : ((Packet → Kind → Outcome) → Plan) → Plan) (told : Option (List ℕ → List ℕ)) (site : Site) (flat : Flat) : Type 0 where
   pub ok : flat_ok flat ≡ true
   pub walk : Packet → Kind → Outcome
+  pub regular : IsRegularWalk site walk
   pub does : Does flat site walk
   pub goes_on : GoesOn plan told walk

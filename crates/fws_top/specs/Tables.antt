@@ -1,4 +1,4 @@
--- The texts that show tables.
+-- The tables of walks, and the texts that show them.
 use Rattle.std.specs.Prelude.{◌≡◌, ℕ, Option, Some, None, List, if◌then◌else◌}
 use Rattle.fws_box.specs.Sides.{IsWithin}
 use Rattle.fws_exec.specs.Classes.{kind_of}
@@ -6,16 +6,25 @@ use Rattle.fws_net.specs.declared.connection.Kind.{Kind}
 use Rattle.fws_net.specs.declared.outcome.Outcome.{Outcome}
 use Rattle.fws_net.specs.declared.packet.Packet.{Packet}
 use Rattle.fws_net.specs.declared.packet.State.{State}
+use Rattle.fws_net.specs.declared.packet.State.TheVariants.{Fresh, Est}
 use Rattle.fws_net.specs.declared.site.Site.{Site}
 use Rattle.fws_net.specs.Points.{tops_of, packet_of}
 use Rattle.fws_table.specs.QueryText.{asked_leaf, query_text}
 use Rattle.fws_table.specs.TableText.{table_text}
+use Rattle.fws_tree.specs.declared.tables.Tables.{Tables}
 use Rattle.fws_tree.specs.Plain.{Plain, value, IsReduced}
 use Rattle.fws_top.specs.Asks.{asks_have, asked_verdict}
 
 -- what a walk makes of the packet of a point, as one of a state
 abbrev pub walked_at : (Packet → Kind → Outcome) → State → List ℕ → Outcome
 walked_at walk state p = walk (packet_of p) (kind_of state p)
+
+-- the tables of a walk: both trees have the tops of the site, and at each point what the walk makes of its packet
+pub record AreTablesOf (site : Site) (walk : Packet → Kind → Outcome) (tables : Tables) : Type 0 where
+  pub fresh_tops : tables.fresh.0 ≡ tops_of site
+  pub est_tops : tables.est.0 ≡ tops_of site
+  pub fresh_walked : (p : List ℕ) → IsWithin (tops_of site) p → value tables.fresh.1 p ≡ Some (walked_at walk Fresh p)
+  pub est_walked : (p : List ℕ) → IsWithin (tops_of site) p → value tables.est.1 p ≡ Some (walked_at walk Est p)
 
 -- the table of the reduced tree whose value at each point is what the walk makes of it
 pub record IsTable (site : Site) (state : State) (walk : Packet → Kind → Outcome) (t : List ℕ) : Type 0 where

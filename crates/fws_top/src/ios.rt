@@ -31,4 +31,8 @@ impl Source for Ios {
         let diagram = fws_ios_ifcl::to_ifcl(alloc, c, site)?;
         Ok(diagram)
     }
+
+    fn spelled_walks_are_regular() {
+        fws_ios::spelled_walks_are_regular();
+    }
 }

@@ -33,4 +33,8 @@ impl Source for Ipfw {
         let diagram = fws_ipfw_ifcl::to_ifcl(alloc, c, site)?;
         Ok(diagram)
     }
+
+    fn spelled_walks_are_regular() {
+        fws_ipfw::spelled_walks_are_regular();
+    }
 }

@@ -34,4 +34,8 @@ impl Source for Iptables {
         let diagram = fws_ipt_ifcl::to_ifcl(alloc, c, site)?;
         Ok(diagram)
     }
+
+    fn spelled_walks_are_regular() {
+        fws_ipt::spelled_walks_are_regular();
+    }
 }

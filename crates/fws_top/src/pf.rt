@@ -31,4 +31,8 @@ impl Source for Pf {
         let diagram = fws_pf_ifcl::to_ifcl(alloc, c, site)?;
         Ok(diagram)
     }
+
+    fn spelled_walks_are_regular() {
+        fws_pf::spelled_walks_are_regular();
+    }
 }

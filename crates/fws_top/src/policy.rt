@@ -94,6 +94,7 @@ pub(crate) fn take_policy<L: Source>(
     ensures code { IfOk result (IsCode (judged name.now (judged_by (L.refusal site.now) (λ config. L.walk config site.now) (L.spelled site.now bytes.now))) site.now) }
     ensures refused { IfErr result (EndsIn (judged name.now (judged_by (L.refusal site.now) (λ config. L.walk config site.now) (L.spelled site.now bytes.now)))) }
 {
+    L::spelled_walks_are_regular();
     let config = take_config::<L>(alloc, site, name, bytes)?;
     let diagram = L::to_ifcl(alloc, &config, site)?;
     let code = take_code(alloc, name, &diagram)?;

@@ -11,7 +11,7 @@ pub trait Source {
     /// What a text spells.
     type Config: Drop;
 
-    ghost use Rattle.std.specs.Prelude.{◌≡◌, ℕ, List, Option, None, Result, true, IfOk};
+    ghost use Rattle.std.specs.Prelude.{◌≡◌, ℕ, List, Option, None, Result, Ok, true, IfOk};
     ghost use Rattle.fws_ifcl.specs.Soundness.{ifcl_ok};
     ghost use Rattle.fws_ifcl.specs.Walk.{means};
     ghost use Rattle.fws_net.specs.declared.cause.Cause.{Cause};
@@ -20,6 +20,7 @@ pub trait Source {
     ghost use Rattle.fws_net.specs.declared.packet.Packet.{Packet};
     ghost use Rattle.fws_net.specs.declared.site.Site.{Site};
     ghost use Rattle.fws_net.specs.Reading.{Refusal, ReadGiven};
+    ghost use Rattle.fws_net.specs.RegularWalks.{IsRegularWalk};
     ghost use Rattle.fws_net.specs.Routes.{IsSound};
     ghost use Rattle.fws_top.specs.Judged.{ChainRefusal, HasText, IsPacketOf, diagram_refusal};
 
@@ -47,4 +48,8 @@ pub trait Source {
         ensures ok { IfOk result (λ d. ifcl_ok d ≡ true) }
         ensures refused { IfOk result (λ d. diagram_refusal d ≡ refusal site.now c.now) }
         ensures means { IfOk result (λ d. refusal site.now c.now ≡ None → (p : Packet) (k : Kind) → IsPacketOf site.now p → means d site.now p k ≡ walk c.now site.now p k) };
+
+    /// The walk of every configuration that a text spells is regular: a law, with nothing to do.
+    fn spelled_walks_are_regular()
+        ensures { (site : Site) (text : List ℕ) (config : Self.Config) → spelled site text ≡ Ok config → IsRegularWalk site (walk config site) };
 }

@@ -7,15 +7,18 @@ ghost use Rattle.fws_net.specs.declared.connection.Kind.{Kind};
 ghost use Rattle.fws_net.specs.declared.outcome.Outcome.{Outcome};
 ghost use Rattle.fws_net.specs.declared.packet.Packet.{Packet};
 ghost use Rattle.fws_net.specs.Points.{tops_of};
+ghost use Rattle.fws_net.specs.RegularWalks.{IsRegularWalk};
 ghost use Rattle.fws_net.specs.Routes.{IsSound};
 ghost use Rattle.fws_top.specs.Asks.{are_asks};
 ghost use Rattle.fws_top.specs.Stops.{Does};
-ghost use Rattle.fws_top.specs.Tables.{IsAskedTable, IsTable, walked_at};
+ghost use Rattle.fws_top.specs.Tables.{AreTablesOf, IsAskedTable, IsTable, walked_at};
 ghost use Rattle.fws_trace.specs.PacketText.{IsOfSite};
 ghost use Rattle.fws_trace.specs.TraceText.{trace_text};
 ghost use Rattle.fws_tree.specs.Plain.{IsReduced, value};
+ghost use Rattle.fws_tree.specs.Regular.{AreRegular};
 
 use crate::ask_set::read_ask;
+use crate::laws::regular_walks_make_regular_tables;
 use fws_exec::execute_tree;
 use fws_flat::Flat;
 use fws_net::{Conn, Outcome, Packet, Site, State};
@@ -68,6 +71,21 @@ pub(crate) fn asked_table(
     Ok(text)
 }
 
+/// The tables of what code makes of packets: of new ones, and of those of connections.
+pub(crate) fn tables(alloc: Global, site: &Site, code: &Flat) -> Result<Tables, Memory>
+    requires sound { IsSound site.now }
+    requires ok { flat_ok code.now ≡ true }
+    ensures fresh_tops { IfOk result (λ t. t.fresh.0 ≡ tops_of site.now) }
+    ensures est_tops { IfOk result (λ t. t.est.0 ≡ tops_of site.now) }
+    ensures walked { (walk : Packet → Kind → Outcome) → Does code.now site.now walk → IfOk result (AreTablesOf site.now walk) }
+    ensures regular { (walk : Packet → Kind → Outcome) → Does code.now site.now walk → IsRegularWalk site.now walk → IfOk result (AreRegular site.now) }
+{
+    regular_walks_make_regular_tables();
+    let fresh = tree_of(alloc, site, code, State::Fresh)?;
+    let est = tree_of(alloc, site, code, State::Est)?;
+    Ok(Tables { fresh, est })
+}
+
 /// What code makes of packets against tracked connections.
 pub(crate) fn traced(
     alloc: Global,
@@ -81,9 +99,7 @@ pub(crate) fn traced(
     requires of_site { All (IsOfSite site.now) packets.now }
     ensures { (walk : Packet → Kind → Outcome) → Does code.now site.now walk → IfOk result (λ text. text ≡ trace_text walk conns.now packets.now) }
 {
-    let fresh = tree_of(alloc, site, code, State::Fresh)?;
-    let est = tree_of(alloc, site, code, State::Est)?;
-    let tables = Tables { fresh, est };
+    let tables = tables(alloc, site, code)?;
     let text = trace(alloc, site, &tables, conns, packets)?;
     Ok(text)
 }

@@ -7,6 +7,7 @@ returns-clause-code g c =
     let site = c.args.site.now in
     policy_code c.args.name.now site (g.L.Source.refusal site) (λ config. g.L.Source.walk config site) (g.L.Source.spelled site c.args.bytes.now)
     c.in_ok-config.config c.in_ok-diagram.diagram c.in_ok-code.code
+    (c.spelled_walks_are_regular.ensures site c.args.bytes.now c.in_ok-config.config c.in_ok-config.ensures.given)
     c.in_ok-config.ensures.given c.in_ok-diagram.ensures.refused c.in_ok-diagram.ensures.means c.in_ok-code.ensures.code
 
 pub returns-in_err-code-clause-refused : goal.returns-in_err-code-clause-refused

@@ -1,4 +1,4 @@
-use Rattle.std.proofs.Common.{◌≡◌, IfErr, sym, subst}
+use Rattle.std.proofs.Common.{IfErr, sym, subst}
 use Rattle.fws_top.specs.Judged.{judge}
 use Rattle.fws_top.specs.Plan.{judged}
 use Rattle.fws_top.specs.Stops.{EndsIn}

@@ -1,0 +1,24 @@
+//! Laws over tables: functions with nothing to do.
+
+ghost use Rattle.std.specs.Prelude.{◌≡◌, ℕ, List, Ok};
+ghost use Rattle.fws_net.specs.declared.site.Site.{Site};
+ghost use Rattle.fws_tree.specs.declared.tables.Tables.{Tables};
+ghost use Rattle.fws_tree.specs.Regular.{AreRegular};
+ghost use Rattle.fws_top.specs.RegularTables.{RegularWalksMakeRegularTables};
+ghost use Rattle.fws_top.specs.Tables.{AreTablesOf};
+
+use crate::source::Source;
+
+/// The tables of a regular walk are regular: a law, with nothing to do.
+pub fn regular_walks_make_regular_tables()
+    ensures { RegularWalksMakeRegularTables }
+{}
+
+/// So are, in each language, those of what a text spells: a law, with nothing to do.
+pub fn spelled_tables_are_regular<L: Source>()
+    ensures { (site : Site) (text : List ℕ) (config : L.Config) (tables : Tables) → L.spelled site text ≡ Ok config
+        → AreTablesOf site (L.walk config site) tables → AreRegular site tables }
+{
+    L::spelled_walks_are_regular();
+    regular_walks_make_regular_tables();
+}
