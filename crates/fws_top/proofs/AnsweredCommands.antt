@@ -11,11 +11,14 @@ use Rattle.fws_net.specs.SiteSpelling.{site2_text}
 use Rattle.fws_top.specs.Asks.{are_known}
 use Rattle.fws_top.specs.declared.answer.Stop.{Stop}
 use Rattle.fws_top.specs.declared.lang.SourceLang.{SourceLang}
+use Rattle.fws_top.specs.declared.lang.TargetLang.{TargetLang}
+use Rattle.fws_top.specs.declared.status.Status.{Status}
 use Rattle.fws_top.specs.declared.status.Status.TheVariants as status
-use Rattle.fws_top.specs.Forms.{synth, query, trace, site2}
+use Rattle.fws_top.specs.Forms.{synth, query, translate, trace, site2}
 use Rattle.fws_top.specs.Plan.{Plan, says, shows, plan_of, site_plan, asks_plan, source_plan, conns_plan, packets_plan}
 use Rattle.fws_top.specs.Stops.{Answered, AsksStopped, Does, GoesOn, IsTakenCode, Stopped, StopsAt}
-use Rattle.fws_top.specs.Tables.{IsTable, IsAskedTable, table, asked_table}
+use Rattle.fws_top.specs.Tables.{IsTable, IsAskedTable, table, asked_table, translation}
+use Rattle.fws_top.specs.Translations.{IsTranslation}
 use Rattle.fws_top.proofs.Chosen.{asks_on, asks_stopped, gone_on, stopped_behind, stopped_on}
 use Rattle.fws_trace.specs.TraceText.{trace_text}
 
@@ -31,7 +34,7 @@ pub table_shown : (lang : SourceLang) (name file : List ℕ) (site : Site) (stat
 table_shown lang name file site state flat told before old new text on same code quiet made =
     on (λ value. source_plan lang value file (λ walk. shows (table value state walk))) old new status.Ok text
     (on_code (source_plan lang site file) told before site flat same code (λ walk. shows (table site state walk)) old new status.Ok text
-    (quiet, refl, made code.walk code.does))
+    (quiet, (refl, made code.walk code.does)))
 
 -- the asked part of that table is shown
 pub asked_table_shown : (lang : SourceLang) (name file : List ℕ) (site : Site) (state : State) (asks : List (List ℕ)) (flat : Flat) (told before : Option (List ℕ → List ℕ)) (old new : List ℕ → ℕ) (text : List ℕ)
@@ -43,7 +46,17 @@ asked_table_shown lang name file site state asks flat told before old new text o
     on (λ value. asks_plan value asks (rest value)) old new status.Ok text
     (subst (λ plan. Answered plan told old new status.Ok text) (sym (asks_on site asks (rest site) known))
     (on_code (source_plan lang site file) told before site flat same code (λ walk. shows (asked_table site state asks walk)) old new status.Ok text
-    (quiet, refl, made code.walk code.does)))
+    (quiet, (refl, made code.walk code.does))))
+
+-- the translation of code is shown
+pub translation_shown : (from : SourceLang) (to : TargetLang) (name file : List ℕ) (site : Site) (flat : Flat) (told before : Option (List ℕ → List ℕ)) (old new : List ℕ → ℕ) (s : Status) (text : List ℕ)
+    → GoesOn (site_plan name) told site → before ≡ told → IsTakenCode (source_plan from site file) before site flat → new ≡ old
+    → ((walk : Packet → Kind → Outcome) → Does flat site walk → IsTranslation to site walk s text)
+    → Answered (plan_of (translate from to name file)) told old new s text
+translation_shown from to name file site flat told before old new s text on same code quiet made =
+    on (λ value. source_plan from value file (λ walk. shows (translation to value walk))) old new s text
+    (on_code (source_plan from site file) told before site flat same code (λ walk. shows (translation to site walk)) old new s text
+    (quiet, made code.walk code.does))
 
 -- the trace is said
 pub trace_said : (lang : SourceLang) (name file conns_name packets_name : List ℕ) (site : Site) (flat : Flat) (conns : List Conn) (packets : List Packet)

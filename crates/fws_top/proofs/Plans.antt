@@ -1,10 +1,41 @@
 -- What follows from an answer that goes along a plan.
-use Rattle.std.proofs.Common.{◌≡◌, ℕ, Option, Some, List, inl, inr, refl, sym, subst}
+use Rattle.std.proofs.Common.{◌≡◌, ◌⊎◌, ℕ, Option, Some, List, inl, inr, refl, sym, subst}
+use Rattle.fws_net.specs.declared.site.Site.{Site}
+use Rattle.fws_top.specs.declared.lang.TargetLang.{TargetLang}
 use Rattle.fws_top.specs.declared.status.Status.{Status}
 use Rattle.fws_top.specs.declared.status.Status.TheVariants as status
 use Rattle.fws_top.specs.Due.{Due, IsReadInTurn, IsTold, CanEnd, IsReadFault, IsDue, IsAnswered, IsFaultless}
 use Rattle.fws_top.specs.Plan.{Plan, says, shows, reads}
 use Rattle.fws_top.specs.Stops.{Answered, FaultSaid}
+use Rattle.fws_top.specs.Tables.{Wanted, table, asked_table, translation, CanBeShown, IsWanted}
+use Rattle.fws_top.specs.Translations.{IsPlacement}
+use Rattle.fws_tree.specs.declared.tables.Tables.{Tables}
+
+-- a text is shown with a status with which it may be
+placement_ends : (target : TargetLang) (site : Site) (tables : Tables) (s : Status) (t : List ℕ)
+    → IsPlacement target site tables s t → (s ≡ status.Ok) ⊎ (s ≡ status.NotPlaceable)
+placement_ends target site tables status.Ok t made = inl refl
+placement_ends target site tables status.NotPlaceable t made = inr refl
+placement_ends target site tables status.Usage t made = absurd made
+placement_ends target site tables status.Refused t made = absurd made
+placement_ends target site tables status.ReadFault t made = absurd made
+placement_ends target site tables status.WriteFault t made = absurd made
+placement_ends target site tables status.Memory t made = absurd made
+
+wanted_ends : (wanted : Wanted) (s : Status) (t : List ℕ) → IsWanted wanted s t → CanBeShown wanted s
+wanted_ends (table site state walk) s t w = w.0
+wanted_ends (asked_table site state asks walk) s t w = w.0
+wanted_ends (translation target site walk) s t w = placement_ends target site w.0 s t w.2
+
+-- and never with a fault of the outside or want of memory
+shown_fine : (wanted : Wanted) (s : Status) → CanBeShown wanted s → IsFaultless s
+shown_fine (table site state walk) s e = subst IsFaultless (sym e) tt
+shown_fine (asked_table site state asks walk) s e = subst IsFaultless (sym e) tt
+shown_fine (translation target site walk) s (inl e) = subst IsFaultless (sym e) tt
+shown_fine (translation target site walk) s (inr e) = subst IsFaultless (sym e) tt
+
+wanted_fine : (wanted : Wanted) (s : Status) (t : List ℕ) → IsWanted wanted s t → IsFaultless s
+wanted_fine wanted s t w = shown_fine wanted s (wanted_ends wanted s t w)
 
 -- a fault isn't said without one
 fault_is_fault : (name : List ℕ) (old new : List ℕ → ℕ) (s : Status) (t : List ℕ) → FaultSaid name old new s t → IsFaultless s → ⊥
@@ -20,7 +51,7 @@ answered_quiet (reads name next) told old new s t (inr a) fine = answered_quiet 
 answered_ends : (plan : Plan) (told : Option (List ℕ → List ℕ)) (old new : List ℕ → ℕ) (s : Status) (t : List ℕ)
     → Answered plan told old new s t → IsFaultless s → CanEnd plan s
 answered_ends (says u v) told old new s t a fine = a.2
-answered_ends (shows wanted) told old new s t a fine = a.1
+answered_ends (shows wanted) told old new s t a fine = wanted_ends wanted s t a.1
 answered_ends (reads name next) told old new s t (inl f) fine = absurd (fault_is_fault name old new s t f fine)
 answered_ends (reads name next) told old new s t (inr a) fine = (a.0, answered_ends (next a.0) told old new s t a.2 fine)
 
@@ -28,7 +59,7 @@ answered_ends (reads name next) told old new s t (inr a) fine = (a.0, answered_e
 told_due : (plan : Plan) (told : Option (List ℕ → List ℕ)) (held : List ℕ → List ℕ) (old new : List ℕ → ℕ) (s : Status) (t : List ℕ)
     → told ≡ Some held → Answered plan told old new s t → IsFaultless s → Due plan held s t
 told_due (says u v) told held old new s t e a fine = (a.2, a.3)
-told_due (shows wanted) told held old new s t e a fine = (a.1, a.2)
+told_due (shows wanted) told held old new s t e a fine = a.1
 told_due (reads name next) told held old new s t e (inl f) fine = absurd (fault_is_fault name old new s t f fine)
 told_due (reads name next) told held old new s t e (inr a) fine =
     subst (λ bytes. Due (next bytes) held s t) (a.1 held e) (told_due (next a.0) told held old new s t e a.2 fine)
@@ -36,14 +67,14 @@ told_due (reads name next) told held old new s t e (inr a) fine =
 answered_due : (plan : Plan) (told : Option (List ℕ → List ℕ)) (old new : List ℕ → ℕ) (s : Status) (t : List ℕ)
     → Answered plan told old new s t → IsFaultless s → (held : List ℕ → List ℕ) → IsTold plan told held → Due plan held s t
 answered_due (says u v) told old new s t a fine held e = (a.2, a.3)
-answered_due (shows wanted) told old new s t a fine held e = (a.1, a.2)
+answered_due (shows wanted) told old new s t a fine held e = a.1
 answered_due (reads name next) told old new s t a fine held e = told_due (reads name next) told held old new s t e a fine
 
 -- a read fault is one of a name whose turn it was
 answered_fault : (plan : Plan) (told : Option (List ℕ → List ℕ)) (old new : List ℕ → ℕ) (t : List ℕ)
     → Answered plan told old new status.ReadFault t → IsReadFault plan told old new t
 answered_fault (says u v) told old new t a = absurd (subst IsFaultless (sym a.2) a.0)
-answered_fault (shows wanted) told old new t a = absurd (subst IsFaultless (sym a.1) tt)
+answered_fault (shows wanted) told old new t a = absurd (wanted_fine wanted status.ReadFault t a.1)
 answered_fault (reads name next) told old new t (inl f) = record {
   name = name;
   read = inl refl;
@@ -65,7 +96,7 @@ answered_fault (reads name next) told old new t (inr a) =
 answered_fine : (plan : Plan) (told : Option (List ℕ → List ℕ)) (old new : List ℕ → ℕ) (s : Status) (t : List ℕ)
     → Answered plan told old new s t → (s ≡ status.ReadFault → ⊥) → IsFaultless s
 answered_fine (says u v) told old new s t a other = subst IsFaultless (sym a.2) a.0
-answered_fine (shows wanted) told old new s t a other = subst IsFaultless (sym a.1) tt
+answered_fine (shows wanted) told old new s t a other = wanted_fine wanted s t a.1
 answered_fine (reads name next) told old new s t (inl f) other = absurd (other f.fault)
 answered_fine (reads name next) told old new s t (inr a) other = answered_fine (next a.0) told old new s t a.2 other
 

@@ -21,7 +21,7 @@ use Rattle.fws_trace.specs.Outcomes.{point_with, rec_of}
 use Rattle.fws_tree.specs.declared.tables.Tables.{Tables}
 use Rattle.fws_tree.specs.Plain.{value}
 use Rattle.fws_tree.specs.Regular.{AreRegular, IsFreeOf, is_port}
-use Rattle.fws_top.specs.Tables.{AreTablesOf, walked_at}
+use Rattle.fws_top.specs.Walked.{AreTablesOf, walked_at}
 
 -- Points
 

@@ -6,7 +6,7 @@ use Rattle.fws_top.specs.declared.status.Status.TheVariants as status
 use Rattle.fws_top.specs.Forms.{command_of}
 use Rattle.fws_top.specs.Lines.{cannot_read_line}
 use Rattle.fws_top.specs.Plan.{Plan, says, shows, reads, plan_of}
-use Rattle.fws_top.specs.Tables.{IsWanted}
+use Rattle.fws_top.specs.Tables.{CanBeShown, IsWanted}
 
 -- what the words of a command line ask to do
 abbrev pub plan_for : List (List ℕ) → Plan
@@ -15,7 +15,7 @@ plan_for words = plan_of (command_of words)
 -- the status and the text that are due, given what each name holds
 abbrev pub Due : Plan → (List ℕ → List ℕ) → Status → List ℕ → Type 0
 Due (says due_status due_text) held s t = (s ≡ due_status) × (t ≡ due_text)
-Due (shows wanted) held s t = (s ≡ status.Ok) × IsWanted wanted t
+Due (shows wanted) held s t = IsWanted wanted s t
 Due (reads name next) held s t = Due (next (held name)) held s t
 
 -- a name that is read for some bytes of the files
@@ -39,7 +39,7 @@ IsTold (reads name next) told held = told ≡ Some held
 -- a status with which the plan can end where no fault comes, for some bytes of the files
 abbrev pub CanEnd : Plan → Status → Type 0
 CanEnd (says due_status due_text) s = s ≡ due_status
-CanEnd (shows wanted) s = s ≡ status.Ok
+CanEnd (shows wanted) s = CanBeShown wanted s
 CanEnd (reads name next) s = (bytes : List ℕ) × CanEnd (next bytes) s
 
 -- a name that is read had a fault in this call when its turn came, and the text says so

@@ -6,21 +6,24 @@ use Rattle.fws_net.specs.declared.packet.State.{State}
 use Rattle.fws_net.specs.declared.packet.State.TheVariants.{Fresh, Est}
 use Rattle.fws_top.specs.Asks.{are_asks, are_shown}
 use Rattle.fws_top.specs.declared.form.Form.{Form}
-use Rattle.fws_top.specs.declared.form.Form.TheVariants.{Unknown, Help, Version, Synth, Query, Trace, SecondForm}
+use Rattle.fws_top.specs.declared.form.Form.TheVariants.{Unknown, Help, Version, Synth, Query, Translate, Trace, SecondForm}
 use Rattle.fws_top.specs.declared.lang.SourceLang.{SourceLang}
 use Rattle.fws_top.specs.declared.lang.SourceLang.TheVariants.{Iptables, Ipfw, Pf, Ios}
+use Rattle.fws_top.specs.declared.lang.TargetLang.{TargetLang}
+use Rattle.fws_top.specs.declared.lang.TargetLang.TheVariants as targets
 
 -- What the words ask for, each file by its name
 
 -- nothing that is known, the list of commands or the version; of a configuration at a site, for the packets of a state,
--- the table, whole or for what further words ask, or what becomes of listed packets against listed connections; or a site
--- in its second form
+-- the table, whole or for what further words ask; the same policy in another language; what becomes of listed packets
+-- against listed connections; or a site in its second form
 pub data Command : Type 0 where
   unknown : Command
   help : Command
   version : Command
   synth : SourceLang → List ℕ → List ℕ → State → Command
   query : SourceLang → List ℕ → List ℕ → State → List (List ℕ) → Command
+  translate : SourceLang → TargetLang → List ℕ → List ℕ → Command
   trace : SourceLang → List ℕ → List ℕ → List ℕ → List ℕ → Command
   site2 : List ℕ → Command
 
@@ -32,6 +35,10 @@ lang_of word =
     else if bytes_eq word (codes "pf") then Some Pf
     else if bytes_eq word (codes "ios") then Some Ios
     else None
+
+-- a language in which policies are written
+abbrev pub target_of : List ℕ → Option TargetLang
+target_of word = if bytes_eq word (codes "iptables") then Some targets.Iptables else None
 
 -- which packets a table is about
 abbrev pub state_of : List ℕ → Option State
@@ -71,10 +78,17 @@ abbrev pub trace_command : SourceLang → List ℕ → List ℕ → List (List �
 trace_command lang site file (conns ∷ packets ∷ []) = trace lang site file conns packets
 trace_command lang site file _ = unknown
 
+-- `translate FROM TO SITE FILE`, behind FROM and TO
+abbrev pub translate_command : SourceLang → List ℕ → List ℕ → List (List ℕ) → Command
+translate_command from to site (file ∷ []) = option_map_or (λ target. translate from target site file) (target_of to) unknown
+translate_command from to site _ = unknown
+
 -- the commands that ask something of a configuration at a site
 abbrev pub source_command : List ℕ → SourceLang → List ℕ → List ℕ → List (List ℕ) → Command
 source_command command lang site file rest =
-    if bytes_eq command (codes "trace") then trace_command lang site file rest else table_command command lang site file rest
+    if bytes_eq command (codes "translate") then translate_command lang site file rest
+    else if bytes_eq command (codes "trace") then trace_command lang site file rest
+    else table_command command lang site file rest
 
 -- the command of the words of a command line
 abbrev pub command_of : List (List ℕ) → Command
@@ -92,6 +106,7 @@ asked Help = help
 asked Version = version
 asked (Synth lang site file state) = synth lang site.now file.now state
 asked (Query lang site file state asks) = query lang site.now file.now state asks.now
+asked (Translate from to site file) = translate from to site.now file.now
 asked (Trace lang site file conns packets) = trace lang site.now file.now conns.now packets.now
 asked (SecondForm site) = site2 site.now
 

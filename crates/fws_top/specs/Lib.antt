@@ -7,3 +7,5 @@ pub mod Plan
 pub mod RegularTables
 pub mod Stops
 pub mod Tables
+pub mod Translations
+pub mod Walked

@@ -14,15 +14,15 @@ use Rattle.fws_top.specs.declared.lang.SourceLang.{SourceLang}
 use Rattle.fws_top.specs.declared.status.Status.{Status}
 use Rattle.fws_top.specs.declared.status.Status.TheVariants as status
 use Rattle.fws_top.specs.declared.texts.TheConstants.{FILE_LIMIT, HELP, USAGE, VERSION}
-use Rattle.fws_top.specs.Forms.{Command, unknown, help, version, synth, query, trace, site2}
+use Rattle.fws_top.specs.Forms.{Command, unknown, help, version, synth, query, translate, trace, site2}
 use Rattle.fws_top.specs.Judged.{Judged, refused, accepted, judge}
 use Rattle.fws_top.specs.Lines.{refused_line, too_long_words, line_words, syntax_words, site_cause_text}
-use Rattle.fws_top.specs.Tables.{Wanted, table, asked_table}
+use Rattle.fws_top.specs.Tables.{Wanted, table, asked_table, translation}
 use Rattle.fws_trace.specs.ConnectionText.{conns_of}
 use Rattle.fws_trace.specs.PacketText.{packets_of}
 use Rattle.fws_trace.specs.TraceText.{trace_text}
 
--- a status and a text are said, or a wanted text is shown with status 0, or the file of a name is read and its bytes decide
+-- a status and a text are said, or a wanted text is shown with its status, or the file of a name is read and its bytes decide
 pub data Plan : Type 0 where
   says : Status → List ℕ → Plan
   shows : Wanted → Plan
@@ -80,6 +80,7 @@ plan_of (site2 site) = site_plan site (λ value. says status.Ok (site2_text valu
 plan_of (synth lang site file state) = site_plan site (λ value. source_plan lang value file (λ walk. shows (table value state walk)))
 plan_of (query lang site file state asks) =
     site_plan site (λ value. asks_plan value asks (source_plan lang value file (λ walk. shows (asked_table value state asks walk))))
+plan_of (translate from to site file) = site_plan site (λ value. source_plan from value file (λ walk. shows (translation to value walk)))
 plan_of (trace lang site file conns packets) =
     site_plan site (λ value. source_plan lang value file (λ walk. conns_plan conns (λ tracked. packets_plan value packets (λ sent.
     says status.Ok (trace_text walk tracked sent)))))

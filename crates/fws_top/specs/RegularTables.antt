@@ -6,7 +6,7 @@ use Rattle.fws_net.specs.declared.site.Site.{Site}
 use Rattle.fws_net.specs.RegularWalks.{IsRegularWalk}
 use Rattle.fws_tree.specs.declared.tables.Tables.{Tables}
 use Rattle.fws_tree.specs.Regular.{AreRegular}
-use Rattle.fws_top.specs.Tables.{AreTablesOf}
+use Rattle.fws_top.specs.Walked.{AreTablesOf}
 
 -- the tables of a regular walk are regular
 abbrev pub RegularWalksMakeRegularTables : Type 0

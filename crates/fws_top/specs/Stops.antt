@@ -36,7 +36,7 @@ IsHeld told name bytes = (held : List ℕ → List ℕ) → told ≡ Some held �
 -- the plan is answered so: each file that it reads has a fault, which ends it, or gives bytes, by which it goes on
 abbrev pub Answered : Plan → Option (List ℕ → List ℕ) → (List ℕ → ℕ) → (List ℕ → ℕ) → Status → List ℕ → Type 0
 Answered (says due_status due_text) told old new s t = IsFaultless due_status × (new ≡ old) × (s ≡ due_status) × (t ≡ due_text)
-Answered (shows wanted) told old new s t = (new ≡ old) × (s ≡ status.Ok) × IsWanted wanted t
+Answered (shows wanted) told old new s t = (new ≡ old) × IsWanted wanted s t
 Answered (reads name next) told old new s t =
     FaultSaid name old new s t ⊎ ((bytes : List ℕ) × IsHeld told name bytes × Answered (next bytes) told old new s t)
 
@@ -78,6 +78,10 @@ AsksStopped site asks Memory = Unit {0}
 -- flat code does with the packets of the site what the walk says
 abbrev pub Does : Flat → Site → (Packet → Kind → Outcome) → Type 0
 Does flat site walk = (p : Packet) (k : Kind) → IsPacketOf site p → means flat site p k ≡ walk p k
+
+-- flat code does what some regular walk says
+abbrev pub DoesRegularly : Flat → Site → Type 0
+DoesRegularly flat site = (walk : Packet → Kind → Outcome) × Does flat site walk × IsRegularWalk site walk
 
 -- flat code of a diagram that can be unfolded
 pub record IsUnfolded (d : Ifcl) (flat : Flat) : Type 0 where

@@ -7,7 +7,7 @@ ghost use Rattle.fws_top.specs.Plan.{Plan, plan_of};
 ghost use Rattle.fws_top.specs.Stops.{Answered, Stopped};
 
 use crate::answer::{Answer, Stop, said};
-use crate::commands::{query, second_form, synth, trace};
+use crate::commands::{query, second_form, synth, trace, translate};
 use crate::form::{Form, read_form};
 use crate::status::Status;
 use crate::texts::{HELP, USAGE, VERSION};
@@ -30,6 +30,19 @@ fn ended(text: Result<Text, Stop>) -> Result<Answer, Memory>
     }
 }
 
+/// The answer of a command that went well, or the one in its place.
+fn answered(answer: Result<Answer, Stop>) -> Result<Answer, Memory>
+    ensures { (plan : Plan) (told : Option (List ℕ → List ℕ)) (old new : List ℕ → ℕ)
+        → IfOk answer (λ a. Answered plan told old new a.status a.text)
+        → IfErr answer (Stopped plan told old new) → IfOk result (λ a. Answered plan told old new a.status a.text) }
+{
+    match answer {
+        Ok(answer) => Ok(answer),
+        Err(Stop::Due(answer)) => Ok(answer),
+        Err(Stop::Memory) => Err(Memory),
+    }
+}
+
 /// What the form of a command line asks for.
 fn follow<S: Shelf>(alloc: Global, form: &Form<'_>, shelf: &mut S) -> Result<Answer, Memory>
     requires { IsSpelled form.now }
@@ -43,6 +56,9 @@ fn follow<S: Shelf>(alloc: Global, form: &Form<'_>, shelf: &mut S) -> Result<Ans
         Form::Synth(lang, site, file, state) => ended(synth(alloc, shelf, lang, site, file, state)),
         Form::Query(lang, site, file, state, asks) => {
             ended(query(alloc, shelf, lang, site, file, state, asks))
+        }
+        Form::Translate(from, to, site, file) => {
+            answered(translate(alloc, shelf, from, to, site, file))
         }
         Form::Trace(lang, site, file, conns, packets) => {
             ended(trace(alloc, shelf, lang, site, file, conns, packets))

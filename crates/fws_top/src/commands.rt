@@ -3,16 +3,17 @@
 ghost use Rattle.std.specs.Prelude.{◌≡◌, true, IfOk, IfErr};
 ghost use Rattle.fws_top.specs.Asks.{are_asks};
 ghost use Rattle.fws_top.specs.declared.status.Status.TheVariants as status;
-ghost use Rattle.fws_top.specs.Forms.{synth, query, trace, site2};
+ghost use Rattle.fws_top.specs.Forms.{synth, query, translate, trace, site2};
 ghost use Rattle.fws_top.specs.Plan.{plan_of};
 ghost use Rattle.fws_top.specs.Stops.{Answered, Stopped};
 
-use crate::answer::Stop;
-use crate::lang::SourceLang;
+use crate::answer::{Answer, Stop};
+use crate::lang::{SourceLang, TargetLang};
 use crate::steps::{know_entries, take_conns, take_packets, take_site, take_source};
-use crate::tables::{asked_table, table, traced};
+use crate::tables::{asked_table, table, tables, traced};
+use crate::translating::translated;
 use fws_io::Shelf;
-use fws_net::{State, put_site};
+use fws_net::{State, put_site, read_sites_are_orderly};
 use fws_num::Text;
 use std::alloc::Global;
 
@@ -55,6 +56,26 @@ pub(crate) fn query<S: Shelf>(
     let code = take_source(alloc, shelf, lang, &site, file_name)?;
     let text = asked_table(alloc, &site, &code, state, asks)?;
     Ok(text)
+}
+
+/// The same policy in another language, or why it can't hold it.
+pub(crate) fn translate<S: Shelf>(
+    alloc: Global,
+    shelf: &mut S,
+    from: SourceLang,
+    to: TargetLang,
+    site_name: &[u8],
+    file_name: &[u8],
+) -> Result<Answer, Stop>
+    ensures same { S.told shelf.new ≡ S.told shelf.old }
+    ensures answered { IfOk result (λ answer. Answered (plan_of (translate from to site_name.now file_name.now)) (S.told shelf.old) (S.faults shelf.old) (S.faults shelf.new) answer.status answer.text) }
+    ensures stopped { IfErr result (Stopped (plan_of (translate from to site_name.now file_name.now)) (S.told shelf.old) (S.faults shelf.old) (S.faults shelf.new)) }
+{
+    read_sites_are_orderly();
+    let site = take_site(alloc, shelf, site_name)?;
+    let code = take_source(alloc, shelf, from, &site, file_name)?;
+    let answer = translated(alloc, to, &site, &code)?;
+    Ok(answer)
 }
 
 /// What becomes of listed packets against listed connections.

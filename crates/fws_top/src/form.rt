@@ -2,10 +2,10 @@
 
 ghost use Rattle.std.specs.Prelude.{◌≡◌};
 ghost use Rattle.std.specs.Str.{bytes_eq};
-ghost use Rattle.fws_top.specs.Forms.{lang_of, state_of, command_of, single_command, site_command, synth_command, query_command, state_command, table_command, trace_command, source_command, asked, IsSpelled};
+ghost use Rattle.fws_top.specs.Forms.{lang_of, target_of, state_of, command_of, single_command, site_command, synth_command, query_command, state_command, table_command, translate_command, trace_command, source_command, asked, IsSpelled};
 
 use crate::ask::{are_asks, are_shown};
-use crate::lang::SourceLang;
+use crate::lang::{SourceLang, TargetLang};
 use fws_net::State;
 use fws_num::Text;
 
@@ -22,6 +22,8 @@ pub(crate) enum Form<'a> {
     Synth(SourceLang, &'a [u8], &'a [u8], State),
     /// The same table of the packets that further words ask for.
     Query(SourceLang, &'a [u8], &'a [u8], State, &'a [Text]),
+    /// What a configuration at a site does, in another language: both languages, site and configuration.
+    Translate(SourceLang, TargetLang, &'a [u8], &'a [u8]),
     /// What a configuration at a site makes of packets, against tracked connections: site, configuration, connections
     /// and packets.
     Trace(SourceLang, &'a [u8], &'a [u8], &'a [u8], &'a [u8]),
@@ -29,10 +31,16 @@ pub(crate) enum Form<'a> {
     SecondForm(&'a [u8]),
 }
 
+fn are(bytes: &[u8], text: &[u8]) -> bool
+    ensures { result ≡ bytes_eq bytes.now text.now }
+{
+    bytes == text
+}
+
 fn is(word: &Text, text: &[u8]) -> bool
     ensures { result ≡ bytes_eq word.now text.now }
 {
-    word.as_slice() == text
+    are(word.as_slice(), text)
 }
 
 /// The language of a configuration.
@@ -47,6 +55,17 @@ fn read_lang(word: &Text) -> Option<SourceLang>
         Some(SourceLang::Pf)
     } else if is(word, b"ios") {
         Some(SourceLang::Ios)
+    } else {
+        None
+    }
+}
+
+/// The language in which a policy is written.
+fn read_target(word: &[u8]) -> Option<TargetLang>
+    ensures { result ≡ target_of word.now }
+{
+    if are(word, b"iptables") {
+        Some(TargetLang::Iptables)
     } else {
         None
     }
@@ -166,6 +185,20 @@ fn read_table_command<'a>(
     }
 }
 
+/// `translate` takes the other language ahead of the site.
+fn read_translate<'a>(from: SourceLang, to: &[u8], site: &'a [u8], rest: &'a [Text]) -> Form<'a>
+    ensures asked { asked result ≡ translate_command from to.now site.now rest.now }
+    ensures spelled { IsSpelled result }
+{
+    let [file] = rest else {
+        return Form::Unknown;
+    };
+    match read_target(to) {
+        Some(target) => Form::Translate(from, target, site, file.as_slice()),
+        None => Form::Unknown,
+    }
+}
+
 /// `trace` takes two further names.
 fn read_trace<'a>(lang: SourceLang, site: &'a [u8], file: &'a [u8], rest: &'a [Text]) -> Form<'a>
     ensures asked { asked result ≡ trace_command lang site.now file.now rest.now }
@@ -188,7 +221,9 @@ fn read_source_command<'a>(
     ensures asked { asked result ≡ source_command command.now lang site.now file.now rest.now }
     ensures spelled { IsSpelled result }
 {
-    if is(command, b"trace") {
+    if is(command, b"translate") {
+        read_translate(lang, site, file, rest)
+    } else if is(command, b"trace") {
         read_trace(lang, site, file, rest)
     } else {
         read_table_command(command, lang, site, file, rest)

@@ -1,11 +1,14 @@
-//! iptables as a source of policies.
+//! iptables as a source and a target of policies.
 
+use crate::language::Language;
 use crate::source::Source;
 use fws_ifcl::Ifcl;
 use fws_ipt::{IptConfig, unrefused_have_no_loop};
 use fws_ipt_ifcl::spelled_diagrams;
 use fws_net::{ReadAnswer, Site};
-use fws_num::Memory;
+use fws_num::{Memory, Text};
+use fws_place::PlaceAnswer;
+use fws_tree::Tables;
 use std::alloc::Global;
 
 /// iptables, as iptables-save(8) writes it.
@@ -37,5 +40,25 @@ impl Source for Iptables {
 
     fn spelled_walks_are_regular() {
         fws_ipt::spelled_walks_are_regular();
+    }
+}
+
+impl Language for Iptables {
+    ghost use Rattle.fws_ipt_print.specs.Printable.{is_printable};
+    ghost use Rattle.fws_ipt_put.specs.Placed.{tracks};
+    ghost use Rattle.fws_net.specs.declared.packet.Lang.TheVariants as langs;
+
+    ghost system = { langs.Iptables };
+
+    ghost printable = { λ site config. is_printable site config };
+
+    ghost tracks = { λ site config. tracks site config };
+
+    fn place(alloc: Global, t: &Tables, site: &Site) -> Result<IptConfig, PlaceAnswer> {
+        fws_ipt_put::place(alloc, t, site)
+    }
+
+    fn print(alloc: Global, c: &IptConfig, site: &Site) -> Result<Text, Memory> {
+        fws_ipt_print::print(alloc, c, site)
     }
 }

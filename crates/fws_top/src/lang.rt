@@ -12,3 +12,10 @@ pub enum SourceLang {
     /// Cisco IOS, as a running configuration writes access lists and NAT.
     Ios,
 }
+
+/// A language in which policies are written.
+#[derive(Clone, Copy, Debug, PartialEq, Eq)]
+pub enum TargetLang {
+    /// iptables, as iptables-restore(8) loads it.
+    Iptables,
+}

@@ -5,7 +5,7 @@ ghost use Rattle.fws_net.specs.declared.site.Site.{Site};
 ghost use Rattle.fws_tree.specs.declared.tables.Tables.{Tables};
 ghost use Rattle.fws_tree.specs.Regular.{AreRegular};
 ghost use Rattle.fws_top.specs.RegularTables.{RegularWalksMakeRegularTables};
-ghost use Rattle.fws_top.specs.Tables.{AreTablesOf};
+ghost use Rattle.fws_top.specs.Walked.{AreTablesOf};
 
 use crate::source::Source;
 

@@ -11,6 +11,7 @@ mod ios;
 mod ipfw;
 mod iptables;
 mod lang;
+mod language;
 mod laws;
 mod lines;
 mod pf;
@@ -23,11 +24,13 @@ mod tables;
 #[cfg(test)]
 mod tests;
 mod texts;
+mod translating;
 
 pub use ios::Ios;
 pub use ipfw::Ipfw;
 pub use iptables::Iptables;
-pub use lang::SourceLang;
+pub use lang::{SourceLang, TargetLang};
+pub use language::Language;
 pub use laws::{regular_walks_make_regular_tables, spelled_tables_are_regular};
 pub use pf::Pf;
 pub use running::run;

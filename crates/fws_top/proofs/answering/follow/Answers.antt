@@ -1,6 +1,6 @@
 use Rattle.std.proofs.Common.{IfOk, subst, sym}
 use Rattle.fws_top.specs.declared.form.Form.{Form}
-use Rattle.fws_top.specs.Forms.{asked, synth, query, trace}
+use Rattle.fws_top.specs.Forms.{asked, synth, query, translate, trace}
 use Rattle.fws_top.specs.Plan.{plan_of}
 use Rattle.fws_top.specs.Stops.{Answered}
 use Rattle.fws_top.proofs.answering.follow.Goals as goal
@@ -31,3 +31,12 @@ returns-in-Trace-clause-answered g c =
     let new = g.S.Shelf.faults c.trace.new.shelf in
     subst (λ (form : Form). IfOk c.ended-in-Trace.result (λ answer. Answered (plan_of (asked form)) told old new answer.status answer.text)) (sym w.is)
     (c.ended-in-Trace.ensures (plan_of (trace w.lang w.site.now w.file.now w.conns.now w.packets.now)) told old new c.trace.ensures.answered c.trace.ensures.stopped)
+
+pub returns-in-Translate-clause-answered : goal.returns-in-Translate-clause-answered
+returns-in-Translate-clause-answered g c =
+    let w = c.in-Translate in
+    let told = g.S.Shelf.told c.args.shelf.now in
+    let old = g.S.Shelf.faults c.args.shelf.now in
+    let new = g.S.Shelf.faults c.translate.new.shelf in
+    subst (λ (form : Form). IfOk c.answered.result (λ answer. Answered (plan_of (asked form)) told old new answer.status answer.text)) (sym w.is)
+    (c.answered.ensures (plan_of (translate w.from w.to w.site.now w.file.now)) told old new c.translate.ensures.answered c.translate.ensures.stopped)

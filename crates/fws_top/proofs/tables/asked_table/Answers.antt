@@ -2,7 +2,7 @@ use Rattle.std.proofs.Common.{Bool, Option, Some, None, cond, ap, ◌∙◌}
 use Rattle.fws_net.specs.declared.outcome.Outcome.{Outcome}
 use Rattle.fws_table.specs.QueryText.{asked_leaf, asked_value}
 use Rattle.fws_top.specs.Asks.{asks_have}
-use Rattle.fws_top.specs.Tables.{walked_at}
+use Rattle.fws_top.specs.Walked.{walked_at}
 use Rattle.fws_top.proofs.tables.asked_table.Goals as goal
 
 pub returns : goal.returns

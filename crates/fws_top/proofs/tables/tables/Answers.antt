@@ -4,6 +4,8 @@ pub returns-clause-walked : goal.returns-clause-walked
 returns-clause-walked c = λ walk does. record {
   fresh_tops = c.in_ok-fresh.ensures.tops;
   est_tops = c.in_ok-est.ensures.tops;
+  fresh_reduced = c.in_ok-fresh.ensures.reduced;
+  est_reduced = c.in_ok-est.ensures.reduced;
   fresh_walked = c.in_ok-fresh.ensures.walked walk does;
   est_walked = c.in_ok-est.ensures.walked walk does;
 }
@@ -14,6 +16,8 @@ returns-clause-regular c = λ walk does regular.
     (record {
       fresh_tops = c.in_ok-fresh.ensures.tops;
       est_tops = c.in_ok-est.ensures.tops;
+      fresh_reduced = c.in_ok-fresh.ensures.reduced;
+      est_reduced = c.in_ok-est.ensures.reduced;
       fresh_walked = c.in_ok-fresh.ensures.walked walk does;
       est_walked = c.in_ok-est.ensures.walked walk does;
     })

@@ -1,0 +1,95 @@
+-- What `translate` answers with: a text of the target that does the same, or the line that says which packets show why there is
+-- none.
+use Rattle.std.specs.Prelude.{◌≡◌, ℕ, Bool, true, Option, Result, Ok, List, [], ◌∷◌, ◌++◌, codes}
+use Rattle.std.specs.Fmt.{decimal}
+use Rattle.std.specs.List.{join_with_byte}
+use Rattle.std.specs.Option.{option_map_or}
+use Rattle.fws_ipt.specs.FileText.{spelled as ipt_spelled}
+use Rattle.fws_ipt.specs.Walk.{walk as ipt_walk}
+use Rattle.fws_ipt_put.specs.Placed.{tracks as ipt_tracks}
+use Rattle.fws_net.specs.declared.cause.Cause.{Cause}
+use Rattle.fws_net.specs.declared.connection.Kind.{Kind}
+use Rattle.fws_net.specs.declared.connection.Kind.TheVariants.{New, Est}
+use Rattle.fws_net.specs.declared.connection.Rec.{Rec}
+use Rattle.fws_net.specs.declared.outcome.Outcome.{Outcome}
+use Rattle.fws_net.specs.declared.packet.Lang.{Lang}
+use Rattle.fws_net.specs.declared.packet.Lang.TheVariants as langs
+use Rattle.fws_net.specs.declared.packet.Packet.{Packet}
+use Rattle.fws_net.specs.declared.site.Site.{Site}
+use Rattle.fws_net.specs.Connections.{fate_in}
+use Rattle.fws_net.specs.Reading.{Refusal}
+use Rattle.fws_num.specs.Numbers.{dotted}
+use Rattle.fws_place.specs.declared.breach.Breach.{Breach}
+use Rattle.fws_place.specs.declared.breach.Pair.{Pair}
+use Rattle.fws_place.specs.Fits.{Fits, IsBreach, number_of}
+use Rattle.fws_place.specs.Meaning.{IsPacketOf, IsPairOf, new_of, est_of}
+use Rattle.fws_table.specs.TableText.{entry_name}
+use Rattle.fws_top.specs.declared.lang.TargetLang.{TargetLang}
+use Rattle.fws_top.specs.declared.lang.TargetLang.TheVariants.{Iptables}
+use Rattle.fws_top.specs.declared.status.Status.{Status}
+use Rattle.fws_top.specs.declared.status.Status.TheVariants as status
+use Rattle.fws_top.specs.Walked.{AreTablesOf}
+use Rattle.fws_tree.specs.declared.tables.Tables.{Tables}
+
+-- Texts of the target
+
+-- a walk gives every packet of the site, new or established, the fate that the tables give it
+pub record GivesFates (site : Site) (tables : Tables) (walk : Packet → Kind → Outcome) : Type 0 where
+  pub new : (p : Packet) → IsPacketOf site p → fate_in (walk p New) p New ≡ fate_in (new_of tables p) p New
+  pub established : (p : Packet) (r : Rec) → IsPairOf site p r → fate_in (walk p (Est r)) p (Est r) ≡ fate_in (est_of tables p r) p (Est r)
+
+-- the text spells a configuration that keeps state where it accepts, and gives these fates
+pub record EmitsBy {C : Type 0} (spelled : List ℕ → Result C (Refusal Cause)) (tracks : C → Bool) (walk : C → Packet → Kind → Outcome) (site : Site) (tables : Tables) (t : List ℕ) : Type 0 where
+  pub config : C
+  pub spells : spelled t ≡ Ok config
+  pub tracked : tracks config ≡ true
+  pub fates : GivesFates site tables (walk config)
+
+-- in each target
+abbrev pub Emits : TargetLang → Site → Tables → List ℕ → Type 0
+Emits Iptables site tables t = EmitsBy (ipt_spelled site) (ipt_tracks site) (λ config. ipt_walk config site) site tables t
+
+-- the system whose placement condition is asked for
+abbrev pub system_of : TargetLang → Lang
+system_of Iptables = langs.Iptables
+
+-- The line that names packets
+
+abbrev pub target_word : TargetLang → List ℕ
+target_word Iptables = codes "iptables"
+
+-- the words of a packet, as a trace reads them
+abbrev pub packet_words : Site → Packet → List (List ℕ)
+packet_words site p =
+    entry_name site p.entry ∷ decimal p.proto ∷ dotted p.dst ∷ decimal p.dport ∷ dotted p.src ∷ decimal p.sport ∷ decimal p.flags
+    ∷ decimal p.icmp ∷ []
+
+-- the ends with which a connection sends it
+abbrev pub ends_words : Rec → List (List ℕ)
+ends_words r = dotted r.rdst ∷ decimal r.rdport ∷ dotted r.rsrc ∷ decimal r.rsport ∷ []
+
+abbrev pub pair_text : Site → Pair → List ℕ
+pair_text site pair = join_with_byte 32 (packet_words site pair.packet ++ option_map_or ends_words pair.rec [])
+
+-- the system can't hold the policy, by this clause, as these packets show
+abbrev pub breach_line : TargetLang → Site → Breach → List ℕ
+breach_line target site b =
+    codes "not placeable on " ++ target_word target ++ codes " clause " ++ decimal (number_of b.clause) ++ codes ": "
+    ++ pair_text site b.first ++ option_map_or (λ pair. codes " with " ++ pair_text site pair) b.second [] ++ 10 ∷ []
+
+-- What is answered
+
+-- with status 0 the tables fit the system, and the text is one with their fates; with status 1 a clause isn't met, and the line
+-- names packets that show so
+abbrev pub IsPlacementBy : Lang → (List ℕ → Type 0) → TargetLang → Site → Tables → Status → List ℕ → Type 0
+IsPlacementBy system emits target site tables status.Ok t = Fits system site tables × emits t
+IsPlacementBy system emits target site tables status.NotPlaceable t = (b : Breach) × IsBreach system site tables b × (t ≡ breach_line target site b)
+IsPlacementBy system emits target site tables _ t = ⊥
+
+-- in each target
+abbrev pub IsPlacement : TargetLang → Site → Tables → Status → List ℕ → Type 0
+IsPlacement target site tables s t = IsPlacementBy (system_of target) (Emits target site tables) target site tables s t
+
+-- of the tables of a walk
+abbrev pub IsTranslation : TargetLang → Site → (Packet → Kind → Outcome) → Status → List ℕ → Type 0
+IsTranslation target site walk s t = (tables : Tables) × AreTablesOf site walk tables × IsPlacement target site tables s t

@@ -1,0 +1,86 @@
+//! What code does, in another language.
+
+ghost use Rattle.std.specs.Prelude.{◌≡◌, true, IfOk};
+ghost use Rattle.fws_flat.specs.Soundness.{flat_ok};
+ghost use Rattle.fws_net.specs.declared.connection.Kind.{Kind};
+ghost use Rattle.fws_net.specs.declared.outcome.Outcome.{Outcome};
+ghost use Rattle.fws_net.specs.declared.packet.Packet.{Packet};
+ghost use Rattle.fws_net.specs.Routes.{IsSound};
+ghost use Rattle.fws_net.specs.SiteLaws.{IsOrderly};
+ghost use Rattle.fws_top.specs.Stops.{Does, DoesRegularly};
+ghost use Rattle.fws_top.specs.Translations.{EmitsBy, IsPlacement, IsPlacementBy, IsTranslation};
+ghost use Rattle.fws_tree.specs.Regular.{AreRegular};
+
+use crate::answer::Answer;
+use crate::iptables::Iptables;
+use crate::lang::TargetLang;
+use crate::language::Language;
+use crate::lines::breach_line;
+use crate::status::Status;
+use crate::tables::tables;
+use fws_flat::Flat;
+use fws_net::Site;
+use fws_num::Memory;
+use fws_place::PlaceAnswer;
+use fws_tree::Tables;
+use std::alloc::Global;
+
+/// The text of tables in a language, or the line that says which packets show why its system can't hold them.
+fn placed<L: Language>(
+    alloc: Global,
+    target: TargetLang,
+    site: &Site,
+    tables: &Tables,
+) -> Result<Answer, Memory>
+    requires orderly { IsOrderly site.now }
+    requires sound { IsSound site.now }
+    requires regular { AreRegular site.now tables.now }
+    ensures { IfOk result (λ a. IsPlacementBy L.system (EmitsBy (L.spelled site.now) (L.tracks site.now) (λ config. L.walk config site.now) site.now tables.now) target site.now tables.now a.status a.text) }
+{
+    match L::place(alloc, tables, site) {
+        Ok(config) => Ok(Answer {
+            status: Status::Ok,
+            text: L::print(alloc, &config, site)?,
+        }),
+        Err(PlaceAnswer::Unfit(breach)) => Ok(Answer {
+            status: Status::NotPlaceable,
+            text: breach_line(alloc, target, site, &breach)?,
+        }),
+        Err(PlaceAnswer::Memory) => Err(Memory),
+    }
+}
+
+/// The text of tables in the language of this name, or that line.
+fn placed_in(
+    alloc: Global,
+    target: TargetLang,
+    site: &Site,
+    tables: &Tables,
+) -> Result<Answer, Memory>
+    requires orderly { IsOrderly site.now }
+    requires sound { IsSound site.now }
+    requires regular { AreRegular site.now tables.now }
+    ensures { IfOk result (λ a. IsPlacement target site.now tables.now a.status a.text) }
+{
+    match target {
+        TargetLang::Iptables => placed::<Iptables>(alloc, target, site, tables),
+    }
+}
+
+/// What code does, as a text in the language of this name, or that line.
+pub(crate) fn translated(
+    alloc: Global,
+    target: TargetLang,
+    site: &Site,
+    code: &Flat,
+) -> Result<Answer, Memory>
+    requires orderly { IsOrderly site.now }
+    requires sound { IsSound site.now }
+    requires ok { flat_ok code.now ≡ true }
+    requires regular { DoesRegularly code.now site.now }
+    ensures { (walk : Packet → Kind → Outcome) → Does code.now site.now walk → IfOk result (λ a. IsTranslation target site.now walk a.status a.text) }
+{
+    let tables = tables(alloc, site, code)?;
+    let answer = placed_in(alloc, target, site, &tables)?;
+    Ok(answer)
+}
