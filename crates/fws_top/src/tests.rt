@@ -23,6 +23,11 @@ const CLOSED: &[u8] =
 const ROUND: &[u8] =
     b"*filter\n:INPUT ACCEPT [0:0]\n:A - [0:0]\n:B - [0:0]\n-A A -j B\n-A B -g A\nCOMMIT\n";
 
+/// Connections to the router's outer address carry a mark, by which what is then forwarded to one host is dropped. So
+/// whether a packet is dropped is told by its destination both as it comes and as it goes on.
+const MARKED: &[u8] =
+    b"*mangle\n:PREROUTING ACCEPT [0:0]\n-A PREROUTING -d 203.0.113.2/32 -j MARK --set-xmark 0x1/0xffffffff\nCOMMIT\n*filter\n:INPUT ACCEPT [0:0]\n:FORWARD ACCEPT [0:0]\n:OUTPUT ACCEPT [0:0]\n-A FORWARD -d 10.0.0.5/32 -m mark --mark 0x1 -j DROP\nCOMMIT\n";
+
 /// An ipfw rule that passes everything.
 const PASSING: &[u8] = b"add 100 allow ip from any to any\n";
 
@@ -30,7 +35,7 @@ const PASSING: &[u8] = b"add 100 allow ip from any to any\n";
 const PASSED: &[u8] = b"pass flags any\n";
 
 /// A Cisco IOS list with a wildcard that isn't zeros followed by ones, on its second line.
-const SCATTERED: &[u8] = b"hostname R1\naccess-list 101 permit tcp any 10.0.0.0 0.0.255.0\n";
+const SCATTERED: &[u8] = b"hostname edge\naccess-list 101 permit tcp any 10.0.0.0 0.0.255.0\n";
 
 /// A Cisco IOS list that is met by nothing.
 const LISTED: &[u8] = b"access-list 101 deny ip any any\n";
@@ -47,7 +52,7 @@ const CONNS: &[u8] = b"6 198.51.100.9 443 10.0.0.7 40001 203.0.113.2 40001 198.5
 const PACKETS: &[u8] =
     b"lan 6 198.51.100.9 443 10.0.0.7 40001 16 0\nlan 1 198.51.100.9 0 10.0.0.7 0 0 8\n";
 
-const USAGE_LINE: &[u8] = b"usage: fws synth|query|trace|site2\n";
+const USAGE_LINE: &[u8] = b"usage: fws synth|query|translate|trace|site2\n";
 
 fn words_of(alloc: Global, line: &str) -> Result<Items<Text>, Memory> {
     let mut words = Items::new(alloc);
@@ -70,6 +75,7 @@ fn full_shelf(alloc: Global, fails: Items<u64>) -> Result<MemShelf, Memory> {
     shelf.hold(b"F", OPEN)?;
     shelf.hold(b"D", CLOSED)?;
     shelf.hold(b"L", ROUND)?;
+    shelf.hold(b"M", MARKED)?;
     shelf.hold(b"I", PASSING)?;
     shelf.hold(b"B", BACKWARD)?;
     shelf.hold(b"Q", PASSED)?;
@@ -93,7 +99,7 @@ fn told(alloc: Global, line: &str) -> Result<(Status, Text), Memory> {
 
 #[test]
 fn answers(rt: HostRuntime) -> Result<(), Fail> {
-    let table: [(&str, Status, &[u8]); 29] = [
+    let table: [(&str, Status, &[u8]); 32] = [
         ("--version", Status::Ok, b"fws 0.1.0\n"),
         ("--help", Status::Ok, HELP),
         ("--help --help", Status::Usage, USAGE_LINE),
@@ -182,6 +188,13 @@ fn answers(rt: HostRuntime) -> Result<(), Fail> {
             USAGE_LINE,
         ),
         ("trace iptables S F C", Status::Usage, USAGE_LINE),
+        ("translate iptables S F", Status::Usage, USAGE_LINE),
+        ("translate iptables ipfw S F", Status::Usage, USAGE_LINE),
+        (
+            "translate iptables iptables S L",
+            Status::Refused,
+            b"refused L loop A\n",
+        ),
         // the site, its entries, the configuration, its chains, the connections, the packets
         (
             "query iptables T G new entry=dmz",
@@ -219,6 +232,21 @@ fn answers(rt: HostRuntime) -> Result<(), Fail> {
         assert_eq!(rt; status, wanted);
         assert_eq!(rt; written.as_slice(), text);
     }
+    Ok(())
+}
+
+#[test]
+fn translations(rt: HostRuntime) -> Result<(), Fail> {
+    let (status, text) = told(rt.alloc(), "translate ipfw iptables S I")?;
+    assert_eq!(rt; status, Status::Ok);
+    assert_ne!(rt; text.as_slice(), b"".as_slice());
+
+    let (status, line) = told(rt.alloc(), "translate iptables iptables S M")?;
+    assert_eq!(rt; status, Status::NotPlaceable);
+    let mut words = line.as_slice().split(|byte| *byte == b' ');
+    assert_eq!(rt; words.nth(5), Some(b"5:".as_slice()));
+    assert_eq!(rt; words.nth(2), Some(b"203.0.113.2".as_slice()));
+    assert_eq!(rt; words.nth(5), Some(b"10.0.0.5".as_slice()));
     Ok(())
 }
 
