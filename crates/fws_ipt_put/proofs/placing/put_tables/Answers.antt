@@ -1,0 +1,90 @@
+use Rattle.std.proofs.Common.{◌+◌, ◌^◌, ◌<◌, List, length, All, arith, sym, ap, ◌∙◌, subst}
+use Rattle.fws_net.specs.Points.{tops_of}
+use Rattle.fws_ipt_put.specs.declared.marks.Mark.{Mark}
+use Rattle.fws_ipt_put.specs.Drafts.{IsDraft, SetsMarks}
+use Rattle.fws_ipt_put.specs.Marks.{AreMarks, HaveBlocks, IsMade, passing, verdict_of}
+use Rattle.fws_ipt_put.proofs.Begun.{draft_long}
+use Rattle.fws_ipt_put.proofs.Supplied.{known_blocks, sets_marks, sets_none}
+use Rattle.fws_ipt_put.proofs.Whole.{all_placed, behind_is_told, fresh_is_told, packet_is_told}
+use Rattle.fws_ipt_put.proofs.placing.put_tables.Goals as goal
+
+pub drafted-requires-clause-sound : goal.drafted-requires-clause-sound
+drafted-requires-clause-sound c = c.requires.sound
+
+pub drafted-requires-clause-entering_tops : goal.drafted-requires-clause-entering_tops
+drafted-requires-clause-entering_tops c = c.in_ok-trees.ensures.entering_tops ∙ c.requires.packet_tops
+
+pub drafted-requires-clause-news_tops : goal.drafted-requires-clause-news_tops
+drafted-requires-clause-news_tops c = c.in_ok-trees.ensures.news_tops ∙ c.requires.regular.fresh_tops
+
+pub drafted-requires-clause-routed_tops : goal.drafted-requires-clause-routed_tops
+drafted-requires-clause-routed_tops c = c.in_ok-trees.ensures.routed_tops ∙ c.requires.behind_tops
+
+pub drafted-requires-clause-entering_told : goal.drafted-requires-clause-entering_told
+drafted-requires-clause-entering_told c =
+    packet_is_told c.args.site.now c.args.t.now c.requires.regular c.args.views.now.packet.1 c.in_ok-trees.trees.entering.1 c.requires.packet
+    (subst (λ ts. IsMade ts passing c.args.views.now.packet.1 c.in_ok-trees.trees.entering.1) c.requires.packet_tops c.in_ok-trees.ensures.entering)
+
+pub drafted-requires-clause-news_told : goal.drafted-requires-clause-news_told
+drafted-requires-clause-news_told c =
+    fresh_is_told c.args.site.now c.args.t.now c.requires.regular c.in_ok-known.known.rewrites.keys c.in_ok-trees.trees.news.1
+    (subst (λ ts. IsMade ts (verdict_of c.in_ok-known.known.rewrites.keys) c.args.t.now.fresh.1 c.in_ok-trees.trees.news.1) c.requires.regular.fresh_tops c.in_ok-trees.ensures.news)
+
+pub drafted-requires-clause-routed_told : goal.drafted-requires-clause-routed_told
+drafted-requires-clause-routed_told c =
+    behind_is_told c.args.site.now c.args.t.now c.requires.regular c.args.views.now.behind.1 c.in_ok-trees.trees.routed.1 c.requires.behind
+    (subst (λ ts. IsMade ts passing c.args.views.now.behind.1 c.in_ok-trees.trees.routed.1) c.requires.behind_tops c.in_ok-trees.ensures.routed)
+
+pub drafted-requires-clause-entering_marks : goal.drafted-requires-clause-entering_marks
+drafted-requires-clause-entering_marks c =
+    sets_none (tops_of c.args.site.now) c.args.views.now.packet.1 c.in_ok-trees.trees.entering.1
+    (subst (λ ts. IsMade ts passing c.args.views.now.packet.1 c.in_ok-trees.trees.entering.1) c.requires.packet_tops c.in_ok-trees.ensures.entering)
+
+pub drafted-requires-clause-news_marks : goal.drafted-requires-clause-news_marks
+drafted-requires-clause-news_marks c =
+    subst (λ (marks : List Mark). SetsMarks (tops_of c.args.site.now) (length marks) c.in_ok-trees.trees.news.1) (sym c.as_slice-marks.ensures.value)
+    (sets_marks (tops_of c.args.site.now) c.args.t.now.fresh.1 c.in_ok-trees.trees.news.1 c.in_ok-known.known.rewrites.keys c.in_ok-known.known.marks.items
+    (subst (λ ts. IsMade ts (verdict_of c.in_ok-known.known.rewrites.keys) c.args.t.now.fresh.1 c.in_ok-trees.trees.news.1) c.requires.regular.fresh_tops c.in_ok-trees.ensures.news)
+    c.in_ok-known.ensures.marked)
+
+pub drafted-requires-clause-routed_marks : goal.drafted-requires-clause-routed_marks
+drafted-requires-clause-routed_marks c =
+    sets_none (tops_of c.args.site.now) c.args.views.now.behind.1 c.in_ok-trees.trees.routed.1
+    (subst (λ ts. IsMade ts passing c.args.views.now.behind.1 c.in_ok-trees.trees.routed.1) c.requires.behind_tops c.in_ok-trees.ensures.routed)
+
+pub drafted-requires-clause-blocks : goal.drafted-requires-clause-blocks
+drafted-requires-clause-blocks c =
+    subst (All HaveBlocks) (sym c.as_slice-marks.ensures.value)
+    (known_blocks c.args.t.now.fresh.0 c.args.t.now.fresh.1 c.in_ok-known.known.marks.items c.in_ok-known.ensures.known)
+
+pub drafted-requires-clause-few : goal.drafted-requires-clause-few
+drafted-requires-clause-few c = omega (arith, c.as_slice-marks.ensures.len, c.if-marks-gt4000000000.false)
+
+pub filled-requires-clause-sound : goal.filled-requires-clause-sound
+filled-requires-clause-sound c = c.requires.sound
+
+pub filled-requires-clause-many : goal.filled-requires-clause-many
+filled-requires-clause-many c =
+    (draft_long c.args.site.now c.in_ok-trees.trees.entering.1 c.in_ok-trees.trees.news.1 c.in_ok-trees.trees.routed.1 c.as_slice-marks.result.now c.in_ok-draft.draft c.in_ok-draft.ensures).0
+
+pub filled-requires-clause-some : goal.filled-requires-clause-some
+filled-requires-clause-some c =
+    (draft_long c.args.site.now c.in_ok-trees.trees.entering.1 c.in_ok-trees.trees.news.1 c.in_ok-trees.trees.routed.1 c.as_slice-marks.result.now c.in_ok-draft.draft c.in_ok-draft.ensures).1
+
+pub returns : goal.returns
+returns c =
+    let site = c.args.site.now in
+    let t = c.args.t.now in
+    let regular = c.requires.regular in
+    let few : length c.in_ok-known.known.marks.items + 5 < 2 ^ 32 = omega (arith, ap length c.as_slice-marks.ensures.value, c.if-marks-gt4000000000.false) in
+    let count = c.len-count.ensures in
+    all_placed site t regular c.fitting_pairs_are_told.ensures c.lost_pairs_are_dropped.ensures c.requires.fits
+    c.args.views.now.packet.1 c.args.views.now.behind.1 c.in_ok-trees.trees.entering.1 c.in_ok-trees.trees.news.1 c.in_ok-trees.trees.routed.1
+    c.in_ok-known.known.rewrites.keys c.in_ok-known.known.marks.items c.requires.packet c.requires.behind
+    (subst (λ ts. IsMade ts passing c.args.views.now.packet.1 c.in_ok-trees.trees.entering.1) c.requires.packet_tops c.in_ok-trees.ensures.entering)
+    (subst (λ ts. IsMade ts (verdict_of c.in_ok-known.known.rewrites.keys) t.fresh.1 c.in_ok-trees.trees.news.1) regular.fresh_tops c.in_ok-trees.ensures.news)
+    (subst (λ ts. IsMade ts passing c.args.views.now.behind.1 c.in_ok-trees.trees.routed.1) c.requires.behind_tops c.in_ok-trees.ensures.routed)
+    (subst (λ ts. AreMarks ts t.fresh.1 c.in_ok-known.known.rewrites.keys c.in_ok-known.known.marks.items) regular.fresh_tops c.in_ok-known.ensures)
+    c.in_ok-draft.draft c.in_ok-chains.chains
+    (subst (λ (marks : List Mark). IsDraft site c.in_ok-trees.trees.entering.1 c.in_ok-trees.trees.news.1 c.in_ok-trees.trees.routed.1 marks c.in_ok-draft.draft) c.as_slice-marks.ensures.value c.in_ok-draft.ensures)
+    c.in_ok-chains.ensures few (omega (arith, count))

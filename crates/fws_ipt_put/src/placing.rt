@@ -1,0 +1,88 @@
+//! Tables placed.
+
+ghost use Rattle.std.specs.Prelude.{◌≡◌, ◌<◌, ◌+◌, ◌^◌, ◌≤◌, length, map, Err, IfOk, OnOk, All};
+ghost use Rattle.fws_ipt_tree.specs.Shown.{IsTold};
+ghost use Rattle.fws_ipt_tree.specs.declared.verdict.Seen.TheVariants as seens;
+ghost use Rattle.fws_net.specs.Points.{tops_of};
+ghost use Rattle.fws_net.specs.Routes.{IsSound};
+ghost use Rattle.fws_net.specs.declared.packet.Lang.TheVariants as langs;
+ghost use Rattle.fws_place.specs.Fits.{Fits, IsBreach};
+ghost use Rattle.fws_place.specs.Seen.{IsAcceptedAlike, IsAcceptedSomewhere, Tells};
+ghost use Rattle.fws_tree.specs.Regular.{AreRegular};
+ghost use Rattle.fws_ipt_put.specs.Placed.{IsPlaced, tracks};
+
+use crate::draft::drafted;
+use crate::labels::labelled;
+use crate::layout::filled;
+use crate::marking::marks_for;
+use fws_ipt::IptConfig;
+use fws_net::{Lang, Site};
+use fws_num::Memory;
+use fws_place::{
+    Breach, FitAnswer, PlaceAnswer, Views, check, fitting_pairs_are_told, lost_pairs_are_dropped,
+    seen,
+};
+use fws_tree::Tables;
+use std::alloc::Global;
+
+/// The configuration of tables that fit, by what rules see of established packets. An error is want of memory.
+fn put_tables(alloc: Global, site: &Site, t: &Tables, views: &Views) -> Result<IptConfig, Memory>
+    requires sound { IsSound site.now }
+    requires regular { AreRegular site.now t.now }
+    requires fits { Fits langs.Iptables site.now t.now }
+    requires packet_tops { views.now.packet.0 ≡ tops_of site.now }
+    requires behind_tops { views.now.behind.0 ≡ tops_of site.now }
+    requires packet { Tells site.now (λ p r. IsAcceptedSomewhere site.now t.now p) views.now.packet.1 }
+    requires behind { Tells site.now (IsAcceptedAlike site.now t.now) views.now.behind.1 }
+    ensures { IfOk result (IsPlaced site.now t.now) }
+{
+    fitting_pairs_are_told();
+    lost_pairs_are_dropped();
+    let known = marks_for(alloc, &t.fresh)?;
+    let trees = labelled(alloc, &t.fresh, views, &known.rewrites)?;
+    let marks = known.marks.as_slice();
+    if marks.len() > 4_000_000_000 {
+        return Err(Memory);
+    }
+    let draft = drafted(
+        alloc,
+        site,
+        &trees.entering,
+        &trees.news,
+        &trees.routed,
+        marks,
+    )?;
+    let _count = draft.chains.len();
+    let chains = filled(alloc, site, draft)?;
+    Ok(IptConfig { chains })
+}
+
+/// The configuration of iptables that does with every packet of the site what the tables say; or the first clause of
+/// iptables' placement condition that they don't meet, with packets that show so.
+pub fn place(alloc: Global, t: &Tables, site: &Site) -> Result<IptConfig, PlaceAnswer>
+    requires sound { IsSound site.now }
+    requires regular { AreRegular site.now t.now }
+    ensures fits { OnOk result (Fits langs.Iptables site.now t.now) }
+    ensures placed { IfOk result (IsPlaced site.now t.now) }
+    ensures breach { (b : Breach) → result ≡ Err (PlaceAnswer.Unfit b) → IsBreach langs.Iptables site.now t.now b }
+{
+    match check(alloc, Lang::Iptables, t, site) {
+        Err(FitAnswer::Unfit(breach)) => return Err(PlaceAnswer::Unfit(breach)),
+        Err(FitAnswer::Memory) => return Err(PlaceAnswer::Memory),
+        Ok(()) => {}
+    }
+    let Ok(views) = seen(alloc, site, t) else {
+        return Err(PlaceAnswer::Memory);
+    };
+    match put_tables(alloc, site, t, &views) {
+        Ok(config) => Ok(config),
+        Err(_) => Err(PlaceAnswer::Memory),
+    }
+}
+
+/// Whether the configuration keeps state. Every configuration of iptables does.
+pub fn tracks(_c: &IptConfig, _site: &Site) -> bool
+    ensures { result ≡ tracks _site.now _c.now }
+{
+    true
+}
