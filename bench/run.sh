@@ -2,9 +2,9 @@
 # Runs the built programs over growing inputs, and prints a line `family size seconds megabytes counts` for each:
 # filter files of growing length, files with chains of the user's and with rules of nat and mangle, an instance of ipfw with
 # many redirects, the same rules in ipfw, pf or Cisco IOS and in iptables, lists of pf that stand for many rules, 400 rules
-# at sites of growing size, the writing of these sites by the command site2, texts of up to 4 MiB that are read and not
-# executed, execution alone and that of established packets, trees that are made of rows or recoloured, and diagrams that
-# are unfolded or refused. Exit status 1 where a bound is passed. Build first: ./fws --build
+# at sites of growing size, the writing of these sites by the command site2, translations to iptables, texts of up to
+# 4 MiB that are read and not executed, execution alone and that of established packets, trees that are made of rows or
+# recoloured, and diagrams that are unfolded or refused. Exit status 1 where a bound is passed. Build first: ./fws --build
 set -u
 top=$(cd "$(dirname "$0")/.." && pwd)
 program=$top/crates/fws/out/fws
@@ -74,6 +74,20 @@ echo 'family routes seconds megabytes'
 for routes in 256 1024 4096; do
     python3 "$top/bench/respelled.py" "$routes" 1 1024 "$program" "$work/site.$routes" || status=1
 done
+
+translated() { # family count language bytes [file]
+    local family=$1 count=$2 language=$3 bytes=$4
+    shift 4
+    python3 "$top/bench/translated.py" "$family" "$count" "$language" "$bytes" 4 "$program" "$site" "$@" || status=1
+}
+
+echo 'family rules language seconds times bytes parts'
+translated router 13 iptables 5540 "$top/examples/router.saved"
+translated listed 400 iptables 124616
+translated listed 4000 iptables 984632
+translated skipping 1000 ipfw /300
+translated decided 1000 pf /300
+translated applied 1000 ios /300
 
 echo 'family mebibytes seconds megabytes'
 for size in 0.5 1 2 4; do

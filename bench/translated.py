@@ -1,0 +1,79 @@
+"""python3 translated.py FAMILY COUNT LANG BYTES TIMES PROGRAM SITE [FILE]
+
+Translates a family of make.py in the language LANG to iptables, three times, and makes both of its tables as often; with FILE
+this file and not the family's. Prints a line `FAMILY COUNT LANG seconds times bytes parts`: the best time of a translation, how
+many times as long it takes as both tables, the length of its text, and how many nodes the two tables have as trees, with the
+ranges of each node's parts but the one with most ranges. BYTES is a bound on the length, or behind a `/` on the bytes for each of
+the parts. Exit status 1 where it is passed, or where a translation takes more than TIMES times as long as both tables.
+"""
+
+import os
+import subprocess
+import sys
+import tempfile
+import time
+
+MAKE = os.path.join(os.path.dirname(os.path.abspath(__file__)), 'make.py')
+
+
+def run(command):
+    """What the command writes, and the seconds that it takes."""
+    begun = time.monotonic()
+    ended = subprocess.run(command, stdout=subprocess.PIPE, check=True, timeout=300)
+    return ended.stdout.decode(), time.monotonic() - begun
+
+
+def tree(rows, field, nodes):
+    """The number of the node of these rows, which agree in all fields before this one."""
+    while field < len(rows[0]) - 1 and rows[0][field] == '*':
+        field += 1
+    if field == len(rows[0]) - 1:
+        return nodes.setdefault(rows[0][field], (len(nodes), 0))[0]
+    kids, ranges = [], []
+    begin = 0
+    for end in range(1, len(rows) + 1):
+        if end == len(rows) or rows[end][field] != rows[begin][field]:
+            kids.append((rows[begin][field], tree(rows[begin:end], field + 1, nodes)))
+            ranges.append(rows[begin][field].count(',') + 1)
+            begin = end
+    return nodes.setdefault((field, tuple(kids)), (len(nodes), sum(ranges) - max(ranges)))[0]
+
+
+def parts(table):
+    """The nodes of a table, and the ranges of their parts but one."""
+    nodes = {}
+    rows = []
+    for line in table.splitlines()[1:]:
+        sides, outcome = line.split(' : ')
+        rows.append(sides.split(' ') + [outcome])
+    tree(rows, 0, nodes)
+    return sum(1 + ranges for _, ranges in nodes.values())
+
+
+def measure(program, lang, site, name):
+    """The best seconds of a translation and of both tables, the text, and the tables."""
+    best = {}
+    for _ in range(3):
+        text, taken = run([program, 'translate', lang, 'iptables', site, name])
+        best['text'] = min(taken, best.get('text', taken))
+        made = [run([program, 'synth', lang, site, name, state]) for state in ('new', 'est')]
+        both = sum(seconds for _, seconds in made)
+        best['tables'] = min(both, best.get('tables', both))
+    return best, text, [table for table, _ in made]
+
+
+def main(family, count, lang, most, times, program, site, *given):
+    with tempfile.TemporaryDirectory() as work:
+        name = given[0] if given else os.path.join(work, 'file')
+        if not given:
+            with open(name, 'w') as f:
+                subprocess.run([sys.executable, MAKE, count, family, lang], stdout=f, check=True)
+        best, text, tables = measure(program, lang, site, name)
+    counted = sum(parts(table) for table in tables)
+    ratio = best['text'] / best['tables']
+    print(family, count, lang, '%.2f' % best['text'], '%.1f' % ratio, len(text), counted)
+    bound = int(most[1:]) * counted if most.startswith('/') else int(most)
+    return 0 if len(text) <= bound and ratio <= float(times) else 1
+
+
+sys.exit(main(*sys.argv[1:]))

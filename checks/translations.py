@@ -1,0 +1,170 @@
+"""python3 checks/translations.py, at the top of the repository; checks/translations.sh says how it is called
+
+Translates to iptables the configurations of examples/ and those of which crates/fws_rows/args knows a table, from the language
+that each has, with the built program. What is checked of each:
+
+- The status is 0; or it is 1 with a line that names packets, where the site and the configuration stand in UNPLACED.
+- The text, read back, has the two tables of the configuration that it was made of.
+- The text keeps what iptables-restore asks for: no blank behind COMMIT; at most 15 ports in a list, where a range counts as two,
+  and none of port 0 alone; no -i in OUTPUT and POSTROUTING, no -o in PREROUTING and INPUT; names of chains of at most 28 bytes.
+- Where iptables-restore or iptables-nft-restore is installed and may be tried, it takes the text with --test; unless an interface
+  of the site has a name of more than 15 bytes.
+
+And that a trace of the router's translation says of packets what one of the router itself says. Prints a line for each check that
+goes wrong, and last how many went right. Exit status 1 where one went wrong.
+"""
+
+import os
+import re
+import shutil
+import subprocess
+import sys
+import tempfile
+
+TOP = os.path.dirname(os.path.dirname(os.path.abspath(__file__)))
+DATA = os.path.join(TOP, 'crates/fws_rows/data')
+EXAMPLES = os.path.join(TOP, 'examples')
+PROGRAM = os.environ.get('FWS_PROGRAM', os.path.join(TOP, 'crates/fws/out/fws'))
+
+# Of a site and a configuration that can't be placed, what the line of status 1 begins with, and words behind it by their places.
+UNPLACED = {
+    ('S', 'marked-established.rules'): ('not placeable on iptables clause 5: ', {2: '203.0.113.2', 8: '10.0.0.5'}),
+    # what the host sends of a connection is dropped by the source that the connection writes
+    ('S-no-pass', 'masked.ipfw'): ('not placeable on iptables clause 5: ', {0: 'host'}),
+}
+
+# The examples: language, site and configuration.
+EXAMPLE_FILES = [
+    ('iptables', 'site.txt', 'router.saved'),
+    ('iptables', 'site.txt', 'open.rules'),
+    ('iptables', 'site.txt', 'server.rules'),
+    ('iptables', 'site.txt', 'ssh.rules'),
+    ('iptables', 'site.txt', 'forward.rules'),
+    ('iptables', 'routed.site', 'outbound.rules'),
+    ('ipfw', 'office.site', 'office.ipfw'),
+    ('ipfw', 'site.txt', 'office.ipfw'),
+    ('pf', 'site.txt', 'gateway.pf'),
+    ('ios', 'branch.site', 'branch.ios'),
+]
+
+# How many words a job of fws_rows has behind its name.
+LENGTHS = {'table': 3, 'table-at': 4}
+
+
+def run(*words):
+    ended = subprocess.run([PROGRAM, *words], stdout=subprocess.PIPE, check=False)
+    return ended.returncode, ended.stdout.decode()
+
+
+def worked():
+    """The configurations of which fws_rows knows a table: language, site and file."""
+    with open(os.path.join(TOP, 'crates/fws_rows/args'), encoding='utf-8') as file:
+        site, *words = file.read().split('\n')
+    found = []
+    for place, word in enumerate(words):
+        if word in LENGTHS:
+            job = words[place + 1:place + 1 + LENGTHS[word]]
+            at, language, rules = (job[0], job[1], job[2]) if word == 'table-at' else (site, job[0], job[1])
+            if (language, at, rules) not in found:
+                found.append((language, at, rules))
+    return [(language, os.path.join(DATA, at), os.path.join(DATA, rules)) for language, at, rules in found]
+
+
+def places(ports):
+    return sum(2 if ':' in part else 1 for part in ports.split(','))
+
+
+def faults(text):
+    """What iptables-restore would not take of the text."""
+    for line in text.split('\n'):
+        words = line.split(' ')
+        if line.startswith('COMMIT') and line != 'COMMIT':
+            yield 'something stands behind COMMIT'
+        if line.startswith(':') and len(words[0]) > 29:
+            yield 'a long name: ' + line
+        for option, word in zip(words, words[1:]):
+            if option in ('--sports', '--dports') and (places(word) > 15 or word in ('0', '0:0')):
+                yield 'a list of ports: ' + line
+        if words[0] == '-A':
+            if '-i' in words and words[1] in ('OUTPUT', 'POSTROUTING') or '-o' in words and words[1] in ('INPUT', 'PREROUTING'):
+                yield 'an interface that is not shown: ' + line
+
+
+def long_names(site):
+    with open(site, encoding='utf-8') as file:
+        return any(len(name) > 15 for name in re.findall(r' ipt=(\S+)', file.read()))
+
+
+def loaders():
+    """The commands that are installed and take a text without rules here."""
+    for name in ('iptables-restore', 'iptables-nft-restore'):
+        if shutil.which(name) and subprocess.run([name, '--test'], input=b'*filter\nCOMMIT\n', capture_output=True, check=False).returncode == 0:
+            yield name
+
+
+class Tally:
+    """How many checks went right and wrong."""
+
+    def __init__(self):
+        self.right = self.wrong = 0
+
+    def check(self, holds, *told):
+        if holds:
+            self.right += 1
+        else:
+            self.wrong += 1
+            print(*told)
+
+
+def unplaced(tally, job, status, text):
+    begins, words = UNPLACED[job]
+    name = job[1]
+    named = text[len(begins):].split()
+    tally.check(status == 1 and text.startswith(begins), name, 'has status', status, text[:80])
+    tally.check(len(named) == 12 and all(named[place] == word for place, word in words.items()), name, 'names', *named)
+
+
+def placed(tally, tools, work, job, text):
+    language, site, name = job
+    again = os.path.join(work, 'again')
+    with open(again, 'w', encoding='utf-8') as file:
+        file.write(text)
+    for state in ('new', 'est'):
+        same = run('synth', language, site, name, state) == run('synth', 'iptables', site, again, state)
+        tally.check(same, name, 'has another table of', state, 'packets when it is translated')
+    found = list(faults(text))
+    tally.check(not found, name, *found[:1])
+    for tool in () if long_names(site) else tools:
+        ended = subprocess.run([tool, '--test'], input=text.encode(), capture_output=True, check=False)
+        tally.check(ended.returncode == 0, name, tool, ended.stderr.decode())
+
+
+def traced(tally, work):
+    """The trace of the router's translation is that of the router."""
+    site, router = os.path.join(EXAMPLES, 'site.txt'), os.path.join(EXAMPLES, 'router.saved')
+    lists = [os.path.join(EXAMPLES, 'router.' + name) for name in ('connections', 'packets')]
+    again = os.path.join(work, 'router')
+    with open(again, 'w', encoding='utf-8') as file:
+        file.write(run('translate', 'iptables', 'iptables', site, router)[1])
+    tally.check(run('trace', 'iptables', site, again, *lists) == run('trace', 'iptables', site, router, *lists), 'another trace of the router')
+
+
+def main():
+    tally, tools = Tally(), list(loaders())
+    jobs = [(language, os.path.join(EXAMPLES, site), os.path.join(EXAMPLES, name)) for language, site, name in EXAMPLE_FILES]
+    with tempfile.TemporaryDirectory() as work:
+        for job in jobs + worked():
+            language, site, name = job
+            status, text = run('translate', language, 'iptables', site, name)
+            bare = os.path.basename(site), os.path.basename(name)
+            if bare in UNPLACED:
+                unplaced(tally, bare, status, text)
+            else:
+                tally.check(status == 0, name, 'has status', status, text[:80])
+                placed(tally, tools, work, job, text)
+        traced(tally, work)
+    print('translations: %d right, %d wrong; loaded by %s' % (tally.right, tally.wrong, ', '.join(tools) or 'none, as none is installed'))
+    return 1 if tally.wrong or not tally.right else 0
+
+
+sys.exit(main())
