@@ -19,6 +19,7 @@ And of these:
 rewritten: N ports of the host are mapped to hosts of their own, and N rules of FORWARD accept packets to these.
 services: N addresses have a chain each, which calls one that maps them to a host, as Kubernetes does; packets of the host
 go there too.
+loaded: behind a rule that accepts what belongs to a connection, the rules of listed.
 unfolded: N calls of one chain of 1,000 rules, each of which drops the packets of one host.
 marked: N rules of mangle mark packets of sources of their own, and N rules of FORWARD accept some destination by mark.
 crossing: N rules, of which half stand in mangle PREROUTING, before what tracked connections write, and half in FORWARD,
@@ -163,6 +164,12 @@ def shared(rng, count):
 
 def host(k):
     return '10.%d.%d.10' % (1 + k // 250, k % 250)
+
+
+def loaded(rng, count):
+    rules = ['FORWARD -m state --state RELATED,ESTABLISHED -j ACCEPT']
+    rules += ['FORWARD ' + listed(rng, None, k) for k in range(count)]
+    return table('filter', ['INPUT ACCEPT', 'FORWARD DROP', 'OUTPUT ACCEPT'], rules)
 
 
 def rewritten(rng, count):
@@ -381,7 +388,7 @@ def expanded_pf(rng, count):
 
 
 FILES = {
-    'iptables': {family.__name__: family for family in (called, shared, rewritten, services, unfolded, marked, crossing, skipping, sources, decided, applied, bordered)},
+    'iptables': {family.__name__: family for family in (called, shared, loaded, rewritten, services, unfolded, marked, crossing, skipping, sources, decided, applied, bordered)},
     'ipfw': {'skipping': skipping_ipfw, 'sources': sources_ipfw, 'redirected': redirected_ipfw},
     'pf': {'decided': decided_pf, 'expanded': expanded_pf},
     'ios': {'applied': applied_ios, 'bordered': bordered_ios},

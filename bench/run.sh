@@ -83,8 +83,8 @@ translated() { # family count language bytes [file]
 
 echo 'family rules language seconds times bytes parts'
 translated router 13 iptables 5540 "$top/examples/router.saved"
-translated listed 400 iptables 124616
-translated listed 4000 iptables 984632
+translated loaded 400 iptables 124616
+translated loaded 4000 iptables 984632
 translated skipping 1000 ipfw /300
 translated decided 1000 pf /300
 translated applied 1000 ios /300
