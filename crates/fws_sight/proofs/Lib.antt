@@ -1,0 +1,9 @@
+pub mod CutNodes
+pub mod Freedom
+pub mod Left
+pub mod Parted
+pub mod Points
+pub mod Reaching
+pub mod Relabelled
+pub mod Sees
+pub mod Trees
