@@ -2,6 +2,8 @@
 use Rattle.std.proofs.Common.{◌≡◌, ℕ, zero, suc, ◌+◌, ◌<◌, ◌≤◌, false, ◌&&◌, slice_get, Some, is_none, List, [], ◌∷◌, ◌++◌, length, All, arith, sym, ap, ◌∙◌, subst, length-append}
 use Rattle.std.specs.Option.{option_map_or}
 use Rattle.fws_box.specs.Sides.{IsWithin}
+use Rattle.fws_sight.specs.declared.seen.Seen.TheVariants.{Entered, Routed}
+use Rattle.fws_sight.specs.declared.seen.Seen.{Seen}
 use Rattle.fws_ipt.specs.declared.config.IptChain.{IptChain}
 use Rattle.fws_ipt.specs.declared.config.IptTable.{IptTable}
 use Rattle.fws_ipt.specs.declared.config.IptTable.TheVariants.{Filter, Mangle}
@@ -10,8 +12,6 @@ use Rattle.fws_tree.specs.Plain.{IsReduced, Plain, value}
 use Rattle.fws_ipt_tree.specs.declared.verdict.Verdict.{Verdict}
 use Rattle.fws_ipt_tree.specs.declared.verdict.Verdict.TheVariants as verdicts
 use Rattle.fws_ipt_tree.specs.declared.verdict.Branch.{Branch}
-use Rattle.fws_ipt_tree.specs.declared.verdict.Seen.{Seen}
-use Rattle.fws_ipt_tree.specs.declared.verdict.Seen.TheVariants.{Entered, Routed}
 use Rattle.fws_ipt_tree.specs.Blocks.{IsBlock, IsPrintedAct}
 use Rattle.fws_ipt_tree.specs.Branches.{HasMarkChains, Leads, PartEntries}
 use Rattle.fws_ipt_put.specs.declared.marks.Mark.{Mark}

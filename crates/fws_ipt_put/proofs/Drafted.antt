@@ -8,6 +8,8 @@ use Rattle.fws_net.specs.declared.site.Site.{Site}
 use Rattle.fws_net.specs.Points.{tops_of}
 use Rattle.fws_tree.specs.Plain.{Plain}
 use Rattle.fws_tree.specs.declared.tables.Tables.{Tables}
+use Rattle.fws_sight.specs.declared.seen.Seen.TheVariants.{Entered, Routed}
+use Rattle.fws_sight.specs.declared.seen.Seen.{Seen}
 use Rattle.fws_ipt.specs.declared.config.IptChain.{IptChain}
 use Rattle.fws_ipt.specs.declared.config.IptGo.{IptGo}
 use Rattle.fws_ipt.specs.declared.config.IptGo.TheVariants as acts
@@ -20,8 +22,6 @@ use Rattle.fws_ipt.specs.Soundness.{is_user_chain}
 use Rattle.fws_ipt.specs.Walk.{act, chain_walk, is_table}
 use Rattle.fws_ipt_print.specs.Printable.{is_printed_act}
 use Rattle.fws_ipt_tree.specs.declared.verdict.Branch.{Branch}
-use Rattle.fws_ipt_tree.specs.declared.verdict.Seen.{Seen}
-use Rattle.fws_ipt_tree.specs.declared.verdict.Seen.TheVariants.{Entered, Routed}
 use Rattle.fws_ipt_tree.specs.declared.verdict.Verdict.{Verdict}
 use Rattle.fws_ipt_tree.specs.Blocks.{IsPrintedAct}
 use Rattle.fws_ipt_tree.specs.Branches.{Leads}

@@ -8,11 +8,11 @@ pub mod Leaves
 pub mod Lists
 pub mod MarksTold
 pub mod Naming
+pub mod NatMarks
 pub mod NatMet
 pub mod Parts
 pub mod Plan
 pub mod Planned
-pub mod Points
 pub mod Presented
 pub mod Printing
 pub mod RootsMet
@@ -20,6 +20,7 @@ pub mod Rows
 pub mod Sizes
 pub mod Standing
 pub mod Supplied
-pub mod Told
+pub mod Visits
 pub mod Ways
 pub mod Whole
+pub mod Written

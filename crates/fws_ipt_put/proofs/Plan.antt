@@ -9,12 +9,13 @@ use Rattle.fws_net.specs.Points.{tops_of}
 use Rattle.fws_net.specs.Transits.{nothing_written}
 use Rattle.fws_tree.specs.declared.tables.Tables.{Tables}
 use Rattle.fws_tree.specs.Plain.{Plain, value}
+use Rattle.fws_sight.specs.declared.seen.Seen.TheVariants.{Entered, Routed}
+use Rattle.fws_sight.specs.declared.seen.Seen.{Seen}
+use Rattle.fws_sight.specs.SightLaws.{HasImages}
 use Rattle.fws_ipt.specs.declared.config.IptChain.{IptChain}
 use Rattle.fws_ipt.specs.declared.config.IptTable.TheVariants.{Filter, Nat, Mangle}
 use Rattle.fws_ipt.specs.declared.hook.Hook.TheVariants.{Prerouting, Input, Forward, Output, Postrouting}
 use Rattle.fws_ipt_tree.specs.declared.verdict.Branch.{Branch}
-use Rattle.fws_ipt_tree.specs.declared.verdict.Seen.{Seen}
-use Rattle.fws_ipt_tree.specs.declared.verdict.Seen.TheVariants.{Entered, Routed}
 use Rattle.fws_ipt_tree.specs.declared.verdict.Verdict.{Verdict}
 use Rattle.fws_ipt_tree.specs.Branches.{PartEntries}
 use Rattle.fws_place.specs.Meaning.{IsPairOf, est_of, point_of}
@@ -24,7 +25,6 @@ use Rattle.fws_ipt_put.specs.Marks.{HasRewrites, IsMarkOf, passing, verdict_of}
 use Rattle.fws_ipt_put.specs.NatRules.{nat_rules}
 use Rattle.fws_ipt_put.specs.Roots.{arriving_rules, sending_rules}
 use Rattle.fws_ipt_put.proofs.Standing.{LeadsIn, Stands}
-use Rattle.fws_ipt_put.proofs.Told.{IsMade}
 
 -- branches that lead to what a tree holds, one for each entry
 pub record Root (site : Site) (chains : List IptChain) (n : ℕ) (seen : Seen) (t : Plain Verdict) (least : ℕ) : Type 0 where
@@ -41,9 +41,9 @@ pub record Known (site : Site) (tables : Tables) : Type 0 where
   pub routed : Plain Verdict
   pub rewrites : List Rewrite
   pub marks : List Mark
-  pub entering_made : IsMade (tops_of site) passing packet entering
-  pub news_made : IsMade (tops_of site) (verdict_of rewrites) tables.fresh.1 news
-  pub routed_made : IsMade (tops_of site) passing behind routed
+  pub entering_made : HasImages (tops_of site) passing packet entering
+  pub news_made : HasImages (tops_of site) (verdict_of rewrites) tables.fresh.1 news
+  pub routed_made : HasImages (tops_of site) passing behind routed
   pub told : (p : Packet) (r : Rec) (b c : Bool) → IsPairOf site p r → (IsLost site p r → ⊥)
       → value packet (point_of p r) ≡ Some b → value behind (point_of p r) ≡ Some c → est_of tables p r ≡ cond (b && c) (Accept nothing_written) Drop
   pub lost : (p : Packet) (r : Rec) → IsPairOf site p r → IsLost site p r → est_of tables p r ≡ Drop

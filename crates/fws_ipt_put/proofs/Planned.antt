@@ -7,6 +7,7 @@ use Rattle.fws_tree.specs.Regular.{AreRegular}
 use Rattle.fws_ipt.specs.declared.config.IptChain.{IptChain}
 use Rattle.fws_ipt.specs.declared.config.IptConfig.{IptConfig}
 use Rattle.fws_ipt_print.specs.Printable.{is_printed_chain, is_printable}
+use Rattle.fws_place.specs.TellingLaws.{PointsAreSeen}
 use Rattle.fws_ipt_put.specs.declared.draft.Draft.{Draft}
 use Rattle.fws_ipt_put.specs.Builtin.{filter_chains, mangle_chains, nat_chains}
 use Rattle.fws_ipt_put.specs.Drafts.{IsDraft, IsFilled}
@@ -67,13 +68,13 @@ module _ (site : Site) (tables : Tables) (k : Known site tables) (draft : Draft)
     plan = subst (Plan site tables k) (sym (drafted.all_are site tables k draft d chains f)) (drafted.plan site tables k draft d chains f closed)
 
 -- the configuration is placed, if it can be printed
-pub placed : (site : Site) (tables : Tables) → AreRegular site tables → (k : Known site tables) (draft : Draft) (d : IsDraft site k.entering k.news k.routed k.marks draft)
+pub placed : PointsAreSeen → (site : Site) (tables : Tables) → AreRegular site tables → (k : Known site tables) (draft : Draft) (d : IsDraft site k.entering k.news k.routed k.marks draft)
     → (c : IptConfig) → IsFilled site draft c.chains → is_printable site c ≡ true → IsPlaced site tables c
-placed site tables regular k draft d c f printable =
+placed seen site tables regular k draft d c f printable =
     let p = plan site tables k draft d c.chains f in
     record {
       printable = printable;
       tracks = refl;
-      new = λ q of_site. new_placed site tables regular k c p q of_site;
-      established = λ q r of_site. est_placed site tables regular k c p q r of_site;
+      new = λ q of_site. new_placed seen site tables regular k c p q of_site;
+      established = λ q r of_site. est_placed seen site tables regular k c p q r of_site;
     }

@@ -14,6 +14,7 @@ use Rattle.fws_net.specs.declared.outcome.Rewrite.{Rewrite}
 use Rattle.fws_tree.specs.declared.row.Row.{Row}
 use Rattle.fws_tree.specs.Plain.{Plain, value}
 use Rattle.fws_tree.specs.Rows.{row_hits}
+use Rattle.fws_sight.specs.SightLaws.{HasImages}
 use Rattle.fws_ipt_tree.specs.declared.verdict.Verdict.{Verdict}
 use Rattle.fws_ipt_tree.specs.declared.verdict.Verdict.TheVariants as verdicts
 use Rattle.fws_ipt_put.specs.declared.marks.Mark.{Mark}
@@ -22,7 +23,6 @@ use Rattle.fws_ipt_put.specs.Gathered.{HaveRewrites, IsRewriteOf, TellsOf, Tells
 use Rattle.fws_ipt_put.specs.Marks.{AreMarks, HasRewrites, HaveBlocks, IsMarkOf, mark_at, marked, passing, same_rewrite, verdict_of, writes}
 use Rattle.fws_ipt_put.proofs.Lists.{none_is, some_is}
 use Rattle.fws_ipt_put.proofs.Printing.{FitsMark}
-use Rattle.fws_ipt_put.proofs.Told.{IsMade}
 
 -- Marks that trees set
 
@@ -30,7 +30,7 @@ passing_none : (b : Bool) (v : ℕ) → passing b ≡ verdicts.Mark v → ⊥
 passing_none true v h = cc
 passing_none false v h = cc
 
-pub sets_none : (tops : List ℕ) (t : Plain Bool) (u : Plain Verdict) → IsMade tops passing t u → SetsMarks tops 0 u
+pub sets_none : (tops : List ℕ) (t : Plain Bool) (u : Plain Verdict) → HasImages tops passing t u → SetsMarks tops 0 u
 sets_none tops t u made p v within is =
     let at = made p within in
     absurd (passing_none at.0 v (some_is (sym at.2 ∙ is)))
@@ -63,7 +63,7 @@ marks_low rewrites (Accept w) v h = by_writing (writes w) h where
     accept_isnt : verdicts.Accept ≡ verdicts.Mark v → ⊥
     accept_isnt h = cc
 
-pub sets_marks : (tops : List ℕ) (t : Plain Outcome) (u : Plain Verdict) (rewrites : List Rewrite) (marks : List Mark) → IsMade tops (verdict_of rewrites) t u
+pub sets_marks : (tops : List ℕ) (t : Plain Outcome) (u : Plain Verdict) (rewrites : List Rewrite) (marks : List Mark) → HasImages tops (verdict_of rewrites) t u
     → map (λ (mark : Mark). mark.rewrite) marks ≡ rewrites → SetsMarks tops (length marks) u
 sets_marks tops t u rewrites marks made same p v within is =
     let at = made p within in

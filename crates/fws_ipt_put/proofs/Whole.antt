@@ -7,14 +7,14 @@ use Rattle.fws_net.specs.Points.{tops_of}
 use Rattle.fws_tree.specs.declared.tables.Tables.{Tables}
 use Rattle.fws_tree.specs.Plain.{Plain}
 use Rattle.fws_tree.specs.Regular.{AreRegular}
+use Rattle.fws_sight.specs.SightLaws.{HasImages}
 use Rattle.fws_ipt.specs.declared.config.IptChain.{IptChain}
 use Rattle.fws_ipt.specs.declared.config.IptConfig.{IptConfig}
-use Rattle.fws_ipt_tree.specs.declared.verdict.Seen.TheVariants.{Entered, Routed}
 use Rattle.fws_ipt_tree.specs.declared.verdict.Verdict.{Verdict}
-use Rattle.fws_ipt_tree.specs.Shown.{IsTold}
 use Rattle.fws_place.specs.declared.clause.Clause.TheVariants.{DropsByOneView}
 use Rattle.fws_place.specs.Fits.{Fits, Meets}
 use Rattle.fws_place.specs.FitLaws.{FittingPairsAreTold, LostPairsAreDropped}
+use Rattle.fws_place.specs.TellingLaws.{PointsAreSeen}
 use Rattle.fws_place.specs.Seen.{IsAcceptedAlike, IsAcceptedSomewhere, Tells}
 use Rattle.fws_ipt_put.specs.declared.draft.Draft.{Draft}
 use Rattle.fws_ipt_put.specs.declared.marks.Mark.{Mark}
@@ -25,26 +25,15 @@ use Rattle.fws_ipt_put.proofs.Plan.{Known}
 use Rattle.fws_ipt_put.proofs.Planned.{placed}
 use Rattle.fws_ipt_put.proofs.Presented.{printable}
 use Rattle.fws_ipt_put.proofs.Supplied.{known_fit}
-use Rattle.fws_ipt_put.proofs.Told.{IsMade, fresh_told, packet_told, pair_told, told_made}
 
 module _ (site : Site) (tables : Tables) (regular : AreRegular site tables) where
   abbrev tops : List ℕ
   tops = tops_of site
 
-  -- rules can tell what the trees hold
-  pub packet_is_told : (packet : Plain Bool) (entering : Plain Verdict) → Tells site (λ p r. IsAcceptedSomewhere site tables p) packet → IsMade tops passing packet entering → IsTold Entered tops entering
-  packet_is_told packet entering tells made = told_made Entered tops passing packet entering made (packet_told site tables regular packet tells)
-
-  pub fresh_is_told : (rewrites : List Rewrite) (news : Plain Verdict) → IsMade tops (verdict_of rewrites) tables.fresh.1 news → IsTold Entered tops news
-  fresh_is_told rewrites news made = told_made Entered tops (verdict_of rewrites) tables.fresh.1 news made (fresh_told site tables regular)
-
-  pub behind_is_told : (behind : Plain Bool) (routed : Plain Verdict) → Tells site (IsAcceptedAlike site tables) behind → IsMade tops passing behind routed → IsTold Routed tops routed
-  behind_is_told behind routed tells made = told_made Routed tops passing behind routed made (pair_told site tables regular behind tells)
-
   -- what is known of them
   abbrev known_of : FittingPairsAreTold → LostPairsAreDropped → Fits Iptables site tables → (packet behind : Plain Bool) (entering news routed : Plain Verdict) (rewrites : List Rewrite) (marks : List Mark)
       → Tells site (λ p r. IsAcceptedSomewhere site tables p) packet → Tells site (IsAcceptedAlike site tables) behind
-      → IsMade tops passing packet entering → IsMade tops (verdict_of rewrites) tables.fresh.1 news → IsMade tops passing behind routed
+      → HasImages tops passing packet entering → HasImages tops (verdict_of rewrites) tables.fresh.1 news → HasImages tops passing behind routed
       → AreMarks tops tables.fresh.1 rewrites marks → Known site tables
   known_of told lost fits packet behind entering news routed rewrites marks packet_tells behind_tells entering_made news_made routed_made are =
       let meets : Meets site tables DropsByOneView = fits 1 DropsByOneView (omega arith) in
@@ -66,14 +55,14 @@ module _ (site : Site) (tables : Tables) (regular : AreRegular site tables) wher
         marks_known = are.known;
       }
 
-  pub all_placed : FittingPairsAreTold → LostPairsAreDropped → Fits Iptables site tables → (packet behind : Plain Bool) (entering news routed : Plain Verdict) (rewrites : List Rewrite) (marks : List Mark)
+  pub all_placed : PointsAreSeen → FittingPairsAreTold → LostPairsAreDropped → Fits Iptables site tables → (packet behind : Plain Bool) (entering news routed : Plain Verdict) (rewrites : List Rewrite) (marks : List Mark)
       → Tells site (λ p r. IsAcceptedSomewhere site tables p) packet → Tells site (IsAcceptedAlike site tables) behind
-      → IsMade tops passing packet entering → IsMade tops (verdict_of rewrites) tables.fresh.1 news → IsMade tops passing behind routed
+      → HasImages tops passing packet entering → HasImages tops (verdict_of rewrites) tables.fresh.1 news → HasImages tops passing behind routed
       → AreMarks tops tables.fresh.1 rewrites marks
       → (draft : Draft) (chains : List IptChain) → IsDraft site entering news routed marks draft → IsFilled site draft chains
       → length marks + 5 < 2 ^ 32 → length draft.chains < 2 ^ 64 → IsPlaced site tables (record { chains = chains })
-  all_placed told lost fits packet behind entering news routed rewrites marks packet_tells behind_tells entering_made news_made routed_made are draft chains d f few many =
+  all_placed seen told lost fits packet behind entering news routed rewrites marks packet_tells behind_tells entering_made news_made routed_made are draft chains d f few many =
       let k = known_of told lost fits packet behind entering news routed rewrites marks packet_tells behind_tells entering_made news_made routed_made are in
       let config : IptConfig = record { chains = chains } in
-      placed site tables regular k draft d config f
+      placed seen site tables regular k draft d config f
       (printable site tables k draft d config f (known_fit tops tables.fresh.1 marks are.known) (omega (arith, few)) many)

@@ -112,7 +112,3 @@ pub record AreMarks (tops : List ℕ) (t : Plain Outcome) (rewrites : List Rewri
   pub has : HasRewrites tops t rewrites
   pub marked : map (λ (mark : Mark). mark.rewrite) marks ≡ rewrites
   pub known : All (IsMarkOf tops t) marks
-
--- each value of the second tree is made of the first one's
-abbrev pub IsMade : {L : Type 0} → List ℕ → (L → Verdict) → Plain L → Plain Verdict → Type 0
-IsMade {L} tops gives t u = (x : List ℕ) → IsWithin tops x → (a : L) × (value t x ≡ Some a) × (value u x ≡ Some (gives a))

@@ -1,19 +1,20 @@
 //! The chains of a policy, without the rules that send packets into the chains of trees.
 
 ghost use Rattle.std.specs.Prelude.{◌≡◌, ◌+◌, ◌<◌, ◌≤◌, ◌^◌, [], ◌∷◌, ◌++◌, length, IfOk, OnOk, All};
-ghost use Rattle.fws_ipt_tree.specs.declared.verdict.Seen.TheVariants as seens;
-ghost use Rattle.fws_ipt_tree.specs.Shown.{IsTold};
 ghost use Rattle.fws_net.specs.Points.{tops_of};
 ghost use Rattle.fws_net.specs.Routes.{IsSound};
+ghost use Rattle.fws_sight.specs.declared.seen.Seen.TheVariants as seens;
+ghost use Rattle.fws_sight.specs.Shown.{IsTold};
 ghost use Rattle.fws_ipt_put.specs.Drafts.{IsDraft, SetsMarks};
 ghost use Rattle.fws_ipt_put.specs.Marks.{HaveBlocks};
 
 use crate::builtin::{mangle_chains, put_filter, put_marks, put_nat};
 use crate::marks::Mark;
 use fws_ipt::{IptChain, IptTable};
-use fws_ipt_tree::{Branch, Seen, Verdict, put_tree};
+use fws_ipt_tree::{Branch, Verdict, put_tree};
 use fws_net::Site;
 use fws_num::{Items, Memory};
+use fws_sight::Seen;
 use fws_tree::Tree;
 use std::alloc::Global;
 

@@ -3,7 +3,8 @@
 ghost use Rattle.std.specs.Prelude.{◌≡◌, ◌+◌, ◌<◌, ◌^◌, ℕ, Bool, true, List, Some, length, slice_get, IfOk, OnOk, All};
 ghost use Rattle.fws_box.specs.Sides.{IsWithin};
 ghost use Rattle.fws_tree.specs.Plain.{value};
-ghost use Rattle.fws_ipt_put.specs.Marks.{IsMade, mark_at, marked, passing, verdict_of, writes};
+ghost use Rattle.fws_sight.specs.SightLaws.{HasImages};
+ghost use Rattle.fws_ipt_put.specs.Marks.{mark_at, marked, passing, verdict_of, writes};
 
 use fws_ipt_tree::Verdict;
 use fws_net::{Outcome, Rewrite};
@@ -110,9 +111,9 @@ pub(crate) fn labelled(
     ensures entering_tops { IfOk result (λ l. l.entering.0 ≡ views.now.packet.0) }
     ensures news_tops { IfOk result (λ l. l.news.0 ≡ fresh.now.0) }
     ensures routed_tops { IfOk result (λ l. l.routed.0 ≡ views.now.behind.0) }
-    ensures entering { IfOk result (λ l. IsMade views.now.packet.0 passing views.now.packet.1 l.entering.1) }
-    ensures news { IfOk result (λ l. IsMade fresh.now.0 (verdict_of rewrites.now.keys) fresh.now.1 l.news.1) }
-    ensures routed { IfOk result (λ l. IsMade views.now.behind.0 passing views.now.behind.1 l.routed.1) }
+    ensures entering { IfOk result (λ l. HasImages views.now.packet.0 passing views.now.packet.1 l.entering.1) }
+    ensures news { IfOk result (λ l. HasImages fresh.now.0 (verdict_of rewrites.now.keys) fresh.now.1 l.news.1) }
+    ensures routed { IfOk result (λ l. HasImages views.now.behind.0 passing views.now.behind.1 l.routed.1) }
 {
     let by_mark = ByMark { rewrites };
     let entering = views.packet.relabel(alloc, &ByTruth)?;

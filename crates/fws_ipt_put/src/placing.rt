@@ -1,8 +1,6 @@
 //! Tables placed.
 
 ghost use Rattle.std.specs.Prelude.{◌≡◌, ◌<◌, ◌+◌, ◌^◌, ◌≤◌, length, map, Err, IfOk, OnOk, All};
-ghost use Rattle.fws_ipt_tree.specs.Shown.{IsTold};
-ghost use Rattle.fws_ipt_tree.specs.declared.verdict.Seen.TheVariants as seens;
 ghost use Rattle.fws_net.specs.Points.{tops_of};
 ghost use Rattle.fws_net.specs.Routes.{IsSound};
 ghost use Rattle.fws_net.specs.declared.packet.Lang.TheVariants as langs;
@@ -16,12 +14,14 @@ use crate::labels::labelled;
 use crate::layout::filled;
 use crate::marking::marks_for;
 use fws_ipt::IptConfig;
-use fws_net::{Lang, Site};
+use fws_ipt_tree::Verdict;
+use fws_net::{Lang, Outcome, Site};
 use fws_num::Memory;
 use fws_place::{
     Breach, FitAnswer, PlaceAnswer, Views, check, fitting_pairs_are_told, lost_pairs_are_dropped,
-    seen,
+    points_are_seen, seen, views_are_told,
 };
+use fws_sight::relabelled_trees_are_told;
 use fws_tree::Tables;
 use std::alloc::Global;
 
@@ -38,6 +38,10 @@ fn put_tables(alloc: Global, site: &Site, t: &Tables, views: &Views) -> Result<I
 {
     fitting_pairs_are_told();
     lost_pairs_are_dropped();
+    points_are_seen();
+    views_are_told();
+    relabelled_trees_are_told::<bool, Verdict>();
+    relabelled_trees_are_told::<Outcome, Verdict>();
     let known = marks_for(alloc, &t.fresh)?;
     let trees = labelled(alloc, &t.fresh, views, &known.rewrites)?;
     let marks = known.marks.as_slice();

@@ -1,13 +1,11 @@
 -- The chain of a cut decides as its tree does.
-use Rattle.std.proofs.Common.{◌≡◌, ◌⊎◌, ℕ, zero, suc, ◌+◌, ◌<◌, ◌≤◌, Bool, true, false, ◌&&◌, cond, Option, Some, None, List, [], ◌∷◌, ◌++◌, length, inl, inr, refl, sym, ◌∙◌, ap, subst, arith, append_assoc, length-append}
-use Rattle.std.proofs.lemmas.Bool.{cond-true, cond-false, cases_Bool, or_parts, false_from_ne_true, eqb-true, le-leb}
+use Rattle.std.proofs.Common.{◌≡◌, ◌⊎◌, ℕ, zero, suc, ◌+◌, ◌<◌, ◌≤◌, Bool, true, false, ◌&&◌, Option, Some, None, List, [], ◌∷◌, ◌++◌, length, inl, inr, refl, sym, ◌∙◌, ap, subst, arith, append_assoc, length-append}
+use Rattle.std.proofs.lemmas.Bool.{cond-false, false_from_ne_true, eqb-true}
 use Rattle.std.proofs.lemmas.List.Elements.{All-weaker, recursion_from_All, All-cons}
 use Rattle.std.proofs.lemmas.List.Folds.{list_any_none}
-use Rattle.std.proofs.lemmas.List.Sums.{sum_by-cons}
-use Rattle.std.specs.List.{AllByRecursion, count_by, list_any}
-use Rattle.std.specs.Option.{option_map, option_map_or}
-use Rattle.std.specs.Prelude.{nat_eq, nat_le, slice_get, slice_index, slice_index_or, is_none, All, MatchOption}
-use Rattle.fws_iv.specs.Ivs.{has}
+use Rattle.std.specs.List.{AllByRecursion, list_any}
+use Rattle.std.specs.Option.{option_map_or}
+use Rattle.std.specs.Prelude.{nat_eq, slice_get, slice_index, slice_index_or, is_none, All, MatchOption}
 use Rattle.fws_net.specs.declared.packet.Packet.{Packet}
 use Rattle.fws_net.specs.declared.site.Site.{Site}
 use Rattle.fws_ipt.specs.declared.config.IptChain.{IptChain}
@@ -22,20 +20,24 @@ use Rattle.fws_ipt.specs.declared.passage.Passage.{Passage}
 use Rattle.fws_ipt.specs.Walk.{act, chain_walk, is_table, rules_at, rules_walk, view_at}
 use Rattle.fws_tree.specs.declared.node.Kid.{Kid}
 use Rattle.fws_tree.specs.Plain.{Plain, leaf, cut}
+use Rattle.fws_sight.specs.declared.field.PacketField.{PacketField}
+use Rattle.fws_sight.specs.declared.seen.Seen.{Seen}
+use Rattle.fws_sight.specs.Cuts.{PartValues, kids_of}
+use Rattle.fws_sight.specs.Fields.{top_of}
+use Rattle.fws_sight.specs.Reached.{IsOpen, IsTopped, Reaches, ReachesKid}
+use Rattle.fws_sight.specs.Shown.{seen_field, value_of}
 use Rattle.fws_ipt_tree.specs.declared.coming.Coming.{Coming}
-use Rattle.fws_ipt_tree.specs.declared.field.PacketField.{PacketField}
-use Rattle.fws_ipt_tree.specs.declared.verdict.Seen.{Seen}
 use Rattle.fws_ipt_tree.specs.declared.verdict.Verdict.{Verdict}
 use Rattle.fws_ipt_tree.specs.declared.verdict.Verdict.TheVariants.{Accept, Drop, Mark}
 use Rattle.fws_ipt_tree.specs.Acts.{leaf_act}
 use Rattle.fws_ipt_tree.specs.Branches.{verdict_end, HasMarkChains, IsMarkChain}
 use Rattle.fws_ipt_tree.specs.Comings.{narrowed, IsCovered}
-use Rattle.fws_ipt_tree.specs.Pieces.{hits, suits, top_of, may_come, MayMeet}
-use Rattle.fws_ipt_tree.specs.Reached.{Decides, IsOpen, IsTopped, LeavesOut, Reaches, ReachesKid}
-use Rattle.fws_ipt_tree.specs.Rules.{act_at, AreCutRules, AreKidRules, PartValues}
-use Rattle.fws_ipt_tree.specs.Shown.{seen_field, value_of}
-use Rattle.fws_ipt_tree.proofs.Sees.{has_same, shown_value, open_unseen, open_proto, may_narrow, may_cover}
-use Rattle.fws_ipt_tree.proofs.Walked.{kids_of, Answers, walk_kids, reach_more, reach_other}
+use Rattle.fws_ipt_tree.specs.Pieces.{may_come, MayMeet}
+use Rattle.fws_ipt_tree.specs.Reached.{Decides, LeavesOut}
+use Rattle.fws_ipt_tree.specs.Rules.{act_at, AreCutRules, AreKidRules}
+use Rattle.fws_ipt_tree.proofs.Flowing.{may_narrow, may_cover}
+use Rattle.fws_ipt_tree.proofs.Sight.{open_proto, Sight}
+use Rattle.fws_ipt_tree.proofs.Walked.{Answers, walk_kids}
 
 -- ---- chains by their numbers
 
@@ -106,41 +108,6 @@ leaf_decides tops seen table least before chains coming (Mark v) le h = record {
 
 -- ---- cuts
 
-none_counted : {X : Type 0} (p : X → Bool) (xs : List X) → list_any p xs ≡ false → count_by p xs ≡ 0
-none_counted p [] e = refl
-none_counted p (x ∷ xs) e =
-    let parts = or_parts (p x) (list_any p xs) e in
-    let a = sum_by-cons (λ x. cond (p x) 1 0) x xs in
-    let b = ap (λ x. cond x 1 0) parts.0 in
-    let c = none_counted p xs parts.1 in
-    a ∙ ap (λ n. n + count_by p xs) b ∙ ap (λ n. 0 + n) c
-
--- what no other kid has is had by the one that is left
-left_over : {X : Type 0} (p : X → Bool) (front back : List X) (other : X) → count_by p (front ++ other ∷ back) ≡ 1 → list_any p (front ++ back) ≡ false → p other ≡ true
-left_over p [] back other n e = elim (cases_Bool (p other)) [
-  | inl y ↦ y
-  | inr z ↦ (let a = sum_by-cons (λ x. cond (p x) 1 0) other back ∙ ap (λ n. n + count_by p back) (ap (λ x. cond x 1 0) z) ∙ ap (λ n. 0 + n) (none_counted p back e) in
-      let bad : ◌≡◌ {A = ℕ} 0 1 = sym a ∙ n in absurd (omega (arith, bad)))
-]
-left_over p (x ∷ front) back other n e =
-    let parts = or_parts (p x) (list_any p (front ++ back)) e in
-    let a = sum_by-cons (λ x. cond (p x) 1 0) x (front ++ other ∷ back) ∙ ap (λ n. n + count_by p (front ++ other ∷ back)) (ap (λ x. cond x 1 0) parts.0) in
-    let z : 0 + count_by p (front ++ other ∷ back) ≡ 1 = sym a ∙ n in
-    left_over p front back other (omega (arith, z)) parts.1
-
-not_hit : (kids : List Kid) (b : Bool) (x v : ℕ) → b ≡ true → x ≡ v → list_any (λ kid. b && has kid.set x) kids ≡ false → list_any (λ kid. has kid.set v) kids ≡ false
-not_hit kids b x v y e h =
-    subst (λ z. list_any (λ kid. has kid.set z) kids ≡ false) e (subst (λ c. list_any (λ kid. c && has kid.set x) kids ≡ false) y h)
-
--- where no other set is hit, the set that is left is open
-open_other : (tops : List ℕ) (seen : Seen) (f : ℕ) (field : PacketField) (q : Packet) → IsTopped tops seen q → slice_index tops f ≡ top_of field → seen_field seen f ≡ Some field
-    → (front back : List Kid) (other : Kid) → PartValues (top_of field) (front ++ other ∷ back) → list_any (λ kid. hits field kid.set q) (front ++ back) ≡ false → IsOpen seen q f other.set
-open_other tops seen f field q topped top-is e front back other parted none-hit = λ v a s.
-    let suit : suits field q.proto ≡ true = sym (has_same seen f field q.proto e) ∙ a in
-    let le : v ≤ top_of field = subst (λ n. v ≤ n) top-is (topped f v a s) in
-    left_over (λ kid. has kid.set v) front back other (parted v ∙ cond-true (nat_le v (top_of field)) 1 0 (le-leb v (top_of field) le))
-    (not_hit (front ++ back) (suits field q.proto) (value_of field q) v suit (shown_value seen f field q v e s) none-hit)
-
 each_split : (P : Kid → Type 0) (front back : List Kid) (other : Kid) → AllByRecursion P (front ++ other ∷ back) → AllByRecursion P (front ++ back) × P other
 each_split P [] back other h = (h.1, h.0)
 each_split P (k ∷ front) back other h = let r = each_split P front back other h.1 in ((h.0, r.0), r.1)
@@ -152,44 +119,44 @@ record Scene (tops : List ℕ) (seen : Seen) (f : ℕ) (coming : Coming) (kids :
   parted : (field : PacketField) → seen_field seen f ≡ Some field → (slice_index tops f ≡ top_of field) × PartValues (top_of field) kids
 
 -- the rules of a cut decide by one of its kids that is open
-rules_answer : (tops : List ℕ) (seen : Seen) (f : ℕ) (coming : Coming) (acts : List IptGo) (tree : ℕ → Plain Verdict)
+rules_answer : Sight → (tops : List ℕ) (seen : Seen) (f : ℕ) (coming : Coming) (acts : List IptGo) (tree : ℕ → Plain Verdict)
     (enter : ℕ → Passage → ChainEnd) (site : Site) (p : Packet) (is_est : Bool) (hook : Hook) (m : Passage)
     (front back : List Kid) (other : Kid) (tests : List IptRule)
     → Scene tops seen f coming (front ++ other ∷ back) m.packet
     → AllByRecursion (λ kid. IsOpen seen m.packet f kid.set → (next : Passage → ChainEnd) → Answers (Reaches seen m.packet (tree kid.node)) m (act enter next site p hook (act_at acts kid.node) m)) (front ++ other ∷ back)
     → (o : Option PacketField) → seen_field seen f ≡ o → MatchOption o (tests ≡ []) (λ field. AreKidRules coming field acts (front ++ back) tests)
     → Answers (ReachesKid seen m.packet f (kids_of tree (front ++ other ∷ back))) m (rules_walk enter site p is_est hook (tests ++ record { cond = []; go = act_at acts other.node } ∷ []) m)
-rules_answer tops seen f coming acts tree enter site p is_est hook m front back other tests scene each None e sorted =
+rules_answer sight tops seen f coming acts tree enter site p is_est hook m front back other tests scene each None e sorted =
     let q = m.packet in
     let last : List IptRule = record { cond = []; go = act_at acts other.node } ∷ [] in
-    let open' : IsOpen seen q f other.set = open_unseen seen f q other.set e in
+    let open' : IsOpen seen q f other.set = sight.unseen seen f q other.set e in
     let a = (each_split (λ kid. IsOpen seen q f kid.set → (next : Passage → ChainEnd) → Answers (Reaches seen q (tree kid.node)) m (act enter next site p hook (act_at acts kid.node) m)) front back other each).1 open' (rules_walk enter site p is_est hook []) in
-    (a.0, reach_other seen q f a.0 tree front back other open' a.1, ap (λ l. rules_walk enter site p is_est hook (l ++ last) m) sorted ∙ a.2)
-rules_answer tops seen f coming acts tree enter site p is_est hook m front back other tests scene each (Some field) e sorted =
+    (a.0, sight.reached seen q f a.0 tree front back other (inr (open', a.1)), ap (λ l. rules_walk enter site p is_est hook (l ++ last) m) sorted ∙ a.2)
+rules_answer sight tops seen f coming acts tree enter site p is_est hook m front back other tests scene each (Some field) e sorted =
     let q = m.packet in
     let last : List IptRule = record { cond = []; go = act_at acts other.node } ∷ [] in
     let parts = each_split (λ kid. IsOpen seen q f kid.set → (next : Passage → ChainEnd) → Answers (Reaches seen q (tree kid.node)) m (act enter next site p hook (act_at acts kid.node) m)) front back other each in
     let known = scene.parted field e in
     let meets : MayMeet coming field (view_at site is_est hook m) = record {
       comes = scene.comes;
-      below = λ s. subst (λ n. value_of field q ≤ n) known.0 (scene.topped f (value_of field q) (has_same seen f field q.proto e ∙ s) (ap (λ o. option_map (λ g. value_of g q) o) e));
+      below = λ s. subst (λ n. value_of field q ≤ n) known.0 (scene.topped f (value_of field q) ((sight.agree seen f field e).protocols q.proto ∙ s) ((sight.agree seen f field e).value q));
     } in
-    elim (walk_kids enter site p is_est hook m seen f field coming acts tree e meets (front ++ back) tests last sorted parts.0) [
-      | inl a ↦ (a.0, reach_more seen q f a.0 tree front back other a.1, a.2)
-      | inr b ↦ (let open' : IsOpen seen q f other.set = open_other tops seen f field q scene.topped known.0 e front back other known.1 b.0 in
+    elim (walk_kids sight.agree enter site p is_est hook m seen f field coming acts tree e meets (front ++ back) tests last sorted parts.0) [
+      | inl a ↦ (a.0, sight.reached seen q f a.0 tree front back other (inl a.1), a.2)
+      | inr b ↦ (let open' : IsOpen seen q f other.set = sight.left seen tops f field q front back other e known.0 scene.topped known.1 b.0 in
           let a = parts.1 open' (rules_walk enter site p is_est hook []) in
-          (a.0, reach_other seen q f a.0 tree front back other open' a.1, b.1 ∙ a.2))
+          (a.0, sight.reached seen q f a.0 tree front back other (inr (open', a.1)), b.1 ∙ a.2))
     ]
 
 -- the chain of a cut decides as the cut does
-pub cut_decides : (tops : List ℕ) (seen : Seen) (least before f : ℕ) (chains : List IptChain) (chain : IptChain) (coming : Coming) (comings : ℕ → Coming) (acts : List IptGo) (tree : ℕ → Plain Verdict) (kids : List Kid)
+pub cut_decides : Sight → (tops : List ℕ) (seen : Seen) (least before f : ℕ) (chains : List IptChain) (chain : IptChain) (coming : Coming) (comings : ℕ → Coming) (acts : List IptGo) (tree : ℕ → Plain Verdict) (kids : List Kid)
     → least ≤ length chains → before ≤ length chains
     → ((field : PacketField) → seen_field seen f ≡ Some field → (slice_index tops f ≡ top_of field) × PartValues (top_of field) kids)
     → All (λ kid. IsCovered (narrowed f kid.set coming) (comings kid.node)) kids
     → All (λ kid. Decides tops seen least before chains (comings kid.node) (tree kid.node) (act_at acts kid.node)) kids
     → AreCutRules seen f coming acts kids chain.rules
     → Decides tops seen least before (chains ++ chain ∷ []) coming (cut f (kids_of tree kids)) (goes.Goto (length chains))
-cut_decides tops seen least before f chains chain coming comings acts tree kids late begun parted covered decided made = record {
+cut_decides sight tops seen least before f chains chain coming comings acts tree kids late begun parted covered decided made = record {
   at = λ further site p is_est hook n path next m size out comes topped.
       let q = m.packet in
       let longer = length-append chains (chain ∷ []) in
@@ -216,7 +183,7 @@ cut_decides tops seen least before f chains chain coming comings acts tree kids 
         let each : All P kids = λ k d below o next.
         let kid = slice_index_or kids k d in
         let may : may_come (comings kid.node) q.proto ≡ true = may_cover (narrowed f kid.set coming) (comings kid.node) q.proto (covered k d below)
-        (may_narrow f kid.set coming q.proto (open_proto seen f q kid.set o) comes) in
+        (may_narrow f kid.set coming q.proto (open_proto sight.agree seen f q kid.set o) comes) in
         let r = (decided k d below).at (chain ∷ further) site p is_est hook n (c ∷ path) next m (size n refl) out may topped in
         (r.0, r.1, ap (λ l. act (chain_walk l site p is_est hook n (c ∷ path)) next site p hook (act_at acts kid.node) m) same ∙ r.2) in
         let whole : List Kid = made.front ++ made.other ∷ made.back in
@@ -225,7 +192,7 @@ cut_decides tops seen least before f chains chain coming comings acts tree kids 
           topped = topped;
           parted = λ field e. let k = parted field e in (k.0, subst (λ l. PartValues (top_of field) l) made.split k.1);
         } in
-        let r = rules_answer tops seen f coming acts tree enter site p is_est hook m made.front made.back made.other made.tests scene
+        let r = rules_answer sight tops seen f coming acts tree enter site p is_est hook m made.front made.back made.other made.tests scene
         (subst (λ l. AllByRecursion P l) made.split (recursion_from_All P kids each)) (seen_field seen f) refl made.sorted in (
           r.0,
           subst (λ l. ReachesKid seen q f (kids_of tree l) r.0) (sym made.split) r.1,

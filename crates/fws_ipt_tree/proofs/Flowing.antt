@@ -1,15 +1,18 @@
 -- What flows to nodes.
-use Rattle.std.proofs.Common.{◌≡◌, ℕ, ◌+◌, ◌<◌, Some, List, length, get_or, set, take, slice_get, inl, inr, sym, ◌∙◌, subst}
-use Rattle.std.proofs.lemmas.Bool.{cases_eq}
+use Rattle.std.proofs.Common.{◌≡◌, ℕ, ◌+◌, ◌<◌, Bool, true, false, ◌&&◌, cond, nat_eq, refl, ◌∙◌, Some, List, length, get_or, set, take, slice_get, inl, inr, sym, subst}
+use Rattle.std.proofs.lemmas.Bool.{cases_eq, cond_both, cond-true, eqb-true, and_from}
 use Rattle.std.proofs.lemmas.List.{get_or-set_same, get_or-set_other}
 use Rattle.std.proofs.lemmas.List.Elements.{All-from_recursion, All-get_or, All-weaker, All-more}
 use Rattle.std.specs.List.{AllByRecursion}
 use Rattle.std.specs.Prelude.{All}
+use Rattle.fws_iv.specs.declared.iv.Iv.{Iv}
+use Rattle.fws_iv.specs.Ivs.{has}
 use Rattle.fws_tree.specs.declared.node.Kid.{Kid}
 use Rattle.fws_tree.specs.declared.node.Node.{Node}
 use Rattle.fws_tree.specs.declared.node.Node.TheVariants.{Leaf, Cut}
 use Rattle.fws_ipt_tree.specs.declared.coming.Coming.{Coming}
 use Rattle.fws_ipt_tree.specs.Comings.{both, narrowed, coming_at, IsCovered, Flows}
+use Rattle.fws_ipt_tree.specs.Pieces.{may_come}
 
 pub covered-self : (c : Coming) → IsCovered c c
 covered-self c = record { tcp = λ h. h; udp = λ h. h }
@@ -59,3 +62,33 @@ flows_cut nodes old new k f ks at same h = λ g ls is.
 
 pub flows_leaf : (nodes : List Node) (cs : List Coming) (k n : ℕ) → slice_get nodes k ≡ Some (Leaf n) → Flows nodes cs k
 flows_leaf nodes cs k n at = λ f ks is. let e : Some (Leaf n) ≡ Some (Cut f ks) = sym at ∙ is in absurd (cc)
+
+-- ---- what comes
+
+pub may_narrow : (f : ℕ) (set : List Iv) (c : Coming) (proto : ℕ) → (nat_eq f 1 ≡ true → has set proto ≡ true) → may_come c proto ≡ true → may_come (narrowed f set c) proto ≡ true
+may_narrow f set c proto h e = cond_both (nat_eq f 1) (record { tcp = c.tcp && has set 6; udp = c.udp && has set 17 }) c (λ d. may_come d proto ≡ true)
+    (λ y. let m = h y in
+    cond_both (nat_eq proto 6) (c.tcp && has set 6) (cond (nat_eq proto 17) (c.udp && has set 17) true) (λ b. b ≡ true)
+    (λ six. and_from c.tcp (has set 6) (sym (cond-true (nat_eq proto 6) c.tcp (cond (nat_eq proto 17) c.udp true) six) ∙ e) (subst (λ n. has set n ≡ true) (eqb-true proto 6 six) m))
+    (λ no. cond_both (nat_eq proto 17) (c.udp && has set 17) true (λ b. b ≡ true)
+    (λ udp. and_from c.udp (has set 17) (of_udp (nat_eq proto 6) (nat_eq proto 17) c.tcp c.udp no udp e) (subst (λ n. has set n ≡ true) (eqb-true proto 17 udp) m))
+    (λ n. refl)))
+    (λ n. e)
+  where
+    of_udp : (a b x y : Bool) → a ≡ false → b ≡ true → cond a x (cond b y true) ≡ true → y ≡ true
+    of_udp true b x y p q e = absurd (cc)
+    of_udp false true x y p q e = e
+    of_udp false false x y p q e = absurd (cc)
+
+pub may_cover : (c d : Coming) (proto : ℕ) → IsCovered c d → may_come c proto ≡ true → may_come d proto ≡ true
+may_cover c d proto h e = both (nat_eq proto 6) (nat_eq proto 17) c.tcp d.tcp c.udp d.udp h.tcp h.udp e
+  where
+    both : (a b x x' y y' : Bool) → (x ≡ true → x' ≡ true) → (y ≡ true → y' ≡ true) → cond a x (cond b y true) ≡ true → cond a x' (cond b y' true) ≡ true
+    both true b x x' y y' f g e = f e
+    both false true x x' y y' f g e = g e
+    both false false x x' y y' f g e = refl
+
+-- where both may come, all do
+pub all_come : (coming : Coming) → IsCovered both coming → (proto : ℕ) → may_come coming proto ≡ true
+all_come coming h proto = may_cover both coming proto h
+    (cond_both (nat_eq proto 6) true (cond (nat_eq proto 17) true true) (λ b. b ≡ true) (λ y. refl) (λ n. cond_both (nat_eq proto 17) true true (λ b. b ≡ true) (λ y. refl) (λ n'. refl)))

@@ -1,15 +1,11 @@
 pub mod Ended
 pub mod Entered
 pub mod Flowing
-pub mod Freedom
 pub mod Hits
 pub mod Intervals
 pub mod Led
 pub mod Made
 pub mod Naming
-pub mod Parted
-pub mod Points
-pub mod Sees
+pub mod Sight
 pub mod Sorted
-pub mod Trees
 pub mod Walked

@@ -1,13 +1,13 @@
 -- What is made of one node more.
-use Rattle.std.proofs.Common.{◌≡◌, ◌≢◌, ◌⊎◌, ℕ, zero, suc, ◌+◌, ◌<◌, ◌≤◌, true, false, ◌&&◌, not, ◌||◌, cond, Option, Some, None, List, [], ◌∷◌, ◌++◌, length, get_or, slice_get, inl, inr, refl, sym, ◌∙◌, ap, subst, arith, append_assoc, length-append, append-nil}
+use Rattle.std.proofs.Common.{◌≡◌, ◌≢◌, ◌⊎◌, ℕ, zero, suc, ◌+◌, ◌<◌, ◌≤◌, true, false, ◌&&◌, not, ◌||◌, cond, Option, Some, None, List, [], ◌∷◌, ◌++◌, length, slice_get, inl, inr, refl, sym, ◌∙◌, ap, subst, arith, append_assoc, length-append, append-nil}
 use Rattle.std.proofs.lemmas.Bool.{and_from, and_parts, or_right, cases_eq}
 use Rattle.std.proofs.lemmas.List.{get_or_push, get_or_append_left}
 use Rattle.std.proofs.lemmas.List.Elements.{All-push, All-from_recursion}
 use Rattle.std.proofs.lemmas.List.Folds.{list_all-append}
-use Rattle.std.proofs.lemmas.Option.{none-some, same_Some, slice_get-get_or, slice_get_within}
+use Rattle.std.proofs.lemmas.Option.{none-some, same_Some, slice_get_within}
 use Rattle.std.specs.List.{AllByRecursion, list_all}
 use Rattle.std.specs.Option.{option_map_or}
-use Rattle.std.specs.Prelude.{All, MatchOption, is_none, is_some, nat_le, slice_index, slice_index_or}
+use Rattle.std.specs.Prelude.{All, MatchOption, is_none, is_some, nat_le, slice_index_or}
 use Rattle.fws_net.specs.declared.condition.Lit.{Lit}
 use Rattle.fws_net.specs.declared.site.Site.{Site}
 use Rattle.fws_net.specs.Points.{tops_of}
@@ -22,48 +22,40 @@ use Rattle.fws_ipt.specs.Walk.{is_table}
 use Rattle.fws_tree.specs.declared.node.Kid.{Kid}
 use Rattle.fws_tree.specs.declared.node.Node.{Node}
 use Rattle.fws_tree.specs.declared.node.Node.TheVariants.{Leaf, Cut}
-use Rattle.fws_tree.specs.Plain.{Plain, leaf, cut, IsReduced}
+use Rattle.fws_tree.specs.Plain.{Plain, leaf, cut, Kids, none, kid}
 use Rattle.fws_tree.specs.Shared.{IsShared, subtree_of}
+use Rattle.fws_tree.specs.Subtrees.{IsSubtree, IsKidSubtree}
 use Rattle.fws_ipt_print.specs.Printable.{is_chain_name, is_printed_act, is_printed_chain, is_printed_policy, is_printed_rule, shows_receiving}
+use Rattle.fws_sight.specs.declared.field.PacketField.{PacketField}
+use Rattle.fws_sight.specs.declared.seen.Seen.{Seen}
+use Rattle.fws_sight.specs.Cuts.{IsCutNode}
+use Rattle.fws_sight.specs.Shown.{seen_field}
 use Rattle.fws_ipt_tree.specs.declared.coming.Coming.{Coming}
-use Rattle.fws_ipt_tree.specs.declared.field.PacketField.{PacketField}
-use Rattle.fws_ipt_tree.specs.declared.verdict.Seen.{Seen}
 use Rattle.fws_ipt_tree.specs.declared.verdict.Verdict.{Verdict}
 use Rattle.fws_ipt_tree.specs.declared.verdict.Verdict.TheVariants.{Accept, Drop, Mark}
 use Rattle.fws_ipt_tree.specs.Acts.{leaf_act, AreActs, IsFit, IsFitCut, IsNodePut}
 use Rattle.fws_ipt_tree.specs.Blocks.{EndsInNumber, IsBlock, IsPrintedAct}
-use Rattle.fws_ipt_tree.specs.Branches.{HasMarkChains}
+use Rattle.fws_ipt_tree.specs.Branches.{HasMarkChains, HaveMarkChains}
 use Rattle.fws_ipt_tree.specs.Comings.{coming_at, AreComings}
-use Rattle.fws_ipt_tree.specs.Pieces.{is_printed_cond, top_of}
+use Rattle.fws_ipt_tree.specs.Pieces.{is_printed_cond}
 use Rattle.fws_ipt_tree.specs.Reached.{Decides}
 use Rattle.fws_ipt_tree.specs.Rules.{act_at, rules_of, AreCutRules, AreKidRules, IsCutChain}
-use Rattle.fws_ipt_tree.specs.Shown.{seen_field}
+use Rattle.fws_ipt_tree.proofs.Sight.{Sight}
 use Rattle.fws_ipt_tree.proofs.Entered.{cut_decides, decides_more, get_last, leaf_decides, mark_chain_more}
-use Rattle.fws_ipt_tree.proofs.Parted.{cut_parts, marks_below, parted, some_kids}
-use Rattle.fws_ipt_tree.proofs.Sees.{top_same}
-use Rattle.fws_ipt_tree.proofs.Trees.{cut_tree, kids_before, leaf_tree}
-use Rattle.fws_ipt_tree.proofs.Walked.{kids_of}
 
 -- ---- nodes of which acts can be made
 
-fit_cut : (site : Site) (seen : Seen) (f k : ℕ) (tree : ℕ → Plain Verdict) (kids : List Kid) → IsReduced (tops_of site) (cut f (kids_of tree kids)) → AllByRecursion (λ kid. kid.node < k) kids → IsFitCut seen k f kids
-fit_cut site seen f k tree kids reduced below =
-    let p = cut_parts 0 (tops_of site) f (kids_of tree kids) reduced in
-    let j : f ≡ p.0 = (let e = p.1 in omega arith) in
-    record {
-      some = some_kids tree kids p.3;
-      parted = λ field e v.
-          let top : slice_index (tops_of site) p.0 ≡ top_of field = ap (slice_index (tops_of site)) (sym j) ∙ top_same site seen f field e in
-          parted tree (λ x. nat_le x (slice_index (tops_of site) p.0)) kids p.4 v ∙ ap (λ n. cond (nat_le v n) 1 0) top;
-      known = All-from_recursion (λ kid. kid.node < k) kids below;
-    }
+-- a cut as rules need it, over the tops of a site
+pub fit_cut : Sight → (site : Site) (seen : Seen) (leaves : List Verdict) (nodes : List Node) (k f : ℕ) (kids : List Kid) → IsCutNode (tops_of site) leaves nodes k f kids → IsFitCut seen k f kids
+fit_cut sight site seen leaves nodes k f kids node = record {
+  some = (let m = node.many in omega (arith, m));
+  parted = λ field e v. node.parted v ∙ ap (λ n. cond (nat_le v n) 1 0) ((sight.agree seen f field e).top site);
+  known = All-from_recursion (λ kid. kid.node < k) kids node.before;
+}
 
-pub fit : (site : Site) (seen : Seen) (t : Plain Verdict) (leaves : List Verdict) (nodes : List Node) → IsShared (tops_of site) t leaves nodes → (k : ℕ) (node : Node) → slice_get nodes k ≡ Some node → IsFit seen leaves k node
-fit site seen t leaves nodes shared k (Leaf n) at = shared.named k n at
-fit site seen t leaves nodes shared k (Cut f kids) at =
-    fit_cut site seen f k (λ n. subtree_of leaves nodes n) kids
-    (subst (λ u. IsReduced (tops_of site) u) (cut_tree leaves nodes k f kids shared.ordered at) (shared.reduced k (slice_get_within nodes k (Cut f kids) at)))
-    (kids_before nodes k f kids shared.ordered at)
+pub fit : Sight → (site : Site) (seen : Seen) (t : Plain Verdict) (leaves : List Verdict) (nodes : List Node) → IsShared (tops_of site) t leaves nodes → (k : ℕ) (node : Node) → slice_get nodes k ≡ Some node → IsFit seen leaves k node
+fit sight site seen t leaves nodes shared k (Leaf n) at = shared.named k n at
+fit sight site seen t leaves nodes shared k (Cut f kids) at = fit_cut sight site seen leaves nodes k f kids (sight.cuts (tops_of site) t leaves nodes k f kids shared at)
 
 -- ---- printed acts
 
@@ -196,6 +188,18 @@ marks_more table least chains more Accept h = h
 marks_more table least chains more Drop h = h
 marks_more table least chains more (Mark v) h = mark_chain_more table least chains more v h
 
+-- the marks of a subtree are marks of the tree
+mutual
+  pub marks_below : (table : IptTable) (least : ℕ) (chains : List IptChain) (u t : Plain Verdict) → IsSubtree u t → HasMarkChains table least chains t → HasMarkChains table least chains u
+  marks_below table least chains u (leaf a) s h = subst (λ t. HasMarkChains table least chains t) (sym s) h
+  marks_below table least chains u (cut f ks) (inl e) h = subst (λ t. HasMarkChains table least chains t) (sym e) h
+  marks_below table least chains u (cut f ks) (inr s) h = marks_in table least chains u ks s h
+
+  marks_in : (table : IptTable) (least : ℕ) (chains : List IptChain) (u : Plain Verdict) (ks : Kids Verdict) → IsKidSubtree u ks → HaveMarkChains table least chains ks → HasMarkChains table least chains u
+  marks_in table least chains u none s h = absurd s
+  marks_in table least chains u (kid r t ks) (inl a) h = marks_below table least chains u t a h.0
+  marks_in table least chains u (kid r t ks) (inr b) h = marks_in table least chains u ks b h.1
+
 -- what is known of all nodes
 pub record Scene (site : Site) (seen : Seen) (table : IptTable) (least : ℕ) (old : List IptChain) (t : Plain Verdict) (comings : List Coming) (leaves : List Verdict) (nodes : List Node) : Type 0 where
   pub shared : IsShared (tops_of site) t leaves nodes
@@ -205,19 +209,19 @@ pub record Scene (site : Site) (seen : Seen) (table : IptTable) (least : ℕ) (o
   pub comes : AreComings nodes comings
 
 -- the act of one node more, and its chain
-pub node_made : (site : Site) (seen : Seen) (table : IptTable) (least : ℕ) (old : List IptChain) (t : Plain Verdict) (comings : List Coming) (leaves : List Verdict) (nodes : List Node)
+pub node_made : Sight → (site : Site) (seen : Seen) (table : IptTable) (least : ℕ) (old : List IptChain) (t : Plain Verdict) (comings : List Coming) (leaves : List Verdict) (nodes : List Node)
     → Scene site seen table least old t comings leaves nodes
     → (chains new : List IptChain) (acts : List IptGo) (go : IptGo) (node : Node) → slice_get nodes (length acts) ≡ Some node
     → IsBlock site table old chains → AreActs site seen table least (length old) chains comings leaves nodes acts
     → IsNodePut table seen leaves (coming_at comings (length acts)) acts node chains new go
     → IsBlock site table old new × AreActs site seen table least (length old) new comings leaves nodes (acts ++ go ∷ [])
-node_made site seen table least old t comings leaves nodes scene chains new acts go (Leaf n) at b h put =
+node_made sight site seen table least old t comings leaves nodes scene chains new acts go (Leaf n) at b h put =
     let k : ℕ = length acts in
     let lt = slice_get_within nodes k (Leaf n) at in
-    let low = scene.shared.named k n at in
-    let a : Verdict = get_or leaves n Accept in
-    let there : slice_get leaves n ≡ Some a = slice_get-get_or leaves n Accept low in
-    let tree : subtree_of leaves nodes k ≡ leaf a = leaf_tree leaves nodes k n a scene.shared.ordered at there in
+    let is-leaf = sight.leaves (tops_of site) t leaves nodes k n scene.shared at in
+    let a : Verdict = is-leaf.0 in
+    let there : slice_get leaves n ≡ Some a = is-leaf.1 in
+    let tree : subtree_of leaves nodes k ≡ leaf a = is-leaf.2 in
     let marked : HasMarkChains table least old (leaf a) = subst (λ u. HasMarkChains table least old u) tree (marks_below table least old (subtree_of leaves nodes k) t (scene.shared.within k lt) scene.marks) in
     let now : HasMarkChains table least chains (leaf a) = subst (λ l. HasMarkChains table least l (leaf a)) (sym b.extends) (marks_more table least old b.block a marked) in
     let long : length old ≤ length chains = (let l = ap (λ (l : List IptChain). length l) b.extends in let m = length-append old b.block in omega arith) in
@@ -233,23 +237,24 @@ node_made site seen table least old t comings leaves nodes scene chains new acts
       subst (λ l. IsBlock site table old l) (sym put.0) b,
       subst (λ l. AreActs site seen table least (length old) l comings leaves nodes (acts ++ go ∷ [])) (sym is) made,
     )
-node_made site seen table least old t comings leaves nodes scene chains new acts go (Cut f kids) at b h put =
+node_made sight site seen table least old t comings leaves nodes scene chains new acts go (Cut f kids) at b h put =
     let k : ℕ = length acts in
     let chain = put.chain in
-    let below = kids_before nodes k f kids scene.shared.ordered at in
+    let node = sight.cuts (tops_of site) t leaves nodes k f kids scene.shared at in
+    let below = node.before in
     let tree : ℕ → Plain Verdict = λ n. subtree_of leaves nodes n in
-    let is-fit = fit site seen t leaves nodes scene.shared k (Cut f kids) at in
+    let is-fit = fit_cut sight site seen leaves nodes k f kids node in
     let long : length old ≤ length chains = (let l = ap (λ (l : List IptChain). length l) b.extends in let m = length-append old b.block in omega arith) in
     let low = scene.low in
     let all-below : All (λ kid. kid.node < k) kids = All-from_recursion (λ kid. kid.node < k) kids below in
-    let d = cut_decides (tops_of site) seen least (length old) f chains chain (coming_at comings k) (λ n. coming_at comings n) acts tree kids (omega arith) long
-    (λ field e. (top_same site seen f field e, is-fit.parted field e)) (scene.comes.flows k (slice_get_within nodes k (Cut f kids) at) f kids at)
+    let d = cut_decides sight (tops_of site) seen least (length old) f chains chain (coming_at comings k) (λ n. coming_at comings n) acts tree kids (omega arith) long
+    (λ field e. ((sight.agree seen f field e).top site, is-fit.parted field e)) (scene.comes.flows k (slice_get_within nodes k (Cut f kids) at) f kids at)
     (λ i x lt. h.decides (slice_index_or kids i x).node (all-below i x lt)) put.is.rules in
     let act : (further : List IptChain) (i : ℕ) → i < length acts → (cond : List Lit) → is_printed_act ((chains ++ chain ∷ []) ++ further) chain cond (act_at acts i) ≡ true
     = λ further i lt cond. printed_more table chains (chain ∷ []) (act_at acts i) (h.printed i lt) further chain cond put.is.table_is in
     let D : Plain Verdict → IptGo → Type 0 = λ u g. Decides (tops_of site) seen least (length old) (chains ++ chain ∷ []) (coming_at comings k) u g in
     let made = acts_push site seen table least (length old) chains (chain ∷ []) comings leaves nodes acts go h
-    (subst (λ g. D (subtree_of leaves nodes k) g) (sym put.enters) (subst (λ u. D u (goes.Goto (length chains))) (sym (cut_tree leaves nodes k f kids scene.shared.ordered at)) d))
+    (subst (λ g. D (subtree_of leaves nodes k) g) (sym put.enters) (subst (λ u. D u (goes.Goto (length chains))) (sym node.tree) d))
     (subst (λ g. IsPrintedAct table (chains ++ chain ∷ []) g) (sym put.enters) (cut_printed table chains chain put.is.table_is put.is.policy_is)) in (
       subst (λ l. IsBlock site table old l) (sym put.extends)
           (block_more site table old chains chain b put.is.table_is put.is.policy_is

@@ -13,22 +13,19 @@ use Rattle.fws_ipt.specs.declared.passage.ChainEnd.{ChainEnd}
 use Rattle.fws_ipt.specs.declared.passage.Passage.{Passage}
 use Rattle.fws_ipt.specs.Walk.{act, rules_walk, view_at}
 use Rattle.fws_tree.specs.declared.node.Kid.{Kid}
-use Rattle.fws_tree.specs.Plain.{Plain, Kids, none, kid}
+use Rattle.fws_tree.specs.Plain.{Plain}
+use Rattle.fws_sight.specs.declared.field.PacketField.{PacketField}
+use Rattle.fws_sight.specs.declared.seen.Seen.{Seen}
+use Rattle.fws_sight.specs.Cuts.{kids_of}
+use Rattle.fws_sight.specs.Fields.{hits}
+use Rattle.fws_sight.specs.Reached.{Reaches, ReachesKid, IsOpen}
+use Rattle.fws_sight.specs.Shown.{seen_field}
+use Rattle.fws_sight.specs.SightLaws.{SeenFieldsAgree}
 use Rattle.fws_ipt_tree.specs.declared.coming.Coming.{Coming}
-use Rattle.fws_ipt_tree.specs.declared.field.PacketField.{PacketField}
-use Rattle.fws_ipt_tree.specs.declared.verdict.Seen.{Seen}
 use Rattle.fws_ipt_tree.specs.declared.verdict.Verdict.{Verdict}
 use Rattle.fws_ipt_tree.specs.Branches.{verdict_end}
-use Rattle.fws_ipt_tree.specs.Pieces.{hits, MayMeet}
-use Rattle.fws_ipt_tree.specs.Reached.{Reaches, ReachesKid, IsOpen}
+use Rattle.fws_ipt_tree.specs.Pieces.{MayMeet}
 use Rattle.fws_ipt_tree.specs.Rules.{act_at, rules_of, AreKidRules}
-use Rattle.fws_ipt_tree.specs.Shown.{seen_field}
-use Rattle.fws_ipt_tree.proofs.Sees.{open_hit}
-
--- kids with the trees of their nodes
-abbrev pub kids_of : (ℕ → Plain Verdict) → List Kid → Kids Verdict
-kids_of tree [] = none
-kids_of tree (k ∷ ks) = kid k.set (tree k.node) (kids_of tree ks)
 
 -- a walk ends for a verdict of which something is known
 abbrev pub Answers : (Verdict → Type 0) → Passage → ChainEnd → Type 0
@@ -63,16 +60,16 @@ conds_pass enter site p is_est hook m go (c ∷ conds) rest e =
     cond-false (holds c v) (act enter behind site p hook go m) (behind m) parts.0 ∙ conds_pass enter site p is_est hook m go conds rest parts.1
 
 -- the rules of kids: where one is hit, its act decides, and else they are passed
-pub walk_kids : (enter : ℕ → Passage → ChainEnd) (site : Site) (p : Packet) (is_est : Bool) (hook : Hook) (m : Passage)
+pub walk_kids : SeenFieldsAgree → (enter : ℕ → Passage → ChainEnd) (site : Site) (p : Packet) (is_est : Bool) (hook : Hook) (m : Passage)
     (seen : Seen) (f : ℕ) (field : PacketField) (coming : Coming) (acts : List IptGo) (tree : ℕ → Plain Verdict)
     → seen_field seen f ≡ Some field → MayMeet coming field (view_at site is_est hook m)
     → (kids : List Kid) (rules rest : List IptRule) → AreKidRules coming field acts kids rules
     → AllByRecursion (λ kid. IsOpen seen m.packet f kid.set → (next : Passage → ChainEnd) → Answers (Reaches seen m.packet (tree kid.node)) m (act enter next site p hook (act_at acts kid.node) m)) kids
     → Answers (ReachesKid seen m.packet f (kids_of tree kids)) m (rules_walk enter site p is_est hook (rules ++ rest) m)
     ⊎ ((list_any (λ kid. hits field kid.set m.packet) kids ≡ false) × (rules_walk enter site p is_est hook (rules ++ rest) m ≡ rules_walk enter site p is_est hook rest m))
-walk_kids enter site p is_est hook m seen f field coming acts tree is meets [] rules rest made each =
+walk_kids agree enter site p is_est hook m seen f field coming acts tree is meets [] rules rest made each =
     inr (refl, ap (λ l. rules_walk enter site p is_est hook (l ++ rest) m) made)
-walk_kids enter site p is_est hook m seen f field coming acts tree is meets (k ∷ kids) rules rest made each =
+walk_kids agree enter site p is_est hook m seen f field coming acts tree is meets (k ∷ kids) rules rest made each =
     let conds = made.0 in
     let more = made.1 in
     let go : IptGo = act_at acts k.node in
@@ -80,9 +77,9 @@ walk_kids enter site p is_est hook m seen f field coming acts tree is meets (k �
     let same : rules_walk enter site p is_est hook (rules ++ rest) m ≡ rules_walk enter site p is_est hook (rules_of go conds ++ (more ++ rest)) m =
     ap (λ l. rules_walk enter site p is_est hook (l ++ rest) m) made.2 ∙ ap (λ l. rules_walk enter site p is_est hook l m) (append_assoc (rules_of go conds) more rest) in
     let hit = made.3.hit (view_at site is_est hook m) meets in
-    let later = walk_kids enter site p is_est hook m seen f field coming acts tree is meets kids more rest made.4 each.1 in
+    let later = walk_kids agree enter site p is_est hook m seen f field coming acts tree is meets kids more rest made.4 each.1 in
     elim (cases_Bool (hits field k.set q)) [
-      | inl y ↦ (let open' : IsOpen seen q f k.set = open_hit seen f field q k.set is y in
+      | inl y ↦ (let open' : IsOpen seen q f k.set = (agree seen f field is).open_hit q k.set y in
           let found = conds_decide enter site p is_est hook m (Reaches seen q (tree k.node)) go (each.0 open') conds (more ++ rest) (hit ∙ y) in
           inl (found.0, inl (open', found.1), same ∙ found.2))
       | inr n ↦ (let passed = same ∙ conds_pass enter site p is_est hook m go conds (more ++ rest) (hit ∙ n) in
@@ -91,15 +88,3 @@ walk_kids enter site p is_est hook m seen f field coming acts tree is meets (k �
             | inr b ↦ inr (ap (λ x. x || list_any (λ kid. hits field kid.set q) kids) n ∙ b.0, passed ∙ b.1)
           ])
     ]
-
--- what is reached in fewer kids is reached in all
-pub reach_more : (seen : Seen) (q : Packet) (f : ℕ) (w : Verdict) (tree : ℕ → Plain Verdict) (front back : List Kid) (other : Kid)
-    → ReachesKid seen q f (kids_of tree (front ++ back)) w → ReachesKid seen q f (kids_of tree (front ++ other ∷ back)) w
-reach_more seen q f w tree [] back other h = inr h
-reach_more seen q f w tree (k ∷ front) back other (inl h) = inl h
-reach_more seen q f w tree (k ∷ front) back other (inr h) = inr (reach_more seen q f w tree front back other h)
-
-pub reach_other : (seen : Seen) (q : Packet) (f : ℕ) (w : Verdict) (tree : ℕ → Plain Verdict) (front back : List Kid) (other : Kid)
-    → IsOpen seen q f other.set → Reaches seen q (tree other.node) w → ReachesKid seen q f (kids_of tree (front ++ other ∷ back)) w
-reach_other seen q f w tree [] back other o h = inl (o, h)
-reach_other seen q f w tree (k ∷ front) back other o h = inr (reach_other seen q f w tree front back other o h)

@@ -10,18 +10,19 @@ use Rattle.fws_tree.specs.declared.node.Kid.{Kid}
 use Rattle.fws_tree.specs.declared.node.Node.{Node}
 use Rattle.fws_tree.specs.declared.node.Node.TheVariants.{Leaf, Cut}
 use Rattle.fws_tree.specs.Shared.{subtree_of}
+use Rattle.fws_sight.specs.declared.field.PacketField.{PacketField}
+use Rattle.fws_sight.specs.declared.seen.Seen.{Seen}
+use Rattle.fws_sight.specs.Cuts.{PartValues}
+use Rattle.fws_sight.specs.Fields.{top_of}
+use Rattle.fws_sight.specs.Shown.{seen_field}
 use Rattle.fws_ipt_tree.specs.declared.coming.Coming.{Coming}
-use Rattle.fws_ipt_tree.specs.declared.field.PacketField.{PacketField}
 use Rattle.fws_ipt_tree.specs.declared.verdict.Branch.{Branch}
-use Rattle.fws_ipt_tree.specs.declared.verdict.Seen.{Seen}
 use Rattle.fws_ipt_tree.specs.declared.verdict.Verdict.{Verdict}
 use Rattle.fws_ipt_tree.specs.declared.verdict.Verdict.TheVariants.{Accept, Drop, Mark}
 use Rattle.fws_ipt_tree.specs.Blocks.{IsPrintedAct}
 use Rattle.fws_ipt_tree.specs.Comings.{coming_at}
-use Rattle.fws_ipt_tree.specs.Pieces.{top_of}
 use Rattle.fws_ipt_tree.specs.Reached.{Decides}
-use Rattle.fws_ipt_tree.specs.Rules.{act_at, IsCutChain, PartValues}
-use Rattle.fws_ipt_tree.specs.Shown.{seen_field}
+use Rattle.fws_ipt_tree.specs.Rules.{act_at, IsCutChain}
 
 -- the act of a leaf
 abbrev pub leaf_act : Verdict → IptGo

@@ -11,11 +11,12 @@ use Rattle.fws_net.specs.declared.site.Site.{Site}
 use Rattle.fws_net.specs.declared.view.View.{View}
 use Rattle.fws_net.specs.Conditions.{holds}
 use Rattle.fws_ipt_print.specs.Printable.{are_ports}
+use Rattle.fws_sight.specs.declared.field.PacketField.TheVariants.{Proto, Dst, Dport, Src, Sport, Flags, Icmp}
+use Rattle.fws_sight.specs.declared.field.PacketField.{PacketField}
+use Rattle.fws_sight.specs.Fields.{suits}
+use Rattle.fws_sight.specs.Shown.{value_of}
 use Rattle.fws_ipt_tree.specs.declared.coming.Coming.{Coming}
-use Rattle.fws_ipt_tree.specs.declared.field.PacketField.{PacketField}
-use Rattle.fws_ipt_tree.specs.declared.field.PacketField.TheVariants.{Proto, Dst, Dport, Src, Sport, Flags, Icmp}
-use Rattle.fws_ipt_tree.specs.Pieces.{is_printed_cond, suits}
-use Rattle.fws_ipt_tree.specs.Shown.{value_of}
+use Rattle.fws_ipt_tree.specs.Pieces.{is_printed_cond}
 
 -- a literal that isn't negated
 abbrev pub lit_of : Test → Lit

@@ -7,4 +7,3 @@ pub mod Pieces
 pub mod Planned
 pub mod Reached
 pub mod Rules
-pub mod Shown

@@ -1,43 +1,18 @@
 -- Pieces of sets: conditions of which one holds where a field's value is a member.
-use Rattle.std.specs.Prelude.{◌≡◌, ℕ, ◌-◌, ◌^◌, ◌≤◌, Bool, true, false, ◌&&◌, nat_eq, Option, Some, None, List, if◌then◌else◌}
+use Rattle.std.specs.Prelude.{◌≡◌, ℕ, ◌≤◌, Bool, true, false, ◌&&◌, nat_eq, Option, Some, None, List, if◌then◌else◌}
 use Rattle.std.specs.List.{list_all, list_any}
 use Rattle.fws_iv.specs.declared.iv.Iv.{Iv}
 use Rattle.fws_iv.specs.Ivs.{has}
 use Rattle.fws_net.specs.declared.condition.Lit.{Lit}
-use Rattle.fws_net.specs.declared.packet.Packet.{Packet}
 use Rattle.fws_net.specs.declared.site.Site.{Site}
 use Rattle.fws_net.specs.declared.view.View.{View}
 use Rattle.fws_net.specs.Conditions.{holds}
-use Rattle.fws_net.specs.Fates.{has_ports}
 use Rattle.fws_ipt_print.specs.Printable.{are_different, protocol_leads, is_printed_literal}
-use Rattle.fws_ipt_tree.specs.declared.field.PacketField.{PacketField}
-use Rattle.fws_ipt_tree.specs.declared.field.PacketField.TheVariants.{Proto, Dst, Dport, Src, Sport, Flags, Icmp}
+use Rattle.fws_sight.specs.declared.field.PacketField.TheVariants.{Proto, Icmp}
+use Rattle.fws_sight.specs.declared.field.PacketField.{PacketField}
+use Rattle.fws_sight.specs.Fields.{hits, suits, top_of}
+use Rattle.fws_sight.specs.Shown.{value_of}
 use Rattle.fws_ipt_tree.specs.declared.coming.Coming.{Coming}
-use Rattle.fws_ipt_tree.specs.Shown.{value_of}
-
--- the protocol has the field
-abbrev pub suits : PacketField → ℕ → Bool
-suits Proto proto = true
-suits Dst proto = true
-suits Dport proto = has_ports proto
-suits Src proto = true
-suits Sport proto = has_ports proto
-suits Flags proto = nat_eq proto 6
-suits Icmp proto = nat_eq proto 1
-
--- the packet has the field, and its value is a member
-abbrev pub hits : PacketField → List Iv → Packet → Bool
-hits field set q = suits field q.proto && has set (value_of field q)
-
--- the greatest value of a field
-abbrev pub top_of : PacketField → ℕ
-top_of Proto = 255
-top_of Dst = 2 ^ 32 - 1
-top_of Dport = 65535
-top_of Src = 2 ^ 32 - 1
-top_of Sport = 65535
-top_of Flags = 63
-top_of Icmp = 255
 
 -- the value that no rule can test alone: `-p 0` is every protocol, and `--icmp-type 255` every type
 abbrev pub unspelled : PacketField → Option ℕ

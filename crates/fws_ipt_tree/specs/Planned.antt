@@ -11,12 +11,12 @@ use Rattle.fws_tree.specs.declared.node.Node.TheVariants.{Leaf, Cut}
 use Rattle.fws_tree.specs.Plain.{Plain}
 use Rattle.fws_tree.specs.Shared.{IsShared}
 use Rattle.fws_ipt_print.specs.Printable.{is_chain_name}
+use Rattle.fws_sight.specs.declared.seen.Seen.{Seen}
+use Rattle.fws_sight.specs.Shown.{IsTold}
 use Rattle.fws_ipt_tree.specs.declared.verdict.Branch.{Branch}
-use Rattle.fws_ipt_tree.specs.declared.verdict.Seen.{Seen}
 use Rattle.fws_ipt_tree.specs.declared.verdict.Verdict.{Verdict}
 use Rattle.fws_ipt_tree.specs.Blocks.{IsBlock, IsPrintedAct}
 use Rattle.fws_ipt_tree.specs.Branches.{HasMarkChains, Leads, PartEntries}
-use Rattle.fws_ipt_tree.specs.Shown.{IsTold}
 
 -- what is known of a tree, its nodes and the chains behind which its chains are put
 pub record IsPlanned (site : Site) (tops : List ℕ) (t : Plain Verdict) (table : IptTable) (front : List ℕ) (seen : Seen) (least : ℕ) (old : List IptChain) (leaves : List Verdict) (nodes : List Node) : Type 0 where

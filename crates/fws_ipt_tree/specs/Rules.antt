@@ -1,7 +1,5 @@
 -- The rules of the chain of a node.
-use Rattle.std.specs.Prelude.{◌≡◌, ℕ, true, nat_le, if◌then◌else◌, None, List, [], ◌∷◌, ◌++◌, map, slice_index_or, MatchOption}
-use Rattle.std.specs.List.{count_by}
-use Rattle.fws_iv.specs.Ivs.{has}
+use Rattle.std.specs.Prelude.{◌≡◌, ℕ, true, None, List, [], ◌∷◌, ◌++◌, map, slice_index_or, MatchOption}
 use Rattle.fws_net.specs.declared.condition.Lit.{Lit}
 use Rattle.fws_ipt.specs.declared.config.IptChain.{IptChain}
 use Rattle.fws_ipt.specs.declared.config.IptGo.{IptGo}
@@ -10,12 +8,12 @@ use Rattle.fws_ipt.specs.declared.config.IptRule.{IptRule}
 use Rattle.fws_ipt.specs.declared.config.IptTable.{IptTable}
 use Rattle.fws_tree.specs.declared.node.Kid.{Kid}
 use Rattle.fws_ipt_print.specs.Printable.{is_chain_name}
+use Rattle.fws_sight.specs.declared.field.PacketField.{PacketField}
+use Rattle.fws_sight.specs.declared.seen.Seen.{Seen}
+use Rattle.fws_sight.specs.Shown.{seen_field}
 use Rattle.fws_ipt_tree.specs.declared.coming.Coming.{Coming}
-use Rattle.fws_ipt_tree.specs.declared.field.PacketField.{PacketField}
-use Rattle.fws_ipt_tree.specs.declared.verdict.Seen.{Seen}
 use Rattle.fws_ipt_tree.specs.Blocks.{EndsInNumber}
 use Rattle.fws_ipt_tree.specs.Pieces.{ArePieces}
-use Rattle.fws_ipt_tree.specs.Shown.{seen_field}
 
 -- the act of the node with this number
 abbrev pub act_at : List IptGo → ℕ → IptGo
@@ -31,10 +29,6 @@ AreKidRules coming field acts [] rules = rules ≡ []
 AreKidRules coming field acts (kid ∷ kids) rules =
     (conds : List (List Lit)) × (rest : List IptRule) × (rules ≡ rules_of (act_at acts kid.node) conds ++ rest)
     × ArePieces coming field kid.set conds × AreKidRules coming field acts kids rest
-
--- each value up to the top is a member of one kid's set, and no other value is
-abbrev pub PartValues : ℕ → List Kid → Type 0
-PartValues top kids = (v : ℕ) → count_by (λ kid. has kid.set v) kids ≡ (if nat_le v top then 1 else 0)
 
 -- the rules of a cut: those of all kids but one, and last a rule without a test that sends all else to the node of that one.
 -- Where nothing is seen in place of the field, only the last rule stands

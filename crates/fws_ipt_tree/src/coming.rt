@@ -7,6 +7,7 @@ ghost use Rattle.fws_ipt_tree.specs.Comings.{both, narrowed, coming_at, IsCovere
 
 use fws_iv::Ivs;
 use fws_num::Memory;
+use fws_sight::kids_stand_before;
 use fws_tree::{Kid, Node};
 use std::alloc::Global;
 
@@ -76,6 +77,7 @@ fn flow_on(comings: &mut Vec<Coming>, nodes: &[Node], at: usize)
     ensures grows { (k : ℕ) → IsCovered (coming_at comings.old.items k) (coming_at comings.new.items k) }
     ensures flows { Flows nodes.now comings.new.items at }
 {
+    kids_stand_before();
     match &nodes[at] {
         Node::Leaf(_) => {}
         Node::Cut(f, kids) => flow(comings, at, *f, kids.as_slice()),

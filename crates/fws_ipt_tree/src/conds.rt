@@ -4,10 +4,10 @@ ghost use Rattle.std.specs.Prelude.{◌≡◌, ◌≤◌, ◌≢◌, ◌∷◌, 
 ghost use Rattle.fws_iv.specs.declared.iv.Iv.{Iv};
 ghost use Rattle.fws_ipt_tree.specs.Conds.{lit_of, one_number, proto_lit, set_test, range_cond, value_cond, cube_cond, port_cond};
 
-use crate::field::PacketField;
 use fws_iv::{Cube, Iv, Ivs, one};
 use fws_net::{Cond, Lit, Test};
 use fws_num::Memory;
+use fws_sight::PacketField;
 use std::alloc::Global;
 
 // A test of a field for the members of a set.

@@ -4,13 +4,14 @@ ghost use Rattle.std.specs.Prelude.{◌≡◌, ℕ, ◌<◌, ◌≤◌, true, le
 ghost use Rattle.std.specs.List.{list_any};
 ghost use Rattle.fws_iv.specs.Ivs.{has};
 ghost use Rattle.fws_tree.specs.declared.node.Kid.{Kid};
-ghost use Rattle.fws_ipt_tree.specs.Pieces.{top_of, unspelled};
-ghost use Rattle.fws_ipt_tree.specs.declared.field.PacketField.{PacketField};
+ghost use Rattle.fws_sight.specs.declared.field.PacketField.{PacketField};
+ghost use Rattle.fws_sight.specs.Fields.{top_of};
+ghost use Rattle.fws_ipt_tree.specs.Pieces.{unspelled};
 
-use crate::field::PacketField;
 use crate::port_lists::port_lists;
 use fws_iv::{Ivs, cubes};
 use fws_num::Memory;
+use fws_sight::PacketField;
 use fws_tree::Kid;
 use std::alloc::Global;
 

@@ -4,7 +4,6 @@
 mod coming;
 mod conds;
 mod default;
-mod field;
 mod names;
 mod nodes;
 mod pieces;
@@ -15,4 +14,4 @@ mod rules;
 mod verdict;
 
 pub use put::put_tree;
-pub use verdict::{Branch, Seen, Verdict};
+pub use verdict::{Branch, Verdict};

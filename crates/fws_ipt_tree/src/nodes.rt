@@ -17,6 +17,10 @@ use crate::rules::cut_rules;
 use crate::verdict::Verdict;
 use fws_ipt::{IptChain, IptGo};
 use fws_num::{Items, Memory};
+use fws_sight::{
+    cut_nodes_part_values, leaf_nodes_are_leaves, left_sets_are_open, open_kids_are_reached,
+    seen_fields_agree, unseen_fields_are_open,
+};
 use fws_tree::{Kid, Node};
 use std::alloc::Global;
 
@@ -106,6 +110,12 @@ pub(crate) fn put_nodes(
     ensures block { OnOk result (IsBlock plan.now.site.now plan.now.table chains.old chains.new) }
     ensures acts { IfOk result (λ acts. AreActs plan.now.site.now plan.now.seen plan.now.table plan.now.least (length chains.old) chains.new comings.now leaves.now nodes.now acts.items) }
 {
+    seen_fields_agree();
+    unseen_fields_are_open();
+    left_sets_are_open();
+    open_kids_are_reached::<Verdict>();
+    leaf_nodes_are_leaves::<Verdict>();
+    cut_nodes_part_values::<Verdict>();
     let mut acts = Vec::new(alloc);
     for k in 0..count {
         let go = put_node(alloc, chains, plan, leaves, &nodes[k], comings[k], &acts)?;

@@ -10,11 +10,11 @@ ghost use Rattle.fws_ipt_tree.specs.declared.coming.Coming.{Coming};
 
 use crate::coming::Coming;
 use crate::conds::{has_port, has_value, in_cube, in_range};
-use crate::field::PacketField;
 use crate::port_lists::port_lists;
 use fws_iv::{Ivs, cubes};
 use fws_net::Cond;
 use fws_num::{Items, Memory};
+use fws_sight::PacketField;
 use std::alloc::Global;
 
 // For each interval of a set of addresses, that the address lies in it.

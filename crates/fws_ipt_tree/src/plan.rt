@@ -1,8 +1,9 @@
 //! What all chains of a tree have in common.
 
-use crate::verdict::{Seen, Verdict};
+use crate::verdict::Verdict;
 use fws_ipt::IptTable;
 use fws_net::Site;
+use fws_sight::Seen;
 use fws_tree::Tree;
 
 /// What all chains of a tree have in common.

@@ -6,20 +6,24 @@ ghost use Rattle.fws_net.specs.Points.{tops_of};
 ghost use Rattle.fws_net.specs.Routes.{IsSound};
 ghost use Rattle.fws_tree.specs.declared.node.Node.{Node};
 ghost use Rattle.fws_ipt_print.specs.Printable.{is_chain_name};
+ghost use Rattle.fws_sight.specs.Shown.{IsTold};
 ghost use Rattle.fws_ipt_tree.specs.Acts.{branch_of};
 ghost use Rattle.fws_ipt_tree.specs.Blocks.{IsBlock, IsPrintedAct};
 ghost use Rattle.fws_ipt_tree.specs.Branches.{HasMarkChains, Leads, PartEntries};
 ghost use Rattle.fws_ipt_tree.specs.Planned.{ArePut, IsPlanned, KeepsEntry};
-ghost use Rattle.fws_ipt_tree.specs.Shown.{IsTold};
 
 use crate::coming::comings;
 use crate::nodes::put_nodes;
 use crate::plan::Plan;
-use crate::verdict::{Branch, Seen, Verdict};
+use crate::verdict::{Branch, Verdict};
 use fws_ipt::{IptChain, IptGo, IptTable};
 use fws_iv::one;
 use fws_net::Site;
 use fws_num::{Items, Memory};
+use fws_sight::{
+    Seen, cut_nodes_part_values, leaf_nodes_are_leaves, reached_values_are_told,
+    seen_points_are_topped,
+};
 use fws_tree::{Kid, Node, Tree};
 use std::alloc::Global;
 
@@ -63,6 +67,10 @@ fn put_by_entry(
     requires cut { slice_get nodes.now (length nodes.now - 1) ≡ Some (Node.Cut 0 kids.now) }
     ensures { IfOk result (λ branches. ArePut plan.now.site.now plan.now.tree.now.0 plan.now.tree.now.1 plan.now.table plan.now.seen plan.now.least chains.old chains.new branches) }
 {
+    reached_values_are_told::<Verdict>();
+    seen_points_are_topped();
+    leaf_nodes_are_leaves::<Verdict>();
+    cut_nodes_part_values::<Verdict>();
     let last = nodes.len() - 1;
     let all = comings(alloc, nodes)?;
     let acts = put_nodes(alloc, chains, plan, leaves, nodes, &all, last)?;
@@ -81,6 +89,10 @@ fn put_whole(
     requires keeps { (node : Node) → slice_get nodes.now (length nodes.now - 1) ≡ Some node → KeepsEntry node }
     ensures { IfOk result (λ branches. ArePut plan.now.site.now plan.now.tree.now.0 plan.now.tree.now.1 plan.now.table plan.now.seen plan.now.least chains.old chains.new branches) }
 {
+    reached_values_are_told::<Verdict>();
+    seen_points_are_topped();
+    leaf_nodes_are_leaves::<Verdict>();
+    cut_nodes_part_values::<Verdict>();
     let count = nodes.len();
     let all = comings(alloc, nodes)?;
     let acts = put_nodes(alloc, chains, plan, leaves, nodes, &all, count)?;

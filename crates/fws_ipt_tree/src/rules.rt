@@ -3,19 +3,20 @@
 ghost use Rattle.std.specs.Prelude.{◌≡◌, ◌+◌, ◌<◌, [], ◌++◌, Some, List, take, drop, length, map, All, IfOk, OnOk, MatchOption};
 ghost use Rattle.fws_ipt.specs.declared.config.IptRule.{IptRule};
 ghost use Rattle.fws_tree.specs.declared.node.Kid.{Kid};
-ghost use Rattle.fws_ipt_tree.specs.Pieces.{top_of, IsSpelled};
-ghost use Rattle.fws_ipt_tree.specs.Rules.{rules_of, AreKidRules, AreCutRules, PartValues};
-ghost use Rattle.fws_ipt_tree.specs.Shown.{seen_field};
-ghost use Rattle.fws_ipt_tree.specs.declared.field.PacketField.{PacketField};
+ghost use Rattle.fws_sight.specs.declared.field.PacketField.{PacketField};
+ghost use Rattle.fws_sight.specs.Cuts.{PartValues};
+ghost use Rattle.fws_sight.specs.Fields.{top_of};
+ghost use Rattle.fws_sight.specs.Shown.{seen_field};
+ghost use Rattle.fws_ipt_tree.specs.Pieces.{IsSpelled};
+ghost use Rattle.fws_ipt_tree.specs.Rules.{rules_of, AreKidRules, AreCutRules};
 
 use crate::coming::Coming;
 use crate::default::default_kid;
-use crate::field::{PacketField, packet_field};
 use crate::pieces::pieces;
-use crate::verdict::Seen;
 use fws_ipt::{IptGo, IptRule};
 use fws_net::Cond;
 use fws_num::{Items, Memory};
+use fws_sight::{PacketField, Seen, packet_field};
 use fws_tree::Kid;
 use std::alloc::Global;
 

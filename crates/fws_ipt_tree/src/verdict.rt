@@ -19,15 +19,6 @@ pub enum Verdict {
     Mark(u32),
 }
 
-/// What a rule sees of a packet.
-#[derive(Clone, Copy, Debug, PartialEq, Eq)]
-pub enum Seen {
-    /// The packet as it enters.
-    Entered,
-    /// The packet with the destination with which its connection sends it, and all else as it enters.
-    Routed,
-}
-
 /// What a packet of some entries meets first.
 #[derive(Drop)]
 pub struct Branch {

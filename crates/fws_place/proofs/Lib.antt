@@ -1,8 +1,11 @@
 pub mod Breaking
 pub mod Counting
+pub mod FieldPoints
 pub mod Finding
 pub mod NewRows
 pub mod OpenRows
 pub mod PairPoints
 pub mod Passing
+pub mod SeenPoints
+pub mod Telling
 pub mod Viewing

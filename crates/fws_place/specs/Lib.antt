@@ -10,3 +10,4 @@ pub mod Pairs
 pub mod Rewritings
 pub mod Seen
 pub mod Sides
+pub mod TellingLaws

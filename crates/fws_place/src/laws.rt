@@ -1,6 +1,7 @@
 //! Laws of placement conditions.
 
 ghost use Rattle.fws_place.specs.FitLaws.{BreachesRefuteFits, FittingDropsAreSeen, FittingPairsAreTold, LostPairsAreDropped, PointsAreOfPairs};
+ghost use Rattle.fws_place.specs.TellingLaws.{PointsAreSeen, ViewsAreTold};
 
 /// Tables of which a clause is broken don't fit. The call does nothing: its contract is the law.
 pub fn breaches_refute_fits()
@@ -26,4 +27,16 @@ pub fn lost_pairs_are_dropped()
 /// A point of a site is that of its packet and its ends. The call does nothing: its contract is the law.
 pub fn points_are_of_pairs()
     ensures { PointsAreOfPairs }
+{}
+
+/// The packet of a pair is seen as the pair's point, as it enters and behind routing. The call does nothing: its contract
+/// is the law.
+pub fn points_are_seen()
+    ensures { PointsAreSeen }
+{}
+
+/// Of regular tables rules can tell what becomes of new packets, and what they see of established ones. The call does
+/// nothing: its contract is the law.
+pub fn views_are_told()
+    ensures { ViewsAreTold }
 {}

@@ -19,7 +19,7 @@ pub use checking::check;
 pub use clause::{Clause, clauses_of};
 pub use laws::{
     breaches_refute_fits, fitting_drops_are_seen, fitting_pairs_are_told, lost_pairs_are_dropped,
-    points_are_of_pairs,
+    points_are_of_pairs, points_are_seen, views_are_told,
 };
 pub use point::{ends_at, packet_at};
 pub use redirect::{PublicEnd, Redirect};

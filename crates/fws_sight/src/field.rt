@@ -66,7 +66,9 @@ fn routed_number(f: u8) -> u8
     f
 }
 
-/// The packet's field that is seen in place of a field of a point, if one is.
+/// The packet's field that a rule sees in place of the field of a point with this number: as the packet
+/// enters, or behind routing with the destination of its connection. There is none for the entry, for a
+/// field that isn't seen, and for a number that no field of a point has.
 pub fn packet_field(seen: Seen, f: u8) -> Option<PacketField>
     ensures { result ≡ seen_field seen f }
 {

@@ -1,8 +1,8 @@
 use Rattle.std.proofs.Common.{◌+◌, ◌++◌, length, ap, ◌∙◌, subst}
+use Rattle.fws_sight.specs.declared.seen.Seen.TheVariants as seens
 use Rattle.fws_ipt.specs.declared.config.IptTable.TheVariants.{Filter, Mangle}
 use Rattle.fws_net.specs.Points.{tops_of}
 use Rattle.fws_tree.specs.Plain.{IsReduced}
-use Rattle.fws_ipt_tree.specs.declared.verdict.Seen.TheVariants as seens
 use Rattle.fws_ipt_put.specs.Marks.{mark_chains}
 use Rattle.fws_ipt_put.proofs.Begun.{by_tops, draft_is, has_marks, no_marks}
 use Rattle.fws_ipt_put.proofs.draft.drafted.Goals as goal

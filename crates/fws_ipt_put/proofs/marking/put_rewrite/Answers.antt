@@ -1,5 +1,5 @@
 use Rattle.std.proofs.Common.{Some, sym, ap, ◌∙◌}
-use Rattle.fws_ipt_put.proofs.Ways.{same_rewrites}
+use Rattle.fws_ipt_put.proofs.Written.{same_rewrites}
 use Rattle.fws_ipt_put.proofs.marking.put_rewrite.Goals as goal
 
 pub returns-clause-there : goal.returns-clause-there

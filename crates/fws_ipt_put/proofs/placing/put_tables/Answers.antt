@@ -1,11 +1,13 @@
 use Rattle.std.proofs.Common.{◌+◌, ◌^◌, ◌<◌, List, length, All, arith, sym, ap, ◌∙◌, subst}
 use Rattle.fws_net.specs.Points.{tops_of}
+use Rattle.fws_sight.specs.declared.seen.Seen.TheVariants.{Entered, Routed}
+use Rattle.fws_sight.specs.SightLaws.{HasImages}
 use Rattle.fws_ipt_put.specs.declared.marks.Mark.{Mark}
 use Rattle.fws_ipt_put.specs.Drafts.{IsDraft, SetsMarks}
-use Rattle.fws_ipt_put.specs.Marks.{AreMarks, HaveBlocks, IsMade, passing, verdict_of}
+use Rattle.fws_ipt_put.specs.Marks.{AreMarks, HaveBlocks, passing, verdict_of}
 use Rattle.fws_ipt_put.proofs.Begun.{draft_long}
 use Rattle.fws_ipt_put.proofs.Supplied.{known_blocks, sets_marks, sets_none}
-use Rattle.fws_ipt_put.proofs.Whole.{all_placed, behind_is_told, fresh_is_told, packet_is_told}
+use Rattle.fws_ipt_put.proofs.Whole.{all_placed}
 use Rattle.fws_ipt_put.proofs.placing.put_tables.Goals as goal
 
 pub drafted-requires-clause-sound : goal.drafted-requires-clause-sound
@@ -22,35 +24,48 @@ drafted-requires-clause-routed_tops c = c.in_ok-trees.ensures.routed_tops ∙ c.
 
 pub drafted-requires-clause-entering_told : goal.drafted-requires-clause-entering_told
 drafted-requires-clause-entering_told c =
-    packet_is_told c.args.site.now c.args.t.now c.requires.regular c.args.views.now.packet.1 c.in_ok-trees.trees.entering.1 c.requires.packet
-    (subst (λ ts. IsMade ts passing c.args.views.now.packet.1 c.in_ok-trees.trees.entering.1) c.requires.packet_tops c.in_ok-trees.ensures.entering)
+    let site = c.args.site.now in
+    let packet = c.args.views.now.packet in
+    let entering = c.in_ok-trees.trees.entering.1 in
+    c.relabelled_trees_are_told.ensures Entered (tops_of site) passing packet.1 entering
+    (subst (λ ts. HasImages ts passing packet.1 entering) c.requires.packet_tops c.in_ok-trees.ensures.entering)
+    ((c.views_are_told.ensures site c.args.t.now c.requires.regular).packet packet.1 c.requires.packet)
 
 pub drafted-requires-clause-news_told : goal.drafted-requires-clause-news_told
 drafted-requires-clause-news_told c =
-    fresh_is_told c.args.site.now c.args.t.now c.requires.regular c.in_ok-known.known.rewrites.keys c.in_ok-trees.trees.news.1
-    (subst (λ ts. IsMade ts (verdict_of c.in_ok-known.known.rewrites.keys) c.args.t.now.fresh.1 c.in_ok-trees.trees.news.1) c.requires.regular.fresh_tops c.in_ok-trees.ensures.news)
+    let site = c.args.site.now in
+    let fresh = c.args.t.now.fresh in
+    let news = c.in_ok-trees.trees.news.1 in
+    let rewrites = c.in_ok-known.known.rewrites.keys in
+    c.relabelled_trees_are_told-2.ensures Entered (tops_of site) (verdict_of rewrites) fresh.1 news
+    (subst (λ ts. HasImages ts (verdict_of rewrites) fresh.1 news) c.requires.regular.fresh_tops c.in_ok-trees.ensures.news)
+    (c.views_are_told.ensures site c.args.t.now c.requires.regular).fresh
 
 pub drafted-requires-clause-routed_told : goal.drafted-requires-clause-routed_told
 drafted-requires-clause-routed_told c =
-    behind_is_told c.args.site.now c.args.t.now c.requires.regular c.args.views.now.behind.1 c.in_ok-trees.trees.routed.1 c.requires.behind
-    (subst (λ ts. IsMade ts passing c.args.views.now.behind.1 c.in_ok-trees.trees.routed.1) c.requires.behind_tops c.in_ok-trees.ensures.routed)
+    let site = c.args.site.now in
+    let behind = c.args.views.now.behind in
+    let routed = c.in_ok-trees.trees.routed.1 in
+    c.relabelled_trees_are_told.ensures Routed (tops_of site) passing behind.1 routed
+    (subst (λ ts. HasImages ts passing behind.1 routed) c.requires.behind_tops c.in_ok-trees.ensures.routed)
+    ((c.views_are_told.ensures site c.args.t.now c.requires.regular).behind behind.1 c.requires.behind)
 
 pub drafted-requires-clause-entering_marks : goal.drafted-requires-clause-entering_marks
 drafted-requires-clause-entering_marks c =
     sets_none (tops_of c.args.site.now) c.args.views.now.packet.1 c.in_ok-trees.trees.entering.1
-    (subst (λ ts. IsMade ts passing c.args.views.now.packet.1 c.in_ok-trees.trees.entering.1) c.requires.packet_tops c.in_ok-trees.ensures.entering)
+    (subst (λ ts. HasImages ts passing c.args.views.now.packet.1 c.in_ok-trees.trees.entering.1) c.requires.packet_tops c.in_ok-trees.ensures.entering)
 
 pub drafted-requires-clause-news_marks : goal.drafted-requires-clause-news_marks
 drafted-requires-clause-news_marks c =
     subst (λ (marks : List Mark). SetsMarks (tops_of c.args.site.now) (length marks) c.in_ok-trees.trees.news.1) (sym c.as_slice-marks.ensures.value)
     (sets_marks (tops_of c.args.site.now) c.args.t.now.fresh.1 c.in_ok-trees.trees.news.1 c.in_ok-known.known.rewrites.keys c.in_ok-known.known.marks.items
-    (subst (λ ts. IsMade ts (verdict_of c.in_ok-known.known.rewrites.keys) c.args.t.now.fresh.1 c.in_ok-trees.trees.news.1) c.requires.regular.fresh_tops c.in_ok-trees.ensures.news)
+    (subst (λ ts. HasImages ts (verdict_of c.in_ok-known.known.rewrites.keys) c.args.t.now.fresh.1 c.in_ok-trees.trees.news.1) c.requires.regular.fresh_tops c.in_ok-trees.ensures.news)
     c.in_ok-known.ensures.marked)
 
 pub drafted-requires-clause-routed_marks : goal.drafted-requires-clause-routed_marks
 drafted-requires-clause-routed_marks c =
     sets_none (tops_of c.args.site.now) c.args.views.now.behind.1 c.in_ok-trees.trees.routed.1
-    (subst (λ ts. IsMade ts passing c.args.views.now.behind.1 c.in_ok-trees.trees.routed.1) c.requires.behind_tops c.in_ok-trees.ensures.routed)
+    (subst (λ ts. HasImages ts passing c.args.views.now.behind.1 c.in_ok-trees.trees.routed.1) c.requires.behind_tops c.in_ok-trees.ensures.routed)
 
 pub drafted-requires-clause-blocks : goal.drafted-requires-clause-blocks
 drafted-requires-clause-blocks c =
@@ -78,12 +93,12 @@ returns c =
     let regular = c.requires.regular in
     let few : length c.in_ok-known.known.marks.items + 5 < 2 ^ 32 = omega (arith, ap length c.as_slice-marks.ensures.value, c.if-marks-gt4000000000.false) in
     let count = c.len-count.ensures in
-    all_placed site t regular c.fitting_pairs_are_told.ensures c.lost_pairs_are_dropped.ensures c.requires.fits
+    all_placed site t regular c.points_are_seen.ensures c.fitting_pairs_are_told.ensures c.lost_pairs_are_dropped.ensures c.requires.fits
     c.args.views.now.packet.1 c.args.views.now.behind.1 c.in_ok-trees.trees.entering.1 c.in_ok-trees.trees.news.1 c.in_ok-trees.trees.routed.1
     c.in_ok-known.known.rewrites.keys c.in_ok-known.known.marks.items c.requires.packet c.requires.behind
-    (subst (λ ts. IsMade ts passing c.args.views.now.packet.1 c.in_ok-trees.trees.entering.1) c.requires.packet_tops c.in_ok-trees.ensures.entering)
-    (subst (λ ts. IsMade ts (verdict_of c.in_ok-known.known.rewrites.keys) t.fresh.1 c.in_ok-trees.trees.news.1) regular.fresh_tops c.in_ok-trees.ensures.news)
-    (subst (λ ts. IsMade ts passing c.args.views.now.behind.1 c.in_ok-trees.trees.routed.1) c.requires.behind_tops c.in_ok-trees.ensures.routed)
+    (subst (λ ts. HasImages ts passing c.args.views.now.packet.1 c.in_ok-trees.trees.entering.1) c.requires.packet_tops c.in_ok-trees.ensures.entering)
+    (subst (λ ts. HasImages ts (verdict_of c.in_ok-known.known.rewrites.keys) t.fresh.1 c.in_ok-trees.trees.news.1) regular.fresh_tops c.in_ok-trees.ensures.news)
+    (subst (λ ts. HasImages ts passing c.args.views.now.behind.1 c.in_ok-trees.trees.routed.1) c.requires.behind_tops c.in_ok-trees.ensures.routed)
     (subst (λ ts. AreMarks ts t.fresh.1 c.in_ok-known.known.rewrites.keys c.in_ok-known.known.marks.items) regular.fresh_tops c.in_ok-known.ensures)
     c.in_ok-draft.draft c.in_ok-chains.chains
     (subst (λ (marks : List Mark). IsDraft site c.in_ok-trees.trees.entering.1 c.in_ok-trees.trees.news.1 c.in_ok-trees.trees.routed.1 marks c.in_ok-draft.draft) c.as_slice-marks.ensures.value c.in_ok-draft.ensures)

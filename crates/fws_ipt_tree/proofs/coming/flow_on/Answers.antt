@@ -4,7 +4,6 @@ use Rattle.std.specs.List.{AllByRecursion}
 use Rattle.std.specs.Prelude.{All}
 use Rattle.fws_ipt_tree.specs.Comings.{narrowed, coming_at, IsCovered}
 use Rattle.fws_ipt_tree.proofs.Flowing.{flows_cut, flows_leaf}
-use Rattle.fws_ipt_tree.proofs.Trees.{kids_before}
 use Rattle.fws_ipt_tree.proofs.coming.flow_on.Goals as goal
 use Rattle.fws_tree.specs.declared.node.Node.TheVariants.{Cut}
 use Rattle.std.proofs.Common.{◌<◌, length, refl}
@@ -14,7 +13,7 @@ flow-requires-clause-below c =
     let nodes = c.args.nodes.now in
     let at : slice_get nodes c.args.at ≡ Some (Cut c.in-Cut.f c.in-Cut.kids) =
     slice_get_read nodes (length nodes) c.args.at c.index-nodes-at.result refl c.requires.inside c.index-nodes-at.is ∙ ap Some c.in-Cut.is in
-    subst (λ ks. AllByRecursion (λ kid. kid.node < c.args.at) ks) (sym c.as_slice.ensures) (kids_before nodes c.args.at c.in-Cut.f c.in-Cut.kids c.requires.ordered at)
+    subst (λ ks. AllByRecursion (λ kid. kid.node < c.args.at) ks) (sym c.as_slice.ensures) (c.kids_stand_before.ensures nodes c.args.at c.in-Cut.f c.in-Cut.kids c.requires.ordered at)
 
 pub returns-in-Leaf-clause-flows : goal.returns-in-Leaf-clause-flows
 returns-in-Leaf-clause-flows c =

@@ -1,7 +1,7 @@
 use Rattle.std.proofs.Common.{◌≡◌, ℕ, ◌≤◌, true, subst, arith}
 use Rattle.fws_iv.specs.Ivs.{has}
-use Rattle.fws_ipt_tree.specs.declared.field.PacketField.{PacketField}
-use Rattle.fws_ipt_tree.specs.Pieces.{top_of}
+use Rattle.fws_sight.specs.declared.field.PacketField.{PacketField}
+use Rattle.fws_sight.specs.Fields.{top_of}
 use Rattle.fws_ipt_tree.proofs.default.price.Goals as goal
 
 pub cubes-requires : goal.cubes-requires

@@ -8,10 +8,19 @@ use Rattle.fws_ipt_tree.specs.declared.coming.Coming.{Coming}
 use Rattle.fws_ipt_tree.specs.Acts.{AreActs, IsFit, IsNodePut}
 use Rattle.fws_ipt_tree.specs.Comings.{both, coming_at}
 use Rattle.fws_ipt_tree.proofs.Made.{Scene, fit, node_made}
+use Rattle.fws_ipt_tree.proofs.Sight.{Sight}
 use Rattle.fws_ipt_tree.proofs.nodes.put_nodes.Goals as goal
 
 pub put_node-requires-clause-fit : goal.put_node-requires-clause-fit
 put_node-requires-clause-fit c =
+    let sight : Sight = record {
+      agree = c.seen_fields_agree.ensures;
+      unseen = c.unseen_fields_are_open.ensures;
+      left = c.left_sets_are_open.ensures;
+      reached = c.open_kids_are_reached.ensures;
+      leaves = c.leaf_nodes_are_leaves.ensures;
+      cuts = c.cut_nodes_part_values.ensures;
+    } in
     let plan = c.args.plan.now in
     let leaves = c.args.leaves.now in
     let nodes = c.args.nodes.now in
@@ -21,10 +30,18 @@ put_node-requires-clause-fit c =
     let lt : k < length nodes = omega (arith, c.requires.count) in
     let at : slice_get nodes k ≡ Some node = slice_get_read nodes (length nodes) k node refl lt c.index-nodes-k.is in
     let n : k ≡ length c.deref.result.now = sym (ap (λ (l : List IptGo). length l) c.deref.ensures.value ∙ c.loop-k.invariant.size) in
-    subst (λ m. IsFit plan.seen leaves m node) n (fit plan.site.now plan.seen plan.tree.now.1 leaves nodes shared k node at)
+    subst (λ m. IsFit plan.seen leaves m node) n (fit sight plan.site.now plan.seen plan.tree.now.1 leaves nodes shared k node at)
 
 pub loop-k-preserved : goal.loop-k-preserved
 loop-k-preserved c =
+    let sight : Sight = record {
+      agree = c.seen_fields_agree.ensures;
+      unseen = c.unseen_fields_are_open.ensures;
+      left = c.left_sets_are_open.ensures;
+      reached = c.open_kids_are_reached.ensures;
+      leaves = c.leaf_nodes_are_leaves.ensures;
+      cuts = c.cut_nodes_part_values.ensures;
+    } in
     let plan = c.args.plan.now in
     let leaves = c.args.leaves.now in
     let nodes = c.args.nodes.now in
@@ -47,7 +64,7 @@ loop-k-preserved c =
     let within : k < length comings = (let n = c.requires.comings.size in omega (arith, lt, n)) in
     let here : get_or comings k nothing ≡ coming_at comings (length acts) = get_or_default comings k nothing both within ∙ ap (coming_at comings) (sym inv.size) in
     let put : P (coming_at comings (length acts)) acts = subst (λ d. P d acts) here (subst (λ l. P (get_or comings k nothing) l) c.deref.ensures.value c.in_ok-go.ensures) in
-    let made = node_made plan.site.now plan.seen plan.table plan.least c.args.chains.now plan.tree.now.1 comings leaves nodes scene c.loop-k.chains c.put_node.new.chains acts c.in_ok-go.go node at inv.block inv.acts put in
+    let made = node_made sight plan.site.now plan.seen plan.table plan.least c.args.chains.now plan.tree.now.1 comings leaves nodes scene c.loop-k.chains c.put_node.new.chains acts c.in_ok-go.go node at inv.block inv.acts put in
     record {
       size = (let e = ap (λ (l : List IptGo). length l) c.in_ok-push.ensures.items in let n = length-append acts (c.in_ok-go.go ∷ []) in let m = inv.size in omega arith);
       block = made.0;

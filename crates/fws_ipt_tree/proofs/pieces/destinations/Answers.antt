@@ -2,8 +2,8 @@ use Rattle.std.proofs.Common.{◌≡◌, List}
 use Rattle.std.specs.Prelude.{map}
 use Rattle.std.proofs.lemmas.Result.{IfOk-weaker}
 use Rattle.fws_net.specs.declared.condition.Lit.{Lit}
+use Rattle.fws_sight.specs.declared.field.PacketField.TheVariants.{Dst}
 use Rattle.fws_ipt_tree.specs.declared.coming.Coming.{Coming}
-use Rattle.fws_ipt_tree.specs.declared.field.PacketField.TheVariants.{Dst}
 use Rattle.fws_ipt_tree.specs.Conds.{range_cond}
 use Rattle.fws_ipt_tree.specs.Pieces.{ArePieces}
 use Rattle.fws_ipt_tree.proofs.Hits.{dst_pieces}

@@ -1,5 +1,5 @@
+use Rattle.fws_sight.specs.declared.field.PacketField.TheVariants.{Proto}
 use Rattle.fws_ipt_tree.specs.Conds.{AreValuesBelow}
-use Rattle.fws_ipt_tree.specs.declared.field.PacketField.TheVariants.{Proto}
 use Rattle.fws_ipt_tree.proofs.pieces.protocols.Given as goal
 
 abbrev pub invariant-loop-v : goal.invariant-loop-v

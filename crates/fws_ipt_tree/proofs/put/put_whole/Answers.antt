@@ -8,10 +8,16 @@ use Rattle.fws_ipt_tree.specs.Comings.{AreComings}
 use Rattle.fws_ipt_tree.specs.Planned.{ArePut}
 use Rattle.fws_ipt_tree.specs.Rules.{act_at}
 use Rattle.fws_ipt_tree.proofs.Ended.{whole_put}
+use Rattle.fws_ipt_tree.proofs.Sight.{WholeSight}
 use Rattle.fws_ipt_tree.proofs.put.put_whole.Goals as goal
 
 pub returns : goal.returns
 returns c =
+    let sight : WholeSight = record {
+      points = record { told = c.reached_values_are_told.ensures; topped = c.seen_points_are_topped.ensures };
+      leaves = c.leaf_nodes_are_leaves.ensures;
+      cuts = c.cut_nodes_part_values.ensures;
+    } in
     let plan = c.args.plan.now in
     let nodes = c.args.nodes.now in
     let acts = c.in_ok-acts.acts.items in
@@ -25,6 +31,6 @@ returns c =
     let lt : last < length acts = omega (arith, some, count) in
     let go : c.index.result.now ≡ act_at acts last = get_or_read acts last c.index.result.now lt c.index.ensures Drop in
     let top : c.len.result + 1 ≡ length plan.site.now.faces + 1 = ap (λ n. n + 1) c.len.ensures in
-    let put : Q (one (length plan.site.now.faces + 1) (act_at acts last)) = whole_put plan.site.now plan.tree.now.0 plan.tree.now.1 plan.table plan.front.now plan.seen plan.least c.args.chains.now c.put_nodes.new.chains c.args.leaves.now nodes c.deref.result.now acts
+    let put : Q (one (length plan.site.now.faces + 1) (act_at acts last)) = whole_put sight plan.site.now plan.tree.now.0 plan.tree.now.1 plan.table plan.front.now plan.seen plan.least c.args.chains.now c.put_nodes.new.chains c.args.leaves.now nodes c.deref.result.now acts
     c.requires.planned comes c.requires.keeps c.in_ok-acts.ensures.block c.in_ok-acts.ensures.acts count in
     IfOk-weaker _ P Q (λ branches e. subst Q (sym (e ∙ ap (λ n. one n c.index.result.now) top ∙ ap (λ g. one (length plan.site.now.faces + 1) g) go)) put) c.whole_branch.ensures

@@ -6,7 +6,8 @@ use Rattle.fws_ipt.specs.declared.config.IptGo.{IptGo}
 use Rattle.fws_ipt.specs.declared.config.IptGo.TheVariants.{Drop}
 use Rattle.fws_ipt.specs.declared.config.IptRule.{IptRule}
 use Rattle.fws_tree.specs.declared.node.Kid.{Kid}
-use Rattle.fws_ipt_tree.specs.Pieces.{top_of, unspelled}
+use Rattle.fws_sight.specs.Fields.{top_of}
+use Rattle.fws_ipt_tree.specs.Pieces.{unspelled}
 use Rattle.fws_ipt_tree.specs.Rules.{act_at, AreKidRules}
 use Rattle.fws_ipt_tree.proofs.Sorted.{parts_below, spelled_beside, split_at_place}
 use Rattle.fws_ipt_tree.proofs.rules.cut_rules.Goals as goal

@@ -1,4 +1,4 @@
--- Rules can tell what the trees hold that are put as chains.
+-- Rules can tell what the trees of tables and of views hold.
 use Rattle.std.proofs.Common.{◌≡◌, ◌≢◌, ◌↔◌, ℕ, zero, suc, ◌<◌, ◌≤◌, Bool, true, false, cond, nat_eq, Some, None, unwrap_or, List, [], ◌∷◌, slice_index, slice_set, arith, refl, sym, ap, ◌∙◌, subst, eq-eqb}
 use Rattle.std.proofs.lemmas.Bool.{false≢true, eqb-true}
 use Rattle.fws_box.specs.Sides.{IsWithin}
@@ -10,42 +10,16 @@ use Rattle.fws_net.specs.Fates.{has_ports}
 use Rattle.fws_net.specs.Points.{packet_of, tops_of}
 use Rattle.fws_tree.specs.declared.tables.Tables.{Tables}
 use Rattle.fws_tree.specs.Plain.{Plain, value}
-use Rattle.fws_tree.specs.Regular.{AreRegular}
-use Rattle.fws_ipt_tree.specs.declared.verdict.Seen.{Seen}
-use Rattle.fws_ipt_tree.specs.declared.verdict.Seen.TheVariants.{Entered, Routed}
-use Rattle.fws_ipt_tree.specs.declared.verdict.Verdict.{Verdict}
-use Rattle.fws_ipt_tree.specs.Shown.{IsTold, has_field, is_port, shown}
+use Rattle.fws_tree.specs.Regular.{AreRegular, is_port}
+use Rattle.fws_sight.specs.declared.seen.Seen.{Seen}
+use Rattle.fws_sight.specs.declared.seen.Seen.TheVariants.{Entered, Routed}
+use Rattle.fws_sight.specs.Shown.{IsTold, has_field, shown}
 use Rattle.fws_place.specs.Meaning.{IsPairOf, est_of, point_of, rec_of}
 use Rattle.fws_place.specs.Pairs.{LookAlike}
 use Rattle.fws_place.specs.Seen.{IsAcceptedSomewhere, IsAcceptedAlike, Tells}
-use Rattle.fws_ipt_put.proofs.Points.{at_field, point_is, set_is, set_within, with_end, with_field}
-
--- each value of the second tree is made of the first one's
-abbrev pub IsMade : {L : Type 0} → List ℕ → (L → Verdict) → Plain L → Plain Verdict → Type 0
-IsMade {L} tops gives t u = (x : List ℕ) → IsWithin tops x → (a : L) × (value t x ≡ Some a) × (value u x ≡ Some (gives a))
-
-same_some : {X : Type 0} {x y : X} → Some x ≡ Some y → x ≡ y
-same_some h = cc
-
--- where the one doesn't change, the other doesn't
-made_same : {L : Type 0} (tops : List ℕ) (gives : L → Verdict) (t : Plain L) (u : Plain Verdict) → IsMade tops gives t u
-    → (x y : List ℕ) → IsWithin tops x → IsWithin tops y → value t y ≡ value t x → value u y ≡ value u x
-made_same tops gives t u made x y in_x in_y same =
-    let at_x = made x in_x in
-    let at_y = made y in_y in
-    let leaf : at_y.0 ≡ at_x.0 = same_some (sym at_y.1 ∙ same ∙ at_x.1) in
-    at_y.2 ∙ ap (λ a. Some (gives a)) leaf ∙ sym at_x.2
-
--- a tree of which rules can tell what it holds, whatever its leaves
-pub record IsToldOf {L : Type 0} (seen : Seen) (tops : List ℕ) (t : Plain L) : Type 0 where
-  pub lacking : (f : ℕ) (x : List ℕ) → IsWithin tops x → has_field (slice_index x 1) f ≡ false → (v : ℕ) → v ≤ slice_index tops f → value t (slice_set x f v) ≡ value t x
-  pub unseen : (f : ℕ) (x : List ℕ) → 1 ≤ f → f < 12 → ((q : Packet) → shown seen f q ≡ None) → IsWithin tops x → (v : ℕ) → v ≤ slice_index tops f → value t (slice_set x f v) ≡ value t x
-
-pub told_made : {L : Type 0} (seen : Seen) (tops : List ℕ) (gives : L → Verdict) (t : Plain L) (u : Plain Verdict) → IsMade tops gives t u → IsToldOf seen tops t → IsTold seen tops u
-told_made seen tops gives t u made told = record {
-  lacking = λ f x within lacks v le. made_same tops gives t u made x (slice_set x f v) within (set_within tops x f v within le) (told.lacking f x within lacks v le);
-  unseen = λ f x low high hidden within v le. made_same tops gives t u made x (slice_set x f v) within (set_within tops x f v within le) (told.unseen f x low high hidden within v le);
-}
+use Rattle.fws_place.specs.TellingLaws.{AreTold}
+use Rattle.fws_place.proofs.FieldPoints.{at_field, set_is, set_within, with_end, with_field}
+use Rattle.fws_place.proofs.PairPoints.{point_back}
 
 -- Trees of which each field is known
 
@@ -122,7 +96,7 @@ module _ (site : Site) (P : Packet → Rec → Type 0) (t : Plain Bool) (tells :
 
   told_at : (x : List ℕ) → IsWithin (tops_of site) x → (b : Bool) × (value t x ≡ Some b) × ((b ≡ true) ↔ At x)
   told_at x within =
-      let is = point_is site x within in
+      let is = point_back site x within in
       subst (λ y. (b : Bool) × (value t y ≡ Some b) × ((b ≡ true) ↔ At x)) is
       (tells.tells (packet_of x) (rec_of x) (subst (IsWithin (tops_of site)) (sym is) within))
 
@@ -136,7 +110,7 @@ module _ (site : Site) (P : Packet → Rec → Type 0) (t : Plain Bool) (tells :
   pub told_by : (seen : Seen)
       → ((f : ℕ) (x : List ℕ) → IsWithin (tops_of site) x → has_field (slice_index x 1) f ≡ false → (v : ℕ) → v ≤ slice_index (tops_of site) f → At x → At (slice_set x f v))
       → ((f : ℕ) (x : List ℕ) → 1 ≤ f → f < 12 → ((q : Packet) → shown seen f q ≡ None) → IsWithin (tops_of site) x → (v : ℕ) → v ≤ slice_index (tops_of site) f → At x → At (slice_set x f v))
-      → IsToldOf seen (tops_of site) t
+      → IsTold seen (tops_of site) t
   told_by seen lacks hides = record {
     lacking = λ f x within lacking v le.
         let inside = set_within (tops_of site) x f v within le in
@@ -155,7 +129,7 @@ module _ (site : Site) (tables : Tables) (regular : AreRegular site tables) wher
   tops = tops_of site
 
   -- The table of new packets
-  pub fresh_told : IsToldOf Entered tops tables.fresh.1
+  pub fresh_told : IsTold Entered tops tables.fresh.1
   fresh_told = record {
     lacking = λ f x within lacks v le. lacking_by tops tables.fresh.1 regular.fresh_ports regular.fresh_flags regular.fresh_icmp f x within lacks v le;
     unseen = λ f x low high hidden within v le. regular.fresh_alone f x (entered_hidden f low hidden) high within v le;
@@ -183,7 +157,7 @@ module _ (site : Site) (tables : Tables) (regular : AreRegular site tables) wher
   somewhere_changed : (f : ℕ) (x : List ℕ) → IsWithin tops x → has_field (slice_index x 1) f ≡ false → (v : ℕ) → v ≤ slice_index tops f
       → Somewhere (packet_of x) (rec_of x) → Somewhere (packet_of (slice_set x f v)) (rec_of (slice_set x f v))
   somewhere_changed f x within lacks v le at =
-      let is = ap (λ y. slice_set y f v) (sym (point_is site x within)) ∙ set_is (packet_of x) (rec_of x) v f in
+      let is = ap (λ y. slice_set y f v) (sym (point_back site x within)) ∙ set_is (packet_of x) (rec_of x) v f in
       let more = changed f v (packet_of x) at.ends at.of_site lacks le in
       subst (λ y. Somewhere (packet_of y) (rec_of y)) (sym is)
       (record { ends = with_end f v at.ends; of_site = more.of_site; accepted = λ drop. at.accepted (sym more.same ∙ drop) })
@@ -197,10 +171,10 @@ module _ (site : Site) (tables : Tables) (regular : AreRegular site tables) wher
   somewhere_hidden : (f : ℕ) (x : List ℕ) → 1 ≤ f → f < 12 → ((q : Packet) → shown Entered f q ≡ None) → IsWithin tops x → (v : ℕ) → v ≤ slice_index tops f
       → Somewhere (packet_of x) (rec_of x) → Somewhere (packet_of (slice_set x f v)) (rec_of (slice_set x f v))
   somewhere_hidden f x low high hidden within v le at =
-      let is = ap (λ y. slice_set y f v) (sym (point_is site x within)) ∙ set_is (packet_of x) (rec_of x) v f in
+      let is = ap (λ y. slice_set y f v) (sym (point_back site x within)) ∙ set_is (packet_of x) (rec_of x) v f in
       subst (IsAcceptedSomewhere site tables) (sym (ap packet_of is ∙ packet_stays f (entered_hidden f low hidden) v (packet_of x))) at
 
-  pub packet_told : (t : Plain Bool) → Tells site (λ p r. IsAcceptedSomewhere site tables p) t → IsToldOf Entered tops t
+  pub packet_told : (t : Plain Bool) → Tells site (λ p r. IsAcceptedSomewhere site tables p) t → IsTold Entered tops t
   packet_told t tells = told_by site Somewhere t tells Entered somewhere_changed somewhere_hidden
 
   -- Pairs that look like one that is accepted
@@ -242,7 +216,7 @@ module _ (site : Site) (tables : Tables) (regular : AreRegular site tables) wher
   pair_changed : (f : ℕ) (x : List ℕ) → IsWithin tops x → has_field (slice_index x 1) f ≡ false → (v : ℕ) → v ≤ slice_index tops f
       → Alike (packet_of x) (rec_of x) → Alike (packet_of (slice_set x f v)) (rec_of (slice_set x f v))
   pair_changed f x within lacks v le at =
-      let is = ap (λ y. slice_set y f v) (sym (point_is site x within)) ∙ set_is (packet_of x) (rec_of x) v f in
+      let is = ap (λ y. slice_set y f v) (sym (point_back site x within)) ∙ set_is (packet_of x) (rec_of x) v f in
       let more = changed f v at.other at.ends at.of_site (ap (λ proto. has_field proto f) (sym at.alike.proto) ∙ lacks) le in
       subst (λ y. Alike (packet_of y) (rec_of y)) (sym is)
       (record {
@@ -256,7 +230,7 @@ module _ (site : Site) (tables : Tables) (regular : AreRegular site tables) wher
   pair_hidden : (f : ℕ) (x : List ℕ) → 1 ≤ f → f < 12 → ((q : Packet) → shown Routed f q ≡ None) → IsWithin tops x → (v : ℕ) → v ≤ slice_index tops f
       → Alike (packet_of x) (rec_of x) → Alike (packet_of (slice_set x f v)) (rec_of (slice_set x f v))
   pair_hidden f x low high hidden within v le at =
-      let is = ap (λ y. slice_set y f v) (sym (point_is site x within)) ∙ set_is (packet_of x) (rec_of x) v f in
+      let is = ap (λ y. slice_set y f v) (sym (point_back site x within)) ∙ set_is (packet_of x) (rec_of x) v f in
       subst (λ y. Alike (packet_of y) (rec_of y)) (sym is)
       (record {
         other = at.other;
@@ -266,5 +240,8 @@ module _ (site : Site) (tables : Tables) (regular : AreRegular site tables) wher
         accepted = at.accepted;
       })
 
-  pub pair_told : (t : Plain Bool) → Tells site Alike t → IsToldOf Routed tops t
+  pub pair_told : (t : Plain Bool) → Tells site Alike t → IsTold Routed tops t
   pair_told t tells = told_by site Alike t tells Routed pair_changed pair_hidden
+
+  pub all_told : AreTold site tables
+  all_told = record { fresh = fresh_told; packet = packet_told; behind = pair_told }

@@ -1,33 +1,9 @@
--- Points of packets, and what becomes of them where a field is changed.
-use Rattle.std.proofs.Common.{◌≡◌, ℕ, zero, suc, ◌≤◌, List, [], ◌∷◌, slice_index, slice_set, refl, sym, subst}
+-- Points of packets and ends in which a field is changed.
+use Rattle.std.proofs.Common.{◌≡◌, ℕ, zero, suc, ◌≤◌, List, [], ◌∷◌, slice_index, slice_set, refl}
 use Rattle.fws_box.specs.Sides.{IsWithin}
 use Rattle.fws_net.specs.declared.connection.Rec.{Rec}
 use Rattle.fws_net.specs.declared.packet.Packet.{Packet}
-use Rattle.fws_net.specs.declared.site.Site.{Site}
-use Rattle.fws_net.specs.Points.{packet_of, tops_of}
-use Rattle.fws_place.specs.Meaning.{IsPairOf, point_of, rec_of}
-
-pub point_is : (site : Site) (x : List ℕ) → IsWithin (tops_of site) x → point_of (packet_of x) (rec_of x) ≡ x
-point_is site [] h = absurd h
-point_is site (e ∷ []) h = absurd h.1
-point_is site (e ∷ proto ∷ []) h = absurd h.1.1
-point_is site (e ∷ proto ∷ dst ∷ []) h = absurd h.1.1.1
-point_is site (e ∷ proto ∷ dst ∷ dport ∷ []) h = absurd h.1.1.1.1
-point_is site (e ∷ proto ∷ dst ∷ dport ∷ src ∷ []) h = absurd h.1.1.1.1.1
-point_is site (e ∷ proto ∷ dst ∷ dport ∷ src ∷ sport ∷ []) h = absurd h.1.1.1.1.1.1
-point_is site (e ∷ proto ∷ dst ∷ dport ∷ src ∷ sport ∷ flags ∷ []) h = absurd h.1.1.1.1.1.1.1
-point_is site (e ∷ proto ∷ dst ∷ dport ∷ src ∷ sport ∷ flags ∷ icmp ∷ []) h = absurd h.1.1.1.1.1.1.1.1
-point_is site (e ∷ proto ∷ dst ∷ dport ∷ src ∷ sport ∷ flags ∷ icmp ∷ rdst ∷ []) h = absurd h.1.1.1.1.1.1.1.1.1
-point_is site (e ∷ proto ∷ dst ∷ dport ∷ src ∷ sport ∷ flags ∷ icmp ∷ rdst ∷ rdport ∷ []) h = absurd h.1.1.1.1.1.1.1.1.1.1
-point_is site (e ∷ proto ∷ dst ∷ dport ∷ src ∷ sport ∷ flags ∷ icmp ∷ rdst ∷ rdport ∷ rsrc ∷ []) h = absurd h.1.1.1.1.1.1.1.1.1.1.1
-point_is site (e ∷ proto ∷ dst ∷ dport ∷ src ∷ sport ∷ flags ∷ icmp ∷ rdst ∷ rdport ∷ rsrc ∷ rsport ∷ []) h = refl
-point_is site (e ∷ proto ∷ dst ∷ dport ∷ src ∷ sport ∷ flags ∷ icmp ∷ rdst ∷ rdport ∷ rsrc ∷ rsport ∷ x ∷ rest) h = absurd h.1.1.1.1.1.1.1.1.1.1.1.1
-
--- a property of points is one of packets and ends
-pub at_points : (site : Site) (D : List ℕ → Type 0) → ((p : Packet) (r : Rec) → IsPairOf site p r → D (point_of p r)) → (x : List ℕ) → IsWithin (tops_of site) x → D x
-at_points site D each x within =
-    let is = point_is site x within in
-    subst D is (each (packet_of x) (rec_of x) (subst (IsWithin (tops_of site)) (sym is) within))
+use Rattle.fws_place.specs.Meaning.{point_of}
 
 -- a field is changed
 pub set_within : (tops x : List ℕ) (f v : ℕ) → IsWithin tops x → v ≤ slice_index tops f → IsWithin tops (slice_set x f v)
