@@ -1,11 +1,16 @@
 pub mod Breaking
+pub mod CanDrop
 pub mod Counting
+pub mod Dropping
+pub mod Exchanging
 pub mod FieldPoints
 pub mod Finding
+pub mod IpfwViews
 pub mod NewRows
 pub mod OpenRows
 pub mod PairPoints
 pub mod Passing
+pub mod Regions
 pub mod SeenPoints
 pub mod Telling
 pub mod Viewing

@@ -30,7 +30,7 @@ use Rattle.fws_place.proofs.PairPoints.{roomy, within_length}
 abbrev firsts : Site → List ℕ
 firsts site = (length site.faces + 1) ∷ 255 ∷ (2 ^ 32 - 1) ∷ 65535 ∷ (2 ^ 32 - 1) ∷ 65535 ∷ 63 ∷ 255 ∷ []
 
-abbrev lasts : List ℕ
+abbrev pub lasts : List ℕ
 lasts = (2 ^ 32 - 1) ∷ 65535 ∷ (2 ^ 32 - 1) ∷ 65535 ∷ []
 
 set_within : (tops p : List ℕ) (f x : ℕ) → IsWithin tops p → x ≤ get_or tops f 0 → IsWithin tops (slice_set p f x)
@@ -44,7 +44,7 @@ set_within (top ∷ tops) (y ∷ p) (suc f) x w le = (w.0, set_within tops p f x
 abbrev with_ends : List ℕ → ℕ → ℕ → ℕ → ℕ → List ℕ
 with_ends p a b c d = slice_set (slice_set (slice_set (slice_set p 8 a) 9 b) 10 c) 11 d
 
-other_ends : (site : Site) (tables : Tables) → AreRegular site tables → (p : List ℕ) (a b c d : ℕ) → IsWithin (tops_of site) p → IsWithin lasts (a ∷ b ∷ c ∷ d ∷ [])
+pub other_ends : (site : Site) (tables : Tables) → AreRegular site tables → (p : List ℕ) (a b c d : ℕ) → IsWithin (tops_of site) p → IsWithin lasts (a ∷ b ∷ c ∷ d ∷ [])
     → value tables.fresh.1 (with_ends p a b c d) ≡ value tables.fresh.1 p
 other_ends site tables regular p a b c d w z =
     let p1 : List ℕ = slice_set p 8 a in

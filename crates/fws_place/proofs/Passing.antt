@@ -22,20 +22,20 @@ sides_have-append (s ∷ front) rest (x ∷ before) after e =
     ap (λ b. has s x && b) (sides_have-append front rest before after (omega arith)) ∙ sym (and_assoc (has s x) (sides_have front before) (sides_have rest after))
 
 -- a point within the tops lies in the whole ranges
-whole_have : (tops p : List ℕ) → IsWithin tops p → sides_have (whole_sides tops) p ≡ true
+pub whole_have : (tops p : List ℕ) → IsWithin tops p → sides_have (whole_sides tops) p ≡ true
 whole_have [] [] w = refl
 whole_have [] (x ∷ p) w = absurd w
 whole_have (top ∷ tops) [] w = absurd w
 whole_have (top ∷ tops) (x ∷ p) w = and_from _ _ (or_left _ _ (and_from (nat_le 0 x) (nat_le x top) (le-leb 0 x (omega arith)) (le-leb x top w.0))) (whole_have tops p w.1)
 
-within_split : (tops others p q : List ℕ) → length tops ≡ length p → IsWithin (tops ++ others) (p ++ q) → IsWithin tops p × IsWithin others q
+pub within_split : (tops others p q : List ℕ) → length tops ≡ length p → IsWithin (tops ++ others) (p ++ q) → IsWithin tops p × IsWithin others q
 within_split [] others [] q e w = (tt, w)
 within_split [] others (x ∷ p) q e w = absurd (omega arith)
 within_split (top ∷ tops) others [] q e w = absurd (omega arith)
 within_split (top ∷ tops) others (x ∷ p) q e w = let both = within_split tops others p q (omega arith) w.1 in ((w.0, both.0), both.1)
 
 -- a number is a member of the range from 1 on where it isn't 0
-from_one : (x top : ℕ) → x ≤ top → has (record { lo = 1; hi = top } ∷ []) x ≡ not (nat_eq x 0)
+pub from_one : (x top : ℕ) → x ≤ top → has (record { lo = 1; hi = top } ∷ []) x ≡ not (nat_eq x 0)
 from_one zero top le = refl
 from_one (suc x) top le = or_left _ _ (and_from (nat_le 1 (suc x)) (nat_le (suc x) top) (le-leb 1 (suc x) (omega arith)) (le-leb (suc x) top le))
     ∙ sym (not_from_false (nat_eq (suc x) 0) (ne_eqb (suc x) 0 (λ e. omega arith)))
@@ -45,7 +45,7 @@ in_range : (x top : ℕ) → x ≤ top → has (record { lo = 0; hi = top } ∷ 
 in_range x top le = or_left _ _ (and_from (nat_le 0 x) (nat_le x top) (le-leb 0 x (omega arith)) (le-leb x top le))
 
 -- with other sides at two places
-two_sides : (s r : List Iv) (tops others : List ℕ) (x y : ℕ) (p q : List ℕ) → length tops ≡ length p → IsWithin tops p → IsWithin others q
+pub two_sides : (s r : List Iv) (tops others : List ℕ) (x y : ℕ) (p q : List ℕ) → length tops ≡ length p → IsWithin tops p → IsWithin others q
     → sides_have (s ∷ whole_sides tops ++ r ∷ whole_sides others) (x ∷ p ++ y ∷ q) ≡ (has s x && has r y)
 two_sides s r tops others x y p q e w v =
     ap (λ b. has s x && b)

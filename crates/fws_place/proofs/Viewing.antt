@@ -32,7 +32,7 @@ use Rattle.fws_place.proofs.PairPoints.{agree_alike, agree_packet, look_alike, p
 
 -- Outcomes
 
-accepts : (o : Outcome) → (is_accepted o ≡ true) ↔ (o ≢ Drop)
+pub accepts : (o : Outcome) → (is_accepted o ≡ true) ↔ (o ≢ Drop)
 accepts Drop = (λ e. absurd (false≢true e), λ n. absurd (n refl))
 accepts (Accept w) = ((λ e same. cc), λ n. refl)
 
@@ -40,7 +40,7 @@ dropped_or_not : (o : Outcome) → (o ≡ Drop) ⊎ (o ≢ Drop)
 dropped_or_not Drop = inl refl
 dropped_or_not (Accept w) = inr (λ e. cc)
 
-not_accepted : (o : Outcome) → (o ≢ Drop → ⊥) → o ≡ Drop
+pub not_accepted : (o : Outcome) → (o ≢ Drop → ⊥) → o ≡ Drop
 not_accepted Drop n = refl
 not_accepted (Accept w) n = absurd (n (λ e. cc))
 
@@ -62,7 +62,7 @@ accepted_told site tables t at = record {
 
 -- Lost pairs
 
-lost_is : (site : Site) (p : Packet) (r : Rec) → is_lost_at site (point_of p r) ≡ true → IsLost site p r
+pub lost_is : (site : Site) (p : Packet) (r : Rec) → is_lost_at site (point_of p r) ≡ true → IsLost site p r
 lost_is site p r e = by site.forwarding (nat_eq p.entry 0) (is_local site r.rdst) e
   where
     by : (f h l : Bool) → (not f && (not h && not l)) ≡ true
@@ -88,7 +88,7 @@ pub lost_dropped : LostPairsAreDropped
 lost_dropped site tables regular p r w lost = est_at tables p r Drop (regular.est_lost (point_of p r) w lost)
 
 -- what is accepted isn't lost
-found : (site : Site) (tables : Tables) → AreRegular site tables → (p : Packet) (r : Rec) → IsPairOf site p r → est_of tables p r ≢ Drop → IsLost site p r → ⊥
+pub found : (site : Site) (tables : Tables) → AreRegular site tables → (p : Packet) (r : Rec) → IsPairOf site p r → est_of tables p r ≢ Drop → IsLost site p r → ⊥
 found site tables regular p r w n lost = n (lost_dropped site tables regular p r w lost)
 
 -- Views
@@ -200,11 +200,11 @@ breaks_by_one_view site tables regular p r w a b c accepted somewhere alike = (
     lostless true x e f = absurd (cc)
     lostless false x e f = f
 
-same_told : (v : Option Bool) (a b : Bool) → v ≡ Some a → v ≡ Some b → a ≡ b
+pub same_told : (v : Option Bool) (a b : Bool) → v ≡ Some a → v ≡ Some b → a ≡ b
 same_told v a b e f = (let g : Some a ≡ Some b = sym e ∙ f in cc)
 
 -- what a tree tells of a pair, by its value there
-told_by : (site : Site) (P : Packet → Rec → Type 0) (t : Plain Bool) → Tells site P t → (p : Packet) (r : Rec) → IsPairOf site p r → (b : Bool) → value t (point_of p r) ≡ Some b
+pub told_by : (site : Site) (P : Packet → Rec → Type 0) (t : Plain Bool) → Tells site P t → (p : Packet) (r : Rec) → IsPairOf site p r → (b : Bool) → value t (point_of p r) ≡ Some b
     → (b ≡ true) ↔ P p r
 told_by site P t told p r w b e =
     let here = told.tells p r w in
@@ -233,7 +233,7 @@ breaking_told site tables regular accepted packet behind t told_a told_b told_c 
     inside true x = refl
     inside false x = refl
 
-some_once : {X : Type 0} (x y : X) → Some x ≡ Some y → x ≡ y
+pub some_once : {X : Type 0} (x y : X) → Some x ≡ Some y → x ≡ y
 some_once x y e = cc
 
 -- the value of a tree that was made of three
@@ -282,7 +282,7 @@ bare : (v : Rewrite) → v.src ≡ None → v.dst ≡ None → v ≡ nothing_wri
 bare v src dst = λ i. record { src = src i; dst = dst i }
 
 -- what is accepted isn't rewritten
-unwritten : (site : Site) (tables : Tables) → AreRegular site tables → (p : Packet) (r : Rec) → IsPairOf site p r → est_of tables p r ≢ Drop → est_of tables p r ≡ Accept nothing_written
+pub unwritten : (site : Site) (tables : Tables) → AreRegular site tables → (p : Packet) (r : Rec) → IsPairOf site p r → est_of tables p r ≢ Drop → est_of tables p r ≡ Accept nothing_written
 unwritten site tables regular p r w n = by (value tables.est.1 (point_of p r)) refl
   where
     by : (v : Option Outcome) → value tables.est.1 (point_of p r) ≡ v → est_of tables p r ≡ Accept nothing_written

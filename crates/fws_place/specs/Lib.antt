@@ -1,9 +1,11 @@
+pub mod AheadOfLookup
 pub mod Answers
 pub mod Clauses
 pub mod Counts
 pub mod FitLaws
 pub mod Fits
 pub mod Found
+pub mod IpfwLaws
 pub mod Lost
 pub mod Meaning
 pub mod Pairs

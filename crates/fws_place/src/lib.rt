@@ -4,9 +4,11 @@
 mod breach;
 mod checking;
 mod clause;
+mod drops_ahead_of_lookup;
 mod drops_by_one_view;
 mod few_outcomes;
 mod first_true;
+mod ipfw_laws;
 mod laws;
 mod lost;
 mod naming;
@@ -17,6 +19,7 @@ mod seeing;
 pub use breach::{Breach, FitAnswer, Pair, PlaceAnswer};
 pub use checking::check;
 pub use clause::{Clause, clauses_of};
+pub use ipfw_laws::{ipfw_drops_new_arrivals, ipfw_drops_new_host, ipfw_pairs_are_told};
 pub use laws::{
     breaches_refute_fits, fitting_drops_are_seen, fitting_pairs_are_told, lost_pairs_are_dropped,
     points_are_of_pairs, points_are_seen, views_are_told,

@@ -14,8 +14,8 @@ use fws_num::Memory;
 use fws_tree::Tree;
 use std::alloc::Global;
 
-// The sides of the pairs that arrive for another host.
-fn passing_sides(alloc: Global, site: &Site) -> Result<[Ivs; 12], Memory>
+/// The sides of the pairs that arrive for another host. An error is want of memory.
+pub(crate) fn passing_sides(alloc: Global, site: &Site) -> Result<[Ivs; 12], Memory>
     requires { IsSound site.now }
     ensures { IfOk result (λ sides. (p : List ℕ) → IsWithin (tops_of site.now) p → sides_have sides p ≡ (not (nat_eq (slice_index p 0) 0) && not (is_local site.now (slice_index p 8)))) }
 {

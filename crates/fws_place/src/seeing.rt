@@ -21,7 +21,7 @@ pub struct Views {
 }
 
 /// Whether an outcome accepts.
-struct Accepting;
+pub(crate) struct Accepting;
 
 impl Relabelling<Outcome, bool> for Accepting {
     ghost use Rattle.fws_place.specs.Rewritings.{is_accepted};

@@ -1,0 +1,275 @@
+//! Whether ipfw can drop established packets ahead of the look-up of connections.
+
+ghost use Rattle.std.specs.Prelude.{◌≡◌, ℕ, Bool, ◌&&◌, ◌||◌, not, nat_eq, List, Some, slice_index, IfOk};
+ghost use Rattle.fws_box.specs.Sides.{IsWithin, sides_have};
+ghost use Rattle.fws_net.specs.Points.{tops_of};
+ghost use Rattle.fws_net.specs.Routes.{IsSound, is_local};
+ghost use Rattle.fws_place.specs.declared.clause.Clause.TheVariants.{DropsAheadOfLookup};
+ghost use Rattle.fws_place.specs.AheadOfLookup.{exchanged, exchanged_row, exchanged_rows, passes, stays, IsAcceptedNew, IsAcceptedNewAlike, IsDroppedOfAlike, IsDroppedOfPacket, IsSoughtAmong};
+ghost use Rattle.fws_place.specs.Found.{IsSought};
+ghost use Rattle.fws_place.specs.Pairs.{is_host};
+ghost use Rattle.fws_place.specs.Seen.{IsAcceptedPair, IsAcceptedSomewhere, IsAcceptedAlike, Tells};
+ghost use Rattle.fws_tree.specs.Plain.{value};
+ghost use Rattle.fws_tree.specs.Regular.{AreRegular};
+
+use crate::breach::Pair;
+use crate::lost::passing_sides;
+use crate::naming::named_pair;
+use crate::seeing::{Accepting, accepted, seen};
+use fws_box::{copy_sides, whole_sides};
+use fws_iv::{Ivs, one};
+use fws_net::{Site, local_set, tops};
+use fws_num::Memory;
+use fws_tree::{Relabelling, Row, Tables, Tree, from_rows};
+use std::alloc::Global;
+
+// The sides of the host's pairs.
+fn host_sides(alloc: Global, site: &Site) -> Result<[Ivs; 12], Memory>
+    requires { IsSound site.now }
+    ensures { IfOk result (λ sides. (p : List ℕ) → IsWithin (tops_of site.now) p → sides_have sides p ≡ nat_eq (slice_index p 0) 0) }
+{
+    let tops = tops(site);
+    let mut sides = whole_sides(alloc, &tops)?;
+    sides[0] = one(alloc, 0, 0)?;
+    Ok(sides)
+}
+
+// The sides of the pairs that arrive and are delivered.
+fn staying_sides(alloc: Global, site: &Site) -> Result<[Ivs; 12], Memory>
+    requires { IsSound site.now }
+    ensures { IfOk result (λ sides. (p : List ℕ) → IsWithin (tops_of site.now) p → sides_have sides p ≡ (not (nat_eq (slice_index p 0) 0) && is_local site.now (slice_index p 8))) }
+{
+    let tops = tops(site);
+    let mut sides = whole_sides(alloc, &tops)?;
+    sides[0] = one(alloc, 1, tops[0])?;
+    sides[8] = local_set(alloc, site)?;
+    Ok(sides)
+}
+
+// The tree that tells of each pair whether its packet is accepted when it is new.
+fn accepted_new(alloc: Global, site: &Site, tables: &Tables) -> Result<Tree<bool>, Memory>
+    requires { AreRegular site.now tables.now }
+    ensures tops { IfOk result (λ t. t.0 ≡ tops_of site.now) }
+    ensures tells { IfOk result (λ t. Tells site.now (λ p r. IsAcceptedNew tables.now p) t.1) }
+{
+    tables.fresh.relabel(alloc, &Accepting)
+}
+
+// The row with the sides of both destinations in each other's place.
+fn exchanged_row(alloc: Global, row: &Row<bool>) -> Result<Row<bool>, Memory>
+    ensures { IfOk result (λ r. r ≡ exchanged_row row.now) }
+{
+    let mut sides = copy_sides(alloc, &row.sides)?;
+    sides.swap(2, 8);
+    sides.swap(3, 9);
+    Ok(Row {
+        sides,
+        leaf: row.leaf,
+    })
+}
+
+// The rows that are true, with the sides of both destinations in each other's place.
+fn exchanged_rows(alloc: Global, rows: &[Row<bool>]) -> Result<Vec<Row<bool>>, Memory>
+    ensures { IfOk result (λ made. made.items ≡ exchanged_rows rows.now) }
+{
+    let mut made = Vec::new(alloc);
+    for row in rows {
+        if row.leaf {
+            made.push(exchanged_row(alloc, row)?)?;
+        }
+    }
+    Ok(made)
+}
+
+// The tree with the values of this one where both destinations are in each other's place.
+fn exchanged(alloc: Global, tree: &Tree<bool>) -> Result<Tree<bool>, Memory>
+    ensures tops { IfOk result (λ t. t.0 ≡ tree.now.0) }
+    ensures value { IfOk result (λ t. (q : List ℕ) → IsWithin tree.now.0 q → IsWithin tree.now.0 (exchanged q) → value t.1 q ≡ value tree.now.1 (exchanged q)) }
+{
+    let tops = tree.tops();
+    let paths = tree.paths(alloc)?;
+    let rows = exchanged_rows(alloc, &paths)?;
+    from_rows(alloc, tops, &rows, false)
+}
+
+// The tree that tells of each pair of the host whether the new packet that looks like it is accepted. Rows for the
+// host's packets are enough for it.
+fn accepted_new_alike(alloc: Global, site: &Site, tables: &Tables) -> Result<Tree<bool>, Memory>
+    requires sound { IsSound site.now }
+    requires regular { AreRegular site.now tables.now }
+    ensures tops { IfOk result (λ t. t.0 ≡ tops_of site.now) }
+    ensures tells { IfOk result (λ t. Tells site.now (IsAcceptedNewAlike tables.now) t.1) }
+{
+    let all = accepted_new(alloc, site, tables)?;
+    let sides = host_sides(alloc, site)?;
+    let host = all.restrict(alloc, &sides, false)?;
+    exchanged(alloc, &host)
+}
+
+/// Whether a pair is dropped and has one of two properties. A leaf tells whether the pair is accepted, and of both.
+struct DroppedWithEither;
+
+impl Relabelling<(bool, (bool, bool)), bool> for DroppedWithEither {
+    ghost use Rattle.std.specs.Prelude.{◌&&◌, ◌||◌, not};
+
+    ghost gives = { λ s leaf. not leaf.0 && (leaf.1.0 || leaf.1.1) };
+
+    fn leaf(&self, _alloc: Global, leaf: &(bool, (bool, bool))) -> Result<bool, Memory> {
+        Ok(!leaf.0 && (leaf.1.0 || leaf.1.1))
+    }
+}
+
+/// Whether both truth values are true.
+struct Both;
+
+impl Relabelling<(bool, bool), bool> for Both {
+    ghost use Rattle.std.specs.Prelude.{◌&&◌};
+
+    ghost gives = { λ s leaf. leaf.0 && leaf.1 };
+
+    fn leaf(&self, _alloc: Global, leaf: &(bool, bool)) -> Result<bool, Memory> {
+        Ok(leaf.0 && leaf.1)
+    }
+}
+
+// The tree that is true where the first one is false and one of the others is true.
+fn dropped_with_either(
+    alloc: Global,
+    accepted: &Tree<bool>,
+    first: &Tree<bool>,
+    second: &Tree<bool>,
+) -> Result<Tree<bool>, Memory>
+    requires first { first.now.0 ≡ accepted.now.0 }
+    requires second { second.now.0 ≡ accepted.now.0 }
+    ensures tops { IfOk result (λ t. t.0 ≡ accepted.now.0) }
+    ensures value { IfOk result (λ t. (q : List ℕ) → IsWithin accepted.now.0 q → (a : Bool) × (b : Bool) × (c : Bool) × (value accepted.now.1 q ≡ Some a) × (value first.now.1 q ≡ Some b) × (value second.now.1 q ≡ Some c) × (value t.1 q ≡ Some (not a && (b || c)))) }
+{
+    let either = first.pair(alloc, second)?;
+    let all = accepted.pair(alloc, &either)?;
+    all.relabel(alloc, &DroppedWithEither)
+}
+
+// The tree that is true where both are.
+fn true_in_both(
+    alloc: Global,
+    first: &Tree<bool>,
+    second: &Tree<bool>,
+) -> Result<Tree<bool>, Memory>
+    requires { second.now.0 ≡ first.now.0 }
+    ensures tops { IfOk result (λ t. t.0 ≡ first.now.0) }
+    ensures value { IfOk result (λ t. (q : List ℕ) → IsWithin first.now.0 q → (a : Bool) × (b : Bool) × (value first.now.1 q ≡ Some a) × (value second.now.1 q ≡ Some b) × (value t.1 q ≡ Some (a && b))) }
+{
+    let pairs = first.pair(alloc, second)?;
+    pairs.relabel(alloc, &Both)
+}
+
+// A pair of the host that breaks the clause: it is dropped, and a pair or a new packet that looks like it is accepted.
+fn among_host(
+    alloc: Global,
+    site: &Site,
+    tables: &Tables,
+    accepted: &Tree<bool>,
+    behind: &Tree<bool>,
+) -> Result<Option<(Pair, Option<Pair>)>, Memory>
+    requires sound { IsSound site.now }
+    requires regular { AreRegular site.now tables.now }
+    requires accepted_tops { accepted.now.0 ≡ tops_of site.now }
+    requires accepted { Tells site.now (IsAcceptedPair tables.now) accepted.now.1 }
+    requires behind_tops { behind.now.0 ≡ tops_of site.now }
+    requires behind { Tells site.now (IsAcceptedAlike site.now tables.now) behind.now.1 }
+    ensures { IfOk result (IsSoughtAmong site.now tables.now (λ p r. is_host p)) }
+{
+    let alike = accepted_new_alike(alloc, site, tables)?;
+    let dropped = dropped_with_either(alloc, accepted, behind, &alike)?;
+    let sides = host_sides(alloc, site)?;
+    let breaking = dropped.restrict(alloc, &sides, false)?;
+    named_pair(alloc, site, &breaking)
+}
+
+// The tree that tells of each pair whether it is dropped though its packet is accepted, in some connection or when it
+// is new.
+fn dropped_of_packet(
+    alloc: Global,
+    site: &Site,
+    tables: &Tables,
+    accepted: &Tree<bool>,
+    packet: &Tree<bool>,
+) -> Result<Tree<bool>, Memory>
+    requires regular { AreRegular site.now tables.now }
+    requires accepted_tops { accepted.now.0 ≡ tops_of site.now }
+    requires accepted { Tells site.now (IsAcceptedPair tables.now) accepted.now.1 }
+    requires packet_tops { packet.now.0 ≡ tops_of site.now }
+    requires packet { Tells site.now (λ p r. IsAcceptedSomewhere site.now tables.now p) packet.now.1 }
+    ensures tops { IfOk result (λ t. t.0 ≡ tops_of site.now) }
+    ensures tells { IfOk result (λ t. Tells site.now (IsDroppedOfPacket site.now tables.now) t.1) }
+{
+    let new = accepted_new(alloc, site, tables)?;
+    dropped_with_either(alloc, accepted, packet, &new)
+}
+
+// A pair that is delivered and breaks the clause: it is dropped though its packet is accepted.
+fn among_staying(
+    alloc: Global,
+    site: &Site,
+    tables: &Tables,
+    dropped: &Tree<bool>,
+) -> Result<Option<(Pair, Option<Pair>)>, Memory>
+    requires sound { IsSound site.now }
+    requires regular { AreRegular site.now tables.now }
+    requires tops { dropped.now.0 ≡ tops_of site.now }
+    requires dropped { Tells site.now (IsDroppedOfPacket site.now tables.now) dropped.now.1 }
+    ensures { IfOk result (IsSoughtAmong site.now tables.now (stays site.now)) }
+{
+    let sides = staying_sides(alloc, site)?;
+    let breaking = dropped.restrict(alloc, &sides, false)?;
+    named_pair(alloc, site, &breaking)
+}
+
+// A pair that is forwarded and breaks the clause: it is dropped though its packet is accepted, and so is some pair that
+// looks like it.
+fn among_passing(
+    alloc: Global,
+    site: &Site,
+    tables: &Tables,
+    dropped: &Tree<bool>,
+    behind: &Tree<bool>,
+) -> Result<Option<(Pair, Option<Pair>)>, Memory>
+    requires sound { IsSound site.now }
+    requires regular { AreRegular site.now tables.now }
+    requires tops { dropped.now.0 ≡ tops_of site.now }
+    requires dropped { Tells site.now (IsDroppedOfPacket site.now tables.now) dropped.now.1 }
+    requires behind_tops { behind.now.0 ≡ tops_of site.now }
+    requires behind { Tells site.now (IsAcceptedAlike site.now tables.now) behind.now.1 }
+    ensures { IfOk result (IsSoughtAmong site.now tables.now (passes site.now)) }
+{
+    if !site.forwarding {
+        return Ok(None);
+    }
+    let seen = true_in_both(alloc, dropped, behind)?;
+    let sides = passing_sides(alloc, site)?;
+    let breaking = seen.restrict(alloc, &sides, false)?;
+    named_pair(alloc, site, &breaking)
+}
+
+/// A dropped pair that ipfw can't drop ahead of the look-up of connections, if there is one. An error is want of
+/// memory.
+pub(crate) fn drops_ahead_of_lookup(
+    alloc: Global,
+    site: &Site,
+    tables: &Tables,
+) -> Result<Option<(Pair, Option<Pair>)>, Memory>
+    requires sound { IsSound site.now }
+    requires regular { AreRegular site.now tables.now }
+    ensures { IfOk result (λ found. IsSought site.now tables.now DropsAheadOfLookup found) }
+{
+    let accepted = accepted(alloc, site, tables)?;
+    let seen = seen(alloc, site, tables)?;
+    if let Some(found) = among_host(alloc, site, tables, &accepted, &seen.behind)? {
+        return Ok(Some(found));
+    }
+    let dropped = dropped_of_packet(alloc, site, tables, &accepted, &seen.packet)?;
+    if let Some(found) = among_staying(alloc, site, tables, &dropped)? {
+        return Ok(Some(found));
+    }
+    among_passing(alloc, site, tables, &dropped, &seen.behind)
+}
