@@ -3,6 +3,7 @@ pub mod Begun
 pub mod Closing
 pub mod Drafted
 pub mod Filling
+pub mod Gathering
 pub mod Laid
 pub mod Leaves
 pub mod Lists

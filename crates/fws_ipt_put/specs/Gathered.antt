@@ -1,5 +1,5 @@
 -- What is gathered from the rows of the table of new packets.
-use Rattle.std.specs.Prelude.{◌≡◌, ◌≢◌, ℕ, ◌≤◌, true, List, [], ◌++◌, length, All, Some, slice_get, slice_index_or}
+use Rattle.std.specs.Prelude.{◌≡◌, ◌≢◌, ℕ, ◌≤◌, true, List, [], ◌++◌, length, All, Some, position, slice_get, slice_index_or}
 use Rattle.fws_iv.specs.declared.iv.Iv.{Iv}
 use Rattle.fws_iv.specs.Ivs.{has}
 use Rattle.fws_iv.specs.Prefixes.{IsBlock, prefix_has, some_prefix_has}
@@ -10,7 +10,7 @@ use Rattle.fws_net.specs.declared.outcome.Rewrite.{Rewrite}
 use Rattle.fws_tree.specs.declared.row.Row.{Row}
 use Rattle.fws_ipt_put.specs.declared.gathered.Uses.{Uses}
 use Rattle.fws_ipt_put.specs.declared.marks.Mark.{Mark}
-use Rattle.fws_ipt_put.specs.Marks.{AreBlocks, FitsEnd, is_network, writes}
+use Rattle.fws_ipt_put.specs.Marks.{AreBlocks, FitsEnd, is_network, same_rewrite, writes}
 
 -- a side of a row
 abbrev pub side : ℕ → Row Outcome → List Iv
@@ -31,6 +31,24 @@ pub record Covers (uses : Uses) (row : Row Outcome) : Type 0 where
 -- the sets have what the sides of all rows with the rewriting have
 abbrev pub CoversAll : Rewrite → Uses → List (Row Outcome) → Type 0
 CoversAll w uses rows = All (λ row. row.leaf ≡ Accept w → Covers uses row) rows
+
+-- the sets have what the others have
+pub record Grows (old new : Uses) : Type 0 where
+  pub entries : IsWithinSet old.entries new.entries
+  pub protos : IsWithinSet old.protos new.protos
+  pub dsts : IsWithinSet old.dsts new.dsts
+  pub srcs : IsWithinSet old.srcs new.srcs
+
+-- the sets at the place of each rewriting have what the sides of all rows with it have
+abbrev pub AreUses : List Rewrite → List Uses → List (Row Outcome) → Type 0
+AreUses rewrites uses rows =
+    (w : Rewrite) (i : ℕ) (u : Uses) → position (same_rewrite w) rewrites ≡ Some i → slice_get uses i ≡ Some u → CoversAll w u rows
+
+-- the sets at the place of the row's rewriting now have what its sides have, and all have what they had
+abbrev pub PutsRow : List Rewrite → Row Outcome → List Uses → List Uses → Type 0
+PutsRow rewrites row old new =
+    (w : Rewrite) (i : ℕ) (u : Uses) → position (same_rewrite w) rewrites ≡ Some i → slice_get new i ≡ Some u
+    → (row.leaf ≡ Accept w → Covers u row) × (v : Uses) × (slice_get old i ≡ Some v) × Grows v u
 
 -- blocks, each of this length or a longer one, with all addresses of a set
 pub record AreBlocksOf (len : ℕ) (set : List Iv) (blocks : List Prefix) : Type 0 where
@@ -65,9 +83,13 @@ pub record TellsOfAll (rows : List (Row Outcome)) (mark : Mark) : Type 0 where
   pub dst_fits : FitsEnd mark.rewrite.dst
   pub src_fits : FitsEnd mark.rewrite.src
 
+-- the rewriting is among these
+abbrev pub IsAmong : List Rewrite → Rewrite → Type 0
+IsAmong rewrites w = (i : ℕ) × (slice_get rewrites i ≡ Some w)
+
 -- a rewriting that writes an end is among these
 abbrev pub IsAmongThem : List Rewrite → Rewrite → Type 0
-IsAmongThem rewrites w = writes w ≡ true → (i : ℕ) × (slice_get rewrites i ≡ Some w)
+IsAmongThem rewrites w = writes w ≡ true → IsAmong rewrites w
 
 -- what an outcome writes is among these
 abbrev pub IsRewriteOf : List Rewrite → Outcome → Type 0

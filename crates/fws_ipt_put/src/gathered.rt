@@ -1,14 +1,13 @@
 //! What the rows of the table of new packets tell of the packets that get a rewriting.
 
-ghost use Rattle.std.specs.Prelude.{◌≡◌, ◌↔◌, ℕ, Bool, true, IsTrue, IfOk, OnOk, All};
-ghost use Rattle.fws_iv.specs.Ivs.{has};
-ghost use Rattle.fws_net.specs.declared.outcome.Outcome.TheVariants as outcomes;
-ghost use Rattle.fws_ipt_put.specs.Gathered.{Covers, CoversAll, IsWithinSet};
+ghost use Rattle.std.specs.Prelude.{◌≡◌, length, IfOk, OnOk};
+ghost use Rattle.fws_ipt_put.specs.Gathered.{AreUses, Covers, IsWithinSet, PutsRow};
 
 use fws_iv::Ivs;
 use fws_net::{Outcome, Rewrite};
 use fws_num::Memory;
-use fws_tree::{Leaf, Row};
+use fws_tree::Row;
+use indexmap::IndexSet;
 use std::alloc::Global;
 
 /// Which entries, protocols, destinations and sources some packets have.
@@ -42,41 +41,56 @@ fn with_row(alloc: Global, uses: &Uses, row: &Row<Outcome>) -> Result<Uses, Memo
     })
 }
 
-/// The sets with those of the row's sides, if the row has the rewriting. An error is want of memory.
-fn with_row_of(
+/// Puts what the row's packets have to what those of its rewriting have, if that is among the rewritings. An error is
+/// want of memory.
+fn put_row(
     alloc: Global,
-    uses: Uses,
+    uses: &mut Vec<Uses>,
+    rewrites: &IndexSet<Rewrite>,
     row: &Row<Outcome>,
-    rewrite: Rewrite,
-) -> Result<Uses, Memory>
-    ensures row { IfOk result (λ more. row.now.leaf ≡ outcomes.Accept rewrite → Covers more row.now) }
-    ensures entries { IfOk result (λ more. IsWithinSet uses.entries more.entries) }
-    ensures protos { IfOk result (λ more. IsWithinSet uses.protos more.protos) }
-    ensures dsts { IfOk result (λ more. IsWithinSet uses.dsts more.dsts) }
-    ensures srcs { IfOk result (λ more. IsWithinSet uses.srcs more.srcs) }
+) -> Result<(), Memory>
+    requires { length uses.old.items ≡ length rewrites.now.keys }
+    ensures size { length uses.new.items ≡ length uses.old.items }
+    ensures row { OnOk result (PutsRow rewrites.now.keys row.now uses.old.items uses.new.items) }
 {
-    if row.leaf.same(&Outcome::Accept(rewrite)) {
-        return with_row(alloc, &uses, row);
+    let Outcome::Accept(rewrite) = row.leaf else {
+        return Ok(());
+    };
+    let Some(place) = rewrites.get_index_of(&rewrite) else {
+        return Ok(());
+    };
+    uses[place] = with_row(alloc, &uses[place], row)?;
+    Ok(())
+}
+
+/// So many empty sets. An error is want of memory.
+fn no_uses(alloc: Global, count: usize) -> Result<Vec<Uses>, Memory>
+    ensures { IfOk result (λ uses. length uses.items ≡ count) }
+{
+    let mut uses = Vec::new(alloc);
+    for _ in 0..count {
+        uses.push(Uses {
+            entries: Ivs::none(alloc),
+            protos: Ivs::none(alloc),
+            dsts: Ivs::none(alloc),
+            srcs: Ivs::none(alloc),
+        })?;
     }
     Ok(uses)
 }
 
-/// What the packets have that get the rewriting, by the rows of a table. An error is want of memory.
+/// What the packets have that get each of the rewritings, by the rows of a table. An error is want of memory.
 pub(crate) fn uses_of(
     alloc: Global,
     rows: &[Row<Outcome>],
-    rewrite: Rewrite,
-) -> Result<Uses, Memory>
-    ensures { IfOk result (λ uses. CoversAll rewrite uses rows.now) }
+    rewrites: &IndexSet<Rewrite>,
+) -> Result<Vec<Uses>, Memory>
+    ensures size { IfOk result (λ uses. length uses.items ≡ length rewrites.now.keys) }
+    ensures uses { IfOk result (λ uses. AreUses rewrites.now.keys uses.items rows.now) }
 {
-    let mut uses = Uses {
-        entries: Ivs::none(alloc),
-        protos: Ivs::none(alloc),
-        dsts: Ivs::none(alloc),
-        srcs: Ivs::none(alloc),
-    };
+    let mut uses = no_uses(alloc, rewrites.len())?;
     for row in rows {
-        uses = with_row_of(alloc, uses, row, rewrite)?;
+        put_row(alloc, &mut uses, rewrites, row)?;
     }
     Ok(uses)
 }

@@ -1,11 +1,11 @@
 //! The marks of a table of new packets.
 
-ghost use Rattle.std.specs.Prelude.{◌≡◌, ◌≢◌, ℕ, ◌<◌, Bool, true, Some, List, map, slice_get, IfOk, OnOk, All, nat_lt};
+ghost use Rattle.std.specs.Prelude.{◌≡◌, ℕ, true, Some, List, length, map, position, slice_get, IfOk, OnOk, All, nat_lt};
 ghost use Rattle.std.specs.List.{list_any};
 ghost use Rattle.fws_iv.specs.Ivs.{has};
 ghost use Rattle.fws_iv.specs.Prefixes.{IsBlock, some_prefix_has};
-ghost use Rattle.fws_ipt_put.specs.Gathered.{CoversAll, Extends, HaveRewrites, IsAmongThem, IsRewriteOf, TellsOfAll};
-ghost use Rattle.fws_ipt_put.specs.Marks.{AreBlocks, AreMarks, FitsEnd, is_network, writes};
+ghost use Rattle.fws_ipt_put.specs.Gathered.{CoversAll, Extends, HaveRewrites, IsAmong, IsAmongThem, IsRewriteOf, TellsOfAll};
+ghost use Rattle.fws_ipt_put.specs.Marks.{AreBlocks, AreMarks, FitsEnd, is_network, same_rewrite, writes};
 
 use crate::blocks::blocks_of;
 use crate::gathered::{Uses, uses_of};
@@ -79,12 +79,11 @@ fn network_blocks(alloc: Global, end: Option<End>, set: &Ivs) -> Result<Items<Pr
     }
 }
 
-/// What is known of the packets that get the rewriting. An error is want of memory.
-fn mark_of(alloc: Global, rows: &[Row<Outcome>], rewrite: Rewrite) -> Result<Mark, Memory>
+/// What is known of the packets that get the rewriting, by what they have. An error is want of memory.
+fn mark_of(alloc: Global, uses: &Uses, rewrite: Rewrite) -> Result<Mark, Memory>
     ensures rewrite { IfOk result (λ mark. mark.rewrite ≡ rewrite) }
-    ensures tells { IfOk result (TellsOfAll rows.now) }
+    ensures tells { (rows : List (Row Outcome)) → CoversAll rewrite uses.now rows → IfOk result (TellsOfAll rows) }
 {
-    let uses = uses_of(alloc, rows, rewrite)?;
     Ok(Mark {
         rewrite,
         tcp: uses.protos.has(6),
@@ -96,18 +95,32 @@ fn mark_of(alloc: Global, rows: &[Row<Outcome>], rewrite: Rewrite) -> Result<Mar
     })
 }
 
+/// What the packets have that get a rewriting among those.
+fn uses_for<'a>(uses: &'a [Uses], rewrites: &IndexSet<Rewrite>, rewrite: Rewrite) -> &'a Uses
+    requires size { length uses.now ≡ length rewrites.now.keys }
+    requires there { IsAmong rewrites.now.keys rewrite }
+    ensures { (i : ℕ) × (position (same_rewrite rewrite) rewrites.now.keys ≡ Some i) × (slice_get uses.now i ≡ Some result.now) }
+{
+    match rewrites.get_index_of(&rewrite) {
+        Some(place) => &uses[place],
+        None => unreachable!(),
+    }
+}
+
 /// A mark for each of the rewritings, in their order. An error is want of memory.
 pub(crate) fn marks_of(
     alloc: Global,
     rows: &[Row<Outcome>],
-    rewrites: &[Rewrite],
+    rewrites: &IndexSet<Rewrite>,
 ) -> Result<Vec<Mark>, Memory>
-    ensures rewrites { IfOk result (λ marks. map (λ mark. mark.rewrite) marks.items ≡ rewrites.now) }
+    ensures rewrites { IfOk result (λ marks. map (λ mark. mark.rewrite) marks.items ≡ rewrites.now.keys) }
     ensures tell { IfOk result (λ marks. All (TellsOfAll rows.now) marks.items) }
 {
+    let uses = uses_of(alloc, rows, rewrites)?;
     let mut marks = Vec::new(alloc);
-    for rewrite in rewrites {
-        marks.push(mark_of(alloc, rows, *rewrite)?)?;
+    for rewrite in rewrites.as_slice() {
+        let used = uses_for(uses.as_slice(), rewrites, *rewrite);
+        marks.push(mark_of(alloc, used, *rewrite)?)?;
     }
     Ok(marks)
 }
@@ -127,6 +140,6 @@ pub(crate) fn marks_for(alloc: Global, fresh: &Tree<Outcome>) -> Result<Marks, M
 {
     let rows = fresh.paths(alloc)?;
     let rewrites = rewrites_of(alloc, rows.as_slice())?;
-    let marks = marks_of(alloc, rows.as_slice(), rewrites.as_slice())?;
+    let marks = marks_of(alloc, rows.as_slice(), &rewrites)?;
     Ok(Marks { rewrites, marks })
 }

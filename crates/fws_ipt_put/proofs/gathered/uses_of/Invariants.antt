@@ -1,6 +1,6 @@
-use Rattle.std.proofs.Common.{take}
-use Rattle.fws_ipt_put.specs.Gathered.{CoversAll}
+use Rattle.std.proofs.Common.{◌≡◌, length, take}
+use Rattle.fws_ipt_put.specs.Gathered.{AreUses}
 use Rattle.fws_ipt_put.proofs.gathered.uses_of.Given as goal
 
 abbrev pub invariant-loop-row : goal.invariant-loop-row
-invariant-loop-row l = CoversAll l.rewrite l.uses (take l.row-index l.rows)
+invariant-loop-row l = (length l.uses.items ≡ length l.rewrites.keys) × AreUses l.rewrites.keys l.uses.items (take l.row-index l.rows)
