@@ -1,0 +1,42 @@
+-- Small steps that the proofs of this crate share.
+use Rattle.std.proofs.Common.{◌≡◌, ◌≢◌, ◌⊎◌, ℕ, Bool, true, false, cond, Option, Some, None, Result, Ok, List, [], ◌∷◌, refl, ap, sym, ◌∙◌, inl, inr}
+use Rattle.std.proofs.lemmas.Bool.{false≢true, true≢false, and_from, and_parts, false_from_ne_true}
+use Rattle.std.proofs.lemmas.Slice.Eq.{bytes_eq-Decides}
+use Rattle.std.specs.List.{list_all}
+use Rattle.std.specs.Str.{bytes_eq}
+use Rattle.fws_net.specs.Reading.{and_then}
+
+pub then_ok : {A B E : Type 0} (r : Result A E) (f : A → Result B E) (x : A) (s : Result B E) → r ≡ Ok x → f x ≡ s → and_then r f ≡ s
+then_ok r f x s e k = ap (λ o. and_then o f) e ∙ k
+
+pub if_true : {A : Type 0} (b : Bool) (x y : A) → b ≡ true → cond b x y ≡ x
+if_true b x y e = ap (λ t. cond t x y) e
+
+pub if_false : {A : Type 0} (b : Bool) (x y : A) → b ≡ false → cond b x y ≡ y
+if_false b x y e = ap (λ t. cond t x y) e
+
+-- whether an option has a value
+pub option_cases : {A : Type 0} (o : Option A) → (o ≡ None) ⊎ ((x : A) × (o ≡ Some x))
+option_cases None = inl refl
+option_cases (Some x) = inr (x, refl)
+
+-- a condition that fails has no branch
+pub never : {A : Type 0} → false ≡ true → A
+never e = absurd (false≢true e)
+
+pub bytes_same : (a : List ℕ) → bytes_eq a a ≡ true
+bytes_same a = (bytes_eq-Decides a a).1 refl
+
+-- texts of which one passes a test and the other doesn't
+pub texts_differ : (p : ℕ → Bool) (a b : List ℕ) → list_all p a ≡ true → list_all p b ≡ false → bytes_eq a b ≡ false
+texts_differ p a b h k =
+    false_from_ne_true (bytes_eq a b) (λ e. true≢false (sym h ∙ ap (list_all p) ((bytes_eq-Decides a b).0 e) ∙ k))
+
+pub text_some : (a : List ℕ) → a ≢ [] → bytes_eq a [] ≡ false
+text_some a h = false_from_ne_true (bytes_eq a []) (λ e. h ((bytes_eq-Decides a []).0 e))
+
+pub all_weaker : {A : Type 0} (p q : A → Bool) → ((x : A) → p x ≡ true → q x ≡ true) → (xs : List A) → list_all p xs ≡ true → list_all q xs ≡ true
+all_weaker p q by [] h = refl
+all_weaker p q by (x ∷ xs) h =
+    let parts = and_parts (p x) (list_all p xs) h in
+    and_from (q x) (list_all q xs) (by x parts.0) (all_weaker p q by xs parts.1)
