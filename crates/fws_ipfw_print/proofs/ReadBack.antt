@@ -251,9 +251,9 @@ none_other [] = refl
 none_other (nat ∷ nats) = none_other nats
 
 -- a text by its lines: both passes over them, and their end
-text_by : (site : Site) (c : IpfwConfig) (text : List ℕ) (lines : List (List ℕ)) (known : List Defined) (last : IpfwDraft) → lines_of text ≡ lines → defined_from site [] (numbered Ipfw 1 lines) ≡ known
-    → lines_read (line_step site known) fresh_text (numbered Ipfw 1 lines) ≡ Ok last → ended last ≡ Ok c → spelled site text ≡ Ok c
-text_by site c text lines known last divided defined taken end =
+text_by : (site : Site) (c : IpfwConfig) (text : List ℕ) (lines : List (List ℕ)) (named : List Defined) (last : IpfwDraft) → lines_of text ≡ lines → defined_from site [] (numbered Ipfw 1 lines) ≡ named
+    → lines_read (line_step site named) fresh_text (numbered Ipfw 1 lines) ≡ Ok last → ended last ≡ Ok c → spelled site text ≡ Ok c
+text_by site c text lines named last divided defined taken end =
     ap (λ (ls : List (List ℕ)). and_then (lines_read (line_step site (defined_from site [] (numbered Ipfw 1 ls))) fresh_text (numbered Ipfw 1 ls)) (λ state. located (suc (length ls)) (ended state))) divided
     ∙ ap (λ (k : List Defined). and_then (lines_read (line_step site k) fresh_text (numbered Ipfw 1 lines)) (λ state. located (suc (length lines)) (ended state))) defined
     ∙ ap (λ o. and_then o (λ state. located (suc (length lines)) (ended state))) taken

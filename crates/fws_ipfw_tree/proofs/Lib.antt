@@ -1,0 +1,11 @@
+pub mod Ending
+pub mod Grouping
+pub mod Hitting
+pub mod Leading
+pub mod Leaving
+pub mod Listing
+pub mod Placing
+pub mod Rooms
+pub mod Rooting
+pub mod Turning
+pub mod Walking

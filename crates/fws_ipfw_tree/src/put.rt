@@ -1,0 +1,129 @@
+//! A decision tree as a list of rules.
+
+ghost use Rattle.std.specs.Prelude.{◌≡◌, ◌≢◌, ◌<◌, ◌≤◌, ◌-◌, ◌++◌, ◌∷◌, [], List, Some, length, slice_get, OnOk};
+ghost use Rattle.fws_ipfw.specs.declared.config.IpfwRule.{IpfwRule};
+ghost use Rattle.fws_net.specs.Points.{tops_of};
+ghost use Rattle.fws_net.specs.Routes.{IsSound};
+ghost use Rattle.fws_sight.specs.Shown.{IsTold};
+ghost use Rattle.fws_tree.specs.declared.node.Node.{Node};
+ghost use Rattle.fws_ipfw_tree.specs.Blocks.{AreRootTurns, AreTurnRules, IsPlanned, KeepsEntry};
+ghost use Rattle.fws_ipfw_tree.specs.Lists.{FitsAt, IsList};
+ghost use Rattle.fws_ipfw_tree.specs.Literals.{direction};
+
+use crate::choice::{Choice, Section};
+use crate::literals::{narrowed, on_pass};
+use crate::nodes::put_node;
+use crate::plan::Plan;
+use crate::root::root_turns;
+use crate::turn::Turn;
+use fws_ipfw::IpfwRule;
+use fws_net::{Cond, Site};
+use fws_num::{Items, Memory};
+use fws_sight::{
+    cut_nodes_part_values, leaf_nodes_are_leaves, reached_values_are_told, seen_points_are_topped,
+};
+use fws_tree::{Kid, Node, Tree};
+use std::alloc::Global;
+
+// Appends the rules of turns for packets on the pass of the section.
+fn put_turns(
+    alloc: Global,
+    rules: &mut Items<IpfwRule>,
+    plan: &Plan<'_>,
+    turns: &[Turn],
+    cond: &Cond,
+) -> Result<(), Memory>
+    requires direction { cond.now ≡ direction plan.now.section.now.outward ∷ [] }
+    requires planned { IsPlanned plan.now.site.now plan.now.tree.now.0 plan.now.tree.now.1 plan.now.section.now plan.now.leaves.now plan.now.nodes.now }
+    requires turns { AreRootTurns plan.now.site.now plan.now.tree.now.0 plan.now.section.now plan.now.tree.now.1 plan.now.leaves.now plan.now.nodes.now turns.now }
+    ensures { OnOk result ((block : List IpfwRule) × (rules.new ≡ rules.old ++ block) × AreTurnRules plan.now.site.now plan.now.tree.now.0 plan.now.section.now plan.now.tree.now.1 plan.now.leaves.now plan.now.nodes.now cond.now turns.now block) }
+{
+    for turn in turns {
+        let next = narrowed(alloc, cond, &turn.lit)?;
+        put_node(alloc, rules, plan, turn.node as usize, &next)?;
+    }
+    Ok(())
+}
+
+// Appends the list of a tree that cuts the entry into the sets of kids.
+fn put_by_entry(
+    alloc: Global,
+    rules: &mut Items<IpfwRule>,
+    plan: &Plan<'_>,
+    kids: &[Kid],
+) -> Result<(), Memory>
+    requires sound { IsSound plan.now.site.now }
+    requires told { IsTold plan.now.section.now.seen plan.now.tree.now.0 plan.now.tree.now.1 }
+    requires planned { IsPlanned plan.now.site.now plan.now.tree.now.0 plan.now.tree.now.1 plan.now.section.now plan.now.leaves.now plan.now.nodes.now }
+    requires cut { slice_get plan.now.nodes.now (length plan.now.nodes.now - 1) ≡ Some (Node.Cut 0 kids.now) }
+    ensures { OnOk result ((block : List IpfwRule) × (rules.new ≡ rules.old ++ block) × IsList plan.now.site.now plan.now.tree.now.0 plan.now.section.now plan.now.tree.now.1 block) }
+{
+    reached_values_are_told::<Choice>();
+    seen_points_are_topped();
+    let cond = on_pass(alloc, plan.section.outward)?;
+    let turns = root_turns(alloc, plan, kids)?;
+    put_turns(alloc, rules, plan, turns.as_slice(), &cond)?;
+    Ok(())
+}
+
+// Appends the list of a tree that doesn't cut the entry.
+fn put_whole(alloc: Global, rules: &mut Items<IpfwRule>, plan: &Plan<'_>) -> Result<(), Memory>
+    requires told { IsTold plan.now.section.now.seen plan.now.tree.now.0 plan.now.tree.now.1 }
+    requires planned { IsPlanned plan.now.site.now plan.now.tree.now.0 plan.now.tree.now.1 plan.now.section.now plan.now.leaves.now plan.now.nodes.now }
+    requires keeps { (node : Node) → slice_get plan.now.nodes.now (length plan.now.nodes.now - 1) ≡ Some node → KeepsEntry node }
+    ensures { OnOk result ((block : List IpfwRule) × (rules.new ≡ rules.old ++ block) × IsList plan.now.site.now plan.now.tree.now.0 plan.now.section.now plan.now.tree.now.1 block) }
+{
+    reached_values_are_told::<Choice>();
+    seen_points_are_topped();
+    leaf_nodes_are_leaves::<Choice>();
+    cut_nodes_part_values::<Choice>();
+    let cond = on_pass(alloc, plan.section.outward)?;
+    put_node(alloc, rules, plan, plan.nodes.len() - 1, &cond)?;
+    Ok(())
+}
+
+// Appends the list of a tree whose nodes these are.
+fn put_planned(alloc: Global, rules: &mut Items<IpfwRule>, plan: &Plan<'_>) -> Result<(), Memory>
+    requires sound { IsSound plan.now.site.now }
+    requires told { IsTold plan.now.section.now.seen plan.now.tree.now.0 plan.now.tree.now.1 }
+    requires planned { IsPlanned plan.now.site.now plan.now.tree.now.0 plan.now.tree.now.1 plan.now.section.now plan.now.leaves.now plan.now.nodes.now }
+    ensures { OnOk result ((block : List IpfwRule) × (rules.new ≡ rules.old ++ block) × IsList plan.now.site.now plan.now.tree.now.0 plan.now.section.now plan.now.tree.now.1 block) }
+{
+    match &plan.nodes[plan.nodes.len() - 1] {
+        Node::Leaf(_) => put_whole(alloc, rules, plan),
+        Node::Cut(f, kids) => {
+            if *f == 0 {
+                put_by_entry(alloc, rules, plan, kids.as_slice())
+            } else {
+                put_whole(alloc, rules, plan)
+            }
+        }
+    }
+}
+
+/// Appends rules of the section's number that decide on packets as the tree does, in their order. An error
+/// is want of memory; rules may then stand behind the others.
+pub fn put_list(
+    alloc: Global,
+    rules: &mut Items<IpfwRule>,
+    site: &Site,
+    tree: &Tree<Choice>,
+    section: &Section,
+) -> Result<(), Memory>
+    requires sound { IsSound site.now }
+    requires tops { tree.now.0 ≡ tops_of site.now }
+    requires told { IsTold section.now.seen tree.now.0 tree.now.1 }
+    requires fits { FitsAt tree.now.0 section.now.number tree.now.1 }
+    requires number { (0 < section.now.number) × (section.now.number ≤ 65534) }
+    ensures { OnOk result ((block : List IpfwRule) × (rules.new ≡ rules.old ++ block) × IsList site.now tree.now.0 section.now tree.now.1 block) }
+{
+    let shared = tree.shared();
+    let plan = Plan {
+        site,
+        tree,
+        section,
+        leaves: shared.leaves,
+        nodes: shared.nodes,
+    };
+    put_planned(alloc, rules, &plan)
+}
