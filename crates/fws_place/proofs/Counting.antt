@@ -1,5 +1,5 @@
 -- How many different leaves rows show.
-use Rattle.std.proofs.Common.{◌≡◌, ◌≢◌, ℕ, zero, suc, ◌+◌, ◌-◌, ◌<◌, ◌≤◌, Bool, true, false, cond, eqb, Option, Some, None, List, [], ◌∷◌, ◌++◌, inl, inr, refl, sym, ◌∙◌, ap, subst, arith, length, length-append, get_or, take, All}
+use Rattle.std.proofs.Common.{◌≡◌, ◌≢◌, ℕ, zero, suc, ◌+◌, ◌-◌, ◌<◌, ◌≤◌, Bool, true, false, cond, eqb, Option, Some, None, List, [], ◌∷◌, ◌++◌, ◌⊎◌, inl, inr, refl, sym, ◌∙◌, ap, subst, arith, length, length-append, get_or, take, All}
 use Rattle.std.proofs.lemmas.Bool.{eqb-true, or_cases, cases_Bool, both_ways, false_from_ne_true, cond-true, cond-false}
 use Rattle.std.proofs.lemmas.List.{map-append, take_all, take_more}
 use Rattle.std.proofs.lemmas.List.Elements.{All-nil, All-cons, All-append, All-push, All-weaker, All-contains, Contains-push, Contains-append_left, recursion_from_All}
@@ -18,6 +18,7 @@ use Rattle.fws_tree.specs.Nodes.{relabel, relabel_kids, named_leaf, tree_of}
 use Rattle.fws_tree.specs.Plain.{Plain, leaf, cut, Kids, none, kid}
 use Rattle.fws_tree.specs.Rows.{paths_below, paths_of, paths_through}
 use Rattle.fws_tree.specs.Shared.{IsShared}
+use Rattle.fws_place.specs.Exactly.{IsPut}
 use Rattle.fws_place.specs.Counts.{AreDifferent, leaves_of, ShowLeavesAbove, IsFirstAbove}
 
 -- Pigeons
@@ -54,7 +55,7 @@ places_below (x ∷ xs) ys h q e = elim (or_cases (eqb q h.0.0) (list_any (eqb q
   | inr there ↦ places_below xs ys h.1 q there
 ]
 
-get_or_any : {X : Type 0} (xs : List X) (k : ℕ) (d e : X) → k < length xs → get_or xs k d ≡ get_or xs k e
+pub get_or_any : {X : Type 0} (xs : List X) (k : ℕ) (d e : X) → k < length xs → get_or xs k d ≡ get_or xs k e
 get_or_any [] k d e lt = absurd (omega arith)
 get_or_any (x ∷ xs) zero d e lt = refl
 get_or_any (x ∷ xs) (suc k) d e lt = get_or_any xs k d e (omega arith)
@@ -107,7 +108,7 @@ pub record AreCounted {L : Type 0} (leaves keys : List L) : Type 0 where
   pub shown : All (Contains leaves) keys
   pub covered : All (Contains keys) leaves
 
-found : {L : Type 0} (eq : L → L → Bool) → ((x y : L) → eq x y ≡ true → x ≡ y) → (keys : List L) (x : L) → list_any (eq x) keys ≡ true → Contains keys x
+pub found : {L : Type 0} (eq : L → L → Bool) → ((x y : L) → eq x y ≡ true → x ≡ y) → (keys : List L) (x : L) → list_any (eq x) keys ≡ true → Contains keys x
 found eq exact [] x e = absurd (cc)
 found eq exact (y ∷ ys) x e = elim (or_cases (eq x y) (list_any (eq x) ys) e) [
   | inl here ↦ (0, omega arith, sym (exact x y here))
@@ -130,6 +131,15 @@ counted_more eq exact leaves keys new x e old = elim (cases_Bool (list_any (eq x
   where
     shown : All (Contains (leaves ++ x ∷ [])) keys
     shown = All-weaker (Contains leaves) (Contains (leaves ++ x ∷ [])) (λ y h. Contains-append_left leaves (x ∷ []) y h) keys old.shown
+
+-- a key that was put behind others unless it was there
+pub key_put : {X : Type 0} (eq : X → X → Bool) → ((x y : X) → eq x y ≡ true → x ≡ y) → IsEquivalence eq → (old new : List X) (x : X) → new ≡ insert_key eq old x → IsDistinct eq new
+    → IsPut old new x
+key_put eq exact laws old new x e distinct = record { different = distinct_different eq laws new distinct; put = by (list_any (eq x) old) refl }
+  where
+    by : (b : Bool) → list_any (eq x) old ≡ b → ((new ≡ old) × Contains old x) ⊎ (new ≡ old ++ x ∷ [])
+    by true there = inl (e ∙ cond-true (list_any (eq x) old) old (old ++ x ∷ []) there, found eq exact old x there)
+    by false absent = inr (e ∙ cond-false (list_any (eq x) old) old (old ++ x ∷ []) absent)
 
 -- Rows
 

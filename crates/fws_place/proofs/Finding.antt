@@ -15,7 +15,7 @@ use Rattle.fws_place.specs.Sides.{AreSidesOf, leasts}
 use Rattle.fws_place.proofs.OpenRows.{least_had, least_within, rows_have_sides}
 
 -- a row that holds the point
-hit : {L : Type 0} (rows : List (Row L)) (p : List ℕ) → 0 < row_hits rows p → (row : Row L) × Contains rows row × (sides_have row.sides p ≡ true)
+pub hit : {L : Type 0} (rows : List (Row L)) (p : List ℕ) → 0 < row_hits rows p → (row : Row L) × Contains rows row × (sides_have row.sides p ≡ true)
 hit [] p lt = absurd (omega arith)
 hit (row ∷ rows) p lt = elim (cases_Bool (sides_have row.sides p)) [
   | inl here ↦ (row, (0, omega arith, refl), here)

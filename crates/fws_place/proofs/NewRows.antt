@@ -27,13 +27,13 @@ use Rattle.fws_place.proofs.PairPoints.{roomy, within_length}
 -- The last four fields
 
 -- the tops of a packet's fields, and those of ends
-abbrev firsts : Site → List ℕ
+abbrev pub firsts : Site → List ℕ
 firsts site = (length site.faces + 1) ∷ 255 ∷ (2 ^ 32 - 1) ∷ 65535 ∷ (2 ^ 32 - 1) ∷ 65535 ∷ 63 ∷ 255 ∷ []
 
 abbrev pub lasts : List ℕ
 lasts = (2 ^ 32 - 1) ∷ 65535 ∷ (2 ^ 32 - 1) ∷ 65535 ∷ []
 
-set_within : (tops p : List ℕ) (f x : ℕ) → IsWithin tops p → x ≤ get_or tops f 0 → IsWithin tops (slice_set p f x)
+pub set_within : (tops p : List ℕ) (f x : ℕ) → IsWithin tops p → x ≤ get_or tops f 0 → IsWithin tops (slice_set p f x)
 set_within [] [] f x w le = tt
 set_within [] (y ∷ p) f x w le = absurd w
 set_within (top ∷ tops) [] f x w le = absurd w
@@ -41,7 +41,7 @@ set_within (top ∷ tops) (y ∷ p) zero x w le = (le, w.1)
 set_within (top ∷ tops) (y ∷ p) (suc f) x w le = (w.0, set_within tops p f x w.1 le)
 
 -- a point with other ends
-abbrev with_ends : List ℕ → ℕ → ℕ → ℕ → ℕ → List ℕ
+abbrev pub with_ends : List ℕ → ℕ → ℕ → ℕ → ℕ → List ℕ
 with_ends p a b c d = slice_set (slice_set (slice_set (slice_set p 8 a) 9 b) 10 c) 11 d
 
 pub other_ends : (site : Site) (tables : Tables) → AreRegular site tables → (p : List ℕ) (a b c d : ℕ) → IsWithin (tops_of site) p → IsWithin lasts (a ∷ b ∷ c ∷ d ∷ [])
@@ -100,12 +100,12 @@ unfolding no_more
 new_point l n = subst (λ k. point_of (packet_of (k ++ no_more)) no_ends ≡ k ++ no_more) (sym (eight l n)) refl
 
 -- the sides of an open row
-open_sides : (site : Site) (row : Row Outcome) → IsOpen (firsts site) lasts row → AreSidesOf (tops_of site) row.sides
+pub open_sides : (site : Site) (row : Row Outcome) → IsOpen (firsts site) lasts row → AreSidesOf (tops_of site) row.sides
 open_sides site row is_open =
     subst (λ l. AreSidesOf (tops_of site) l) (sym is_open.2) (sides_both (firsts site) lasts is_open.0 (whole_sides lasts) is_open.1 (whole_sides_of lasts))
 
 -- the least point of an open row is that of its packet
-row_packet : (site : Site) (row : Row Outcome) → IsOpen (firsts site) lasts row
+pub row_packet : (site : Site) (row : Row Outcome) → IsOpen (firsts site) lasts row
     → IsPacketOf site (packet_of (leasts row.sides)) × IsIn row (packet_of (leasts row.sides))
 unfolding no_more
 row_packet site row is_open =
@@ -120,22 +120,22 @@ row_packet site row is_open =
     )
 
 -- all rows of the table are open
-rows_open : (site : Site) (tables : Tables) → AreRegular site tables → IsReduced tables.fresh.0 tables.fresh.1 → All (IsOpen (firsts site) lasts) (new_rows tables)
+pub rows_open : (site : Site) (tables : Tables) → AreRegular site tables → IsReduced tables.fresh.0 tables.fresh.1 → All (IsOpen (firsts site) lasts) (new_rows tables)
 rows_open site tables regular reduced =
     subst (λ ts. All (IsOpen (firsts site) lasts) (paths_of ts tables.fresh.1)) (sym regular.fresh_tops)
     (rows_are_open (firsts site) lasts tables.fresh.1 (subst (λ ts. IsReduced ts tables.fresh.1) regular.fresh_tops reduced) (free_of_ends site tables regular))
 
 -- Clauses
 
--- a packet of the row with which the rows first show more than n outcomes
-pub first_packet : (site : Site) (tables : Tables) → AreRegular site tables → IsReduced tables.fresh.0 tables.fresh.1 → (n at : ℕ) (row : Row Outcome) (p : List ℕ)
-    → IsFirstAbove n (new_rows tables) at → row ≡ get_or (new_rows tables) at row → p ≡ leasts row.sides
-    → NamesPacket site (IsInFirst (ShowLeavesAbove n) tables) (record { packet = packet_of p; rec = None }) None
-first_packet site tables regular reduced n at row p first is e =
+-- a packet of the row with which the rows first pass a limit
+pub first_in : (site : Site) (tables : Tables) → AreRegular site tables → IsReduced tables.fresh.0 tables.fresh.1 → (Pass : List (Row Outcome) → Type 0) (at : ℕ) (row : Row Outcome) (p : List ℕ)
+    → at < length (new_rows tables) → row ≡ get_or (new_rows tables) at row → p ≡ leasts row.sides → (Pass (take at (new_rows tables)) → ⊥) → Pass (take (at + 1) (new_rows tables))
+    → NamesPacket site (IsInFirst Pass tables) (record { packet = packet_of p; rec = None }) None
+first_in site tables regular reduced Pass at row p lt is e before here =
     let rows : List (Row Outcome) = new_rows tables in
-    let one_open : IsOpen (firsts site) lasts row = subst (IsOpen (firsts site) lasts) (sym is) (rows_open site tables regular reduced at row first.within) in
+    let one_open : IsOpen (firsts site) lasts row = subst (IsOpen (firsts site) lasts) (sym is) (rows_open site tables regular reduced at row lt) in
     let both = row_packet site row one_open in
-    let more : take (at + 1) rows ≡ take at rows ++ row ∷ [] = take_more rows at row first.within ∙ ap (λ r. take at rows ++ r ∷ []) (sym is) in
+    let more : take (at + 1) rows ≡ take at rows ++ row ∷ [] = take_more rows at row lt ∙ ap (λ r. take at rows ++ r ∷ []) (sym is) in
     record {
       of_site = subst (λ l. IsPacketOf site (packet_of l)) (sym e) both.0;
       new = refl;
@@ -145,11 +145,18 @@ first_packet site tables regular reduced n at row p first is e =
         row = row;
         back = drop (at + 1) rows;
         rows = sym (take-append-drop (at + 1) rows) ∙ ap (λ l. l ++ drop (at + 1) rows) more ∙ append_assoc (take at rows) (row ∷ []) (drop (at + 1) rows);
-        before = first.before;
-        here = subst (ShowLeavesAbove n) more first.here;
+        before = before;
+        here = subst Pass more here;
         within = subst (λ l. IsIn row (packet_of l)) (sym e) both.1;
       };
     }
+
+-- and one of the row with which they first show more than n outcomes
+pub first_packet : (site : Site) (tables : Tables) → AreRegular site tables → IsReduced tables.fresh.0 tables.fresh.1 → (n at : ℕ) (row : Row Outcome) (p : List ℕ)
+    → IsFirstAbove n (new_rows tables) at → row ≡ get_or (new_rows tables) at row → p ≡ leasts row.sides
+    → NamesPacket site (IsInFirst (ShowLeavesAbove n) tables) (record { packet = packet_of p; rec = None }) None
+first_packet site tables regular reduced n at row p first is e =
+    first_in site tables regular reduced (ShowLeavesAbove n) at row p first.within is e first.before first.here
 
 -- a packet has room for the least point of a row
 pub row_roomy : (site : Site) (tables : Tables) → IsSound site → AreRegular site tables → IsReduced tables.fresh.0 tables.fresh.1 → (at : ℕ) (row : Row Outcome) (p : List ℕ)

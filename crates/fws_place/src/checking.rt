@@ -3,15 +3,20 @@
 ghost use Rattle.std.specs.Prelude.{◌≡◌, ◌⊎◌, IfOk, OnOk, Err};
 ghost use Rattle.fws_net.specs.declared.packet.Lang.TheVariants as langs;
 ghost use Rattle.fws_net.specs.Routes.{IsSound};
-ghost use Rattle.fws_place.specs.declared.clause.Clause.TheVariants as clauses;
 ghost use Rattle.fws_place.specs.Fits.{Fits, IsBreach};
-ghost use Rattle.fws_place.specs.Found.{IsSought};
+ghost use Rattle.fws_place.specs.Found.{IsDecided, IsSought};
 ghost use Rattle.fws_tree.specs.Regular.{AreRegular};
 
 use crate::breach::{Breach, FitAnswer, Pair};
 use crate::clause::{Clause, clauses_of};
+use crate::drops_ahead_of_lookup::drops_ahead_of_lookup;
 use crate::drops_by_one_view::drops_by_one_view;
 use crate::few_outcomes::few_outcomes;
+use crate::few_redirects::few_redirects;
+use crate::keeps_delivered_sources::keeps_delivered_sources;
+use crate::keeps_host_destinations::keeps_host_destinations;
+use crate::keeps_source_ports::keeps_source_ports;
+use crate::writes_whole_addresses::writes_whole_addresses;
 use fws_net::{Lang, Site};
 use fws_num::Memory;
 use fws_tree::Tables;
@@ -24,14 +29,20 @@ fn broken(
     site: &Site,
     tables: &Tables,
 ) -> Result<Option<(Pair, Option<Pair>)>, Memory>
-    requires known { (clause ≡ clauses.FewOutcomes) ⊎ (clause ≡ clauses.DropsByOneView) }
+    requires known { IsDecided clause }
     requires sound { IsSound site.now }
     requires regular { AreRegular site.now tables.now }
     ensures { IfOk result (λ found. IsSought site.now tables.now clause found) }
 {
     match clause {
         Clause::FewOutcomes => few_outcomes(alloc, site, tables),
+        Clause::KeepsSourcePorts => keeps_source_ports(alloc, site, tables),
+        Clause::KeepsHostDestinations => keeps_host_destinations(alloc, site, tables),
+        Clause::KeepsDeliveredSources => keeps_delivered_sources(alloc, site, tables),
         Clause::DropsByOneView => drops_by_one_view(alloc, site, tables),
+        Clause::FewRedirects => few_redirects(alloc, site, tables),
+        Clause::DropsAheadOfLookup => drops_ahead_of_lookup(alloc, site, tables),
+        Clause::WritesWholeAddresses => writes_whole_addresses(alloc, site, tables),
         _ => unreachable!(),
     }
 }
@@ -39,7 +50,7 @@ fn broken(
 /// Whether the system can hold the tables: `Ok` exactly where they meet each of its clauses, and else the first
 /// clause that they don't meet, with packets that show so.
 pub fn check(alloc: Global, target: Lang, tables: &Tables, site: &Site) -> Result<(), FitAnswer>
-    requires iptables { target ≡ langs.Iptables }
+    requires built { (target ≡ langs.Iptables) ⊎ (target ≡ langs.Ipfw) }
     requires sound { IsSound site.now }
     requires regular { AreRegular site.now tables.now }
     ensures fits { OnOk result (Fits target site.now tables.now) }

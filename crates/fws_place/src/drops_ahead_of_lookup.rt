@@ -23,8 +23,8 @@ use fws_num::Memory;
 use fws_tree::{Relabelling, Row, Tables, Tree, from_rows};
 use std::alloc::Global;
 
-// The sides of the host's pairs.
-fn host_sides(alloc: Global, site: &Site) -> Result<[Ivs; 12], Memory>
+/// The sides of the host's packets. An error is want of memory.
+pub(crate) fn host_sides(alloc: Global, site: &Site) -> Result<[Ivs; 12], Memory>
     requires { IsSound site.now }
     ensures { IfOk result (λ sides. (p : List ℕ) → IsWithin (tops_of site.now) p → sides_have sides p ≡ nat_eq (slice_index p 0) 0) }
 {

@@ -1,24 +1,35 @@
 //! When a system can hold a policy.
 #![tactic(auto)]
 
+mod asking;
 mod breach;
 mod checking;
 mod clause;
+mod delivering;
 mod drops_ahead_of_lookup;
 mod drops_by_one_view;
+mod exact;
 mod few_outcomes;
+mod few_redirects;
 mod first_true;
+mod gathering;
 mod ipfw_laws;
+mod keeps_delivered_sources;
+mod keeps_host_destinations;
+mod keeps_source_ports;
 mod laws;
 mod lost;
 mod naming;
 mod point;
 mod redirect;
 mod seeing;
+mod values;
+mod writes_whole_addresses;
 
 pub use breach::{Breach, FitAnswer, Pair, PlaceAnswer};
 pub use checking::check;
 pub use clause::{Clause, clauses_of};
+pub use few_redirects::redirects;
 pub use ipfw_laws::{ipfw_drops_new_arrivals, ipfw_drops_new_host, ipfw_pairs_are_told};
 pub use laws::{
     breaches_refute_fits, fitting_drops_are_seen, fitting_pairs_are_told, lost_pairs_are_dropped,

@@ -1,0 +1,32 @@
+//! Sets of values that are compared exactly.
+
+ghost use Rattle.std.specs.Prelude.{◌≡◌, OnOk};
+ghost use Rattle.fws_place.specs.Exactly.{IsPut};
+
+use crate::redirect::Redirect;
+use fws_num::Memory;
+use indexmap::IndexSet;
+use std::hash::Hash;
+
+/// A value that equals no other one than itself.
+pub(crate) trait Exact: Eq + Hash + Drop {
+    ghost use Rattle.std.specs.Prelude.{◌≡◌, true};
+
+    // What `==` holds equal is equal.
+    ghost exact: { (x y : Self) → Self.PartialEq.eq x y ≡ true → x ≡ y };
+}
+
+impl Exact for Redirect {
+    ghost use Rattle.fws_tree.specs.OutcomeEquality.{end_exact};
+    ghost use Rattle.fws_place.specs.Exactly.{pair_exact, public_exact, redirect_exact};
+
+    ghost exact = { redirect_exact _ end_exact _ (public_exact _ pair_exact) };
+}
+
+/// Puts the value behind the others, unless it is there. An error is want of memory.
+pub(crate) fn put_new<T: Exact>(kept: &mut IndexSet<T>, value: T) -> Result<(), Memory>
+    ensures { OnOk result (IsPut kept.old.keys kept.new.keys value) }
+{
+    kept.insert(value)?;
+    Ok(())
+}
