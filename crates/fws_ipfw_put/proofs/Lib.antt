@@ -1,0 +1,17 @@
+pub mod Counted
+pub mod Filled
+pub mod Gathered
+pub mod Guarded
+pub mod Kept
+pub mod Knowing
+pub mod Listed
+pub mod Nats
+pub mod Ordered
+pub mod Passing
+pub mod Places
+pub mod Plan
+pub mod Printed
+pub mod Tracked
+pub mod Unmet
+pub mod Ways
+pub mod Whole

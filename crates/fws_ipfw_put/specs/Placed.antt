@@ -1,0 +1,24 @@
+-- A configuration that does what tables say.
+use Rattle.std.specs.Prelude.{◌≡◌, Bool, true, ◌||◌, not}
+use Rattle.std.specs.List.{list_all}
+use Rattle.fws_ipfw.specs.declared.config.IpfwConfig.{IpfwConfig}
+use Rattle.fws_ipfw.specs.RuleText.{allows}
+use Rattle.fws_ipfw.specs.Walk.{walk}
+use Rattle.fws_ipfw_print.specs.Printable.{is_printable}
+use Rattle.fws_net.specs.declared.connection.Kind.TheVariants.{New, Est}
+use Rattle.fws_net.specs.declared.connection.Rec.{Rec}
+use Rattle.fws_net.specs.declared.packet.Packet.{Packet}
+use Rattle.fws_net.specs.declared.site.Site.{Site}
+use Rattle.fws_place.specs.Meaning.{IsPacketOf, IsPairOf, new_of, est_of}
+use Rattle.fws_tree.specs.declared.tables.Tables.{Tables}
+
+-- the configuration keeps state where it accepts: each rule that allows packets does
+abbrev pub tracks : Site → IpfwConfig → Bool
+tracks site c = list_all (λ r. not (allows r.act) || r.keep) c.rules
+
+-- the configuration can be printed, keeps state, and gives every packet of the site, new or established, the outcome of the tables
+pub record IsPlaced (site : Site) (tables : Tables) (c : IpfwConfig) : Type 0 where
+  pub printable : is_printable site c ≡ true
+  pub tracks : tracks site c ≡ true
+  pub new : (p : Packet) → IsPacketOf site p → walk c site p New ≡ new_of tables p
+  pub established : (p : Packet) (r : Rec) → IsPairOf site p r → walk c site p (Est r) ≡ est_of tables p r

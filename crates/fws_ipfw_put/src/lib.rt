@@ -1,0 +1,13 @@
+//! Policies as configurations of ipfw.
+#![tactic(auto)]
+
+mod choices;
+mod ends;
+mod guard;
+mod instances;
+mod laying;
+mod placing;
+mod rules;
+mod sections;
+
+pub use placing::{place, tracks};
