@@ -75,19 +75,23 @@ for routes in 256 1024 4096; do
     python3 "$top/bench/respelled.py" "$routes" 1 1024 "$program" "$work/site.$routes" || status=1
 done
 
-translated() { # family count language bytes [file]
-    local family=$1 count=$2 language=$3 bytes=$4
-    shift 4
-    python3 "$top/bench/translated.py" "$family" "$count" "$language" "$bytes" 4 "$program" "$site" "$@" || status=1
+translated() { # family count language target bytes [file]
+    local family=$1 count=$2 language=$3 target=$4 bytes=$5
+    shift 5
+    python3 "$top/bench/translated.py" "$family" "$count" "$language" "$target" "$bytes" 4 "$program" "$site" "$@" || status=1
 }
 
-echo 'family rules language seconds times bytes parts'
-translated router 13 iptables 5540 "$top/examples/router.saved"
-translated loaded 400 iptables 124616
-translated loaded 4000 iptables 984632
-translated skipping 1000 ipfw /300
-translated decided 1000 pf /300
-translated applied 1000 ios /300
+echo 'family rules language target seconds times bytes parts'
+translated router 13 iptables iptables 5540 "$top/examples/router.saved"
+translated loaded 400 iptables iptables 124616
+translated loaded 4000 iptables iptables 984632
+translated rewritten 4000 iptables iptables /300
+translated skipping 1000 ipfw iptables /300
+translated decided 1000 pf iptables /300
+translated applied 1000 ios iptables /300
+translated router 13 iptables ipfw 5736 "$top/examples/router.saved"
+translated loaded 400 iptables ipfw 136000
+translated loaded 4000 iptables ipfw 1154000
 
 echo 'family mebibytes seconds megabytes'
 for size in 0.5 1 2 4; do

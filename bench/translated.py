@@ -1,7 +1,7 @@
-"""python3 translated.py FAMILY COUNT LANG BYTES TIMES PROGRAM SITE [FILE]
+"""python3 translated.py FAMILY COUNT LANG TARGET BYTES TIMES PROGRAM SITE [FILE]
 
-Translates a family of make.py in the language LANG to iptables, three times, and makes both of its tables as often; with FILE
-this file and not the family's. Prints a line `FAMILY COUNT LANG seconds times bytes parts`: the best time of a translation, how
+Translates a family of make.py in the language LANG to the language TARGET, three times, and makes both of its tables as often; with FILE
+this file and not the family's. Prints a line `FAMILY COUNT LANG TARGET seconds times bytes parts`: the best time of a translation, how
 many times as long it takes as both tables, the length of its text, and how many nodes the two tables have as trees, with the
 ranges of each node's parts but the one with most ranges. BYTES is a bound on the length, or behind a `/` on the bytes for each of
 the parts. Exit status 1 where it is passed, or where a translation takes more than TIMES times as long as both tables.
@@ -50,11 +50,11 @@ def parts(table):
     return sum(1 + ranges for _, ranges in nodes.values())
 
 
-def measure(program, lang, site, name):
+def measure(program, lang, target, site, name):
     """The best seconds of a translation and of both tables, the text, and the tables."""
     best = {}
     for _ in range(3):
-        text, taken = run([program, 'translate', lang, 'iptables', site, name])
+        text, taken = run([program, 'translate', lang, target, site, name])
         best['text'] = min(taken, best.get('text', taken))
         made = [run([program, 'synth', lang, site, name, state]) for state in ('new', 'est')]
         both = sum(seconds for _, seconds in made)
@@ -62,16 +62,16 @@ def measure(program, lang, site, name):
     return best, text, [table for table, _ in made]
 
 
-def main(family, count, lang, most, times, program, site, *given):
+def main(family, count, lang, target, most, times, program, site, *given):
     with tempfile.TemporaryDirectory() as work:
         name = given[0] if given else os.path.join(work, 'file')
         if not given:
             with open(name, 'w') as f:
                 subprocess.run([sys.executable, MAKE, count, family, lang], stdout=f, check=True)
-        best, text, tables = measure(program, lang, site, name)
+        best, text, tables = measure(program, lang, target, site, name)
     counted = sum(parts(table) for table in tables)
     ratio = best['text'] / best['tables']
-    print(family, count, lang, '%.2f' % best['text'], '%.1f' % ratio, len(text), counted)
+    print(family, count, lang, target, '%.2f' % best['text'], '%.1f' % ratio, len(text), counted)
     bound = int(most[1:]) * counted if most.startswith('/') else int(most)
     return 0 if len(text) <= bound and ratio <= float(times) else 1
 

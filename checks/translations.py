@@ -1,11 +1,12 @@
 """python3 checks/translations.py, at the top of the repository; checks/translations.sh says how it is called
 
-Translates to iptables the configurations of examples/ and those of which crates/fws_rows/args knows a table, from the language
-that each has, with the built program. What is checked of each:
+Translates to iptables and ipfw the configurations of examples/ and those of which crates/fws_rows/args knows a table, from the
+language that each has, with the built program. What is checked of each:
 
-- The status is 0; or it is 1 with a line that names packets, where the site and the configuration stand in UNPLACED.
+- The status is 0; or it is 1 with a line that names packets, where the target, the site and the configuration stand in UNPLACED.
 - The text, read back, has the two tables of the configuration that it was made of.
-- The text keeps what iptables-restore asks for: no blank behind COMMIT; at most 15 ports in a list, where a range counts as two,
+- A text of ipfw keeps what its tool asks for: at most 31 networks and 30 ranges of ports in a list, and lines of at most 4,095 bytes.
+- A text of iptables keeps what iptables-restore asks for: no blank behind COMMIT; at most 15 ports in a list, where a range counts as two,
   and none of port 0 alone; no -i in OUTPUT and POSTROUTING, no -o in PREROUTING and INPUT; names of chains of at most 28 bytes.
 - Where iptables-restore or iptables-nft-restore is installed and may be tried, it takes the text with --test; unless an interface
   of the site has a name of more than 15 bytes.
@@ -28,10 +29,12 @@ PROGRAM = os.environ.get('FWS_PROGRAM', os.path.join(TOP, 'crates/fws/out/fws'))
 
 # Of a site and a configuration that can't be placed, what the line of status 1 begins with, and words behind it by their places.
 UNPLACED = {
-    ('S', 'marked-established.rules'): ('not placeable on iptables clause 5: ', {2: '203.0.113.2', 8: '10.0.0.5'}),
+    ('iptables', 'S', 'marked-established.rules'): ('not placeable on iptables clause 5: ', {2: '203.0.113.2', 8: '10.0.0.5'}),
     # what the host sends of a connection is dropped by the source that the connection writes
-    ('S-no-pass', 'masked.ipfw'): ('not placeable on iptables clause 5: ', {0: 'host'}),
+    ('iptables', 'S-no-pass', 'masked.ipfw'): ('not placeable on iptables clause 5: ', {0: 'host'}),
 }
+
+TARGETS = ('iptables', 'ipfw')
 
 # The examples: language, site and configuration.
 EXAMPLE_FILES = [
@@ -90,6 +93,19 @@ def faults(text):
                 yield 'an interface that is not shown: ' + line
 
 
+def ipfw_faults(text):
+    """What ipfw's tool would not take of the text."""
+    for line in text.split('\n'):
+        if line.startswith('#'):
+            continue
+        if len(line) > 4095:
+            yield 'a long line: ' + line[:80]
+        words = line.split(' ')
+        for option, word in zip(words, words[1:]):
+            if option in ('from', 'to') and word.count(',') > 30 or option in ('src-port', 'dst-port') and word.count(',') > 29:
+                yield 'a long list: ' + line[:80]
+
+
 def long_names(site):
     with open(site, encoding='utf-8') as file:
         return any(len(name) > 15 for name in re.findall(r' ipt=(\S+)', file.read()))
@@ -118,51 +134,52 @@ class Tally:
 
 def unplaced(tally, job, status, text):
     begins, words = UNPLACED[job]
-    name = job[1]
+    name = job[2]
     named = text[len(begins):].split()
     tally.check(status == 1 and text.startswith(begins), name, 'has status', status, text[:80])
     tally.check(len(named) == 12 and all(named[place] == word for place, word in words.items()), name, 'names', *named)
 
 
-def placed(tally, tools, work, job, text):
+def placed(tally, tools, work, target, job, text):
     language, site, name = job
     again = os.path.join(work, 'again')
     with open(again, 'w', encoding='utf-8') as file:
         file.write(text)
     for state in ('new', 'est'):
-        same = run('synth', language, site, name, state) == run('synth', 'iptables', site, again, state)
+        same = run('synth', language, site, name, state) == run('synth', target, site, again, state)
         tally.check(same, name, 'has another table of', state, 'packets when it is translated')
-    found = list(faults(text))
+    found = list(faults(text) if target == 'iptables' else ipfw_faults(text))
     tally.check(not found, name, *found[:1])
-    for tool in () if long_names(site) else tools:
+    for tool in () if target != 'iptables' or long_names(site) else tools:
         ended = subprocess.run([tool, '--test'], input=text.encode(), capture_output=True, check=False)
         tally.check(ended.returncode == 0, name, tool, ended.stderr.decode())
 
 
-def traced(tally, work):
+def traced(tally, work, target):
     """The trace of the router's translation is that of the router."""
     site, router = os.path.join(EXAMPLES, 'site.txt'), os.path.join(EXAMPLES, 'router.saved')
     lists = [os.path.join(EXAMPLES, 'router.' + name) for name in ('connections', 'packets')]
     again = os.path.join(work, 'router')
     with open(again, 'w', encoding='utf-8') as file:
-        file.write(run('translate', 'iptables', 'iptables', site, router)[1])
-    tally.check(run('trace', 'iptables', site, again, *lists) == run('trace', 'iptables', site, router, *lists), 'another trace of the router')
+        file.write(run('translate', 'iptables', target, site, router)[1])
+    tally.check(run('trace', target, site, again, *lists) == run('trace', 'iptables', site, router, *lists), 'another trace of the router on', target)
 
 
 def main():
     tally, tools = Tally(), list(loaders())
     jobs = [(language, os.path.join(EXAMPLES, site), os.path.join(EXAMPLES, name)) for language, site, name in EXAMPLE_FILES]
     with tempfile.TemporaryDirectory() as work:
-        for job in jobs + worked():
+        for target, job in ((target, job) for target in TARGETS for job in jobs + worked()):
             language, site, name = job
-            status, text = run('translate', language, 'iptables', site, name)
-            bare = os.path.basename(site), os.path.basename(name)
+            status, text = run('translate', language, target, site, name)
+            bare = target, os.path.basename(site), os.path.basename(name)
             if bare in UNPLACED:
                 unplaced(tally, bare, status, text)
             else:
                 tally.check(status == 0, name, 'has status', status, text[:80])
-                placed(tally, tools, work, job, text)
-        traced(tally, work)
+                placed(tally, tools, work, target, job, text)
+        for target in TARGETS:
+            traced(tally, work, target)
     print('translations: %d right, %d wrong; loaded by %s' % (tally.right, tally.wrong, ', '.join(tools) or 'none, as none is installed'))
     return 1 if tally.wrong or not tally.right else 0
 

@@ -66,6 +66,8 @@ fn read_target(word: &[u8]) -> Option<TargetLang>
 {
     if are(word, b"iptables") {
         Some(TargetLang::Iptables)
+    } else if are(word, b"ipfw") {
+        Some(TargetLang::Ipfw)
     } else {
         None
     }

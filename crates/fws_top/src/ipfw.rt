@@ -1,11 +1,14 @@
-//! ipfw as a source of policies.
+//! ipfw as a source and a target of policies.
 
+use crate::language::Language;
 use crate::source::Source;
 use fws_ifcl::Ifcl;
 use fws_ipfw::IpfwConfig;
 use fws_ipfw_ifcl::spelled_diagrams;
 use fws_net::{ReadAnswer, Site};
-use fws_num::Memory;
+use fws_num::{Memory, Text};
+use fws_place::PlaceAnswer;
+use fws_tree::Tables;
 use std::alloc::Global;
 
 /// ipfw, as `ipfw list` and scripts write its rules (ipfw(8)).
@@ -36,5 +39,25 @@ impl Source for Ipfw {
 
     fn spelled_walks_are_regular() {
         fws_ipfw::spelled_walks_are_regular();
+    }
+}
+
+impl Language for Ipfw {
+    ghost use Rattle.fws_ipfw_print.specs.Printable.{is_printable};
+    ghost use Rattle.fws_ipfw_put.specs.Placed.{tracks};
+    ghost use Rattle.fws_net.specs.declared.packet.Lang.TheVariants as langs;
+
+    ghost system = { langs.Ipfw };
+
+    ghost printable = { λ site config. is_printable site config };
+
+    ghost tracks = { λ site config. tracks site config };
+
+    fn place(alloc: Global, t: &Tables, site: &Site) -> Result<IpfwConfig, PlaceAnswer> {
+        fws_ipfw_put::place(alloc, t, site)
+    }
+
+    fn print(alloc: Global, c: &IpfwConfig, site: &Site) -> Result<Text, Memory> {
+        fws_ipfw_print::print(alloc, c, site)
     }
 }

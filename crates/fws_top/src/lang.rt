@@ -18,4 +18,6 @@ pub enum SourceLang {
 pub enum TargetLang {
     /// iptables, as iptables-restore(8) loads it.
     Iptables,
+    /// ipfw, as ipfw(8) takes its rules line by line.
+    Ipfw,
 }

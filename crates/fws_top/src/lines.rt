@@ -172,6 +172,7 @@ pub(crate) fn target_word(target: TargetLang) -> &'static [u8]
 {
     match target {
         TargetLang::Iptables => b"iptables",
+        TargetLang::Ipfw => b"ipfw",
     }
 }
 

@@ -1,6 +1,14 @@
+ghost use Rattle.std.specs.Prelude.{◌≡◌, ◌⊎◌};
+ghost use Rattle.fws_net.specs.declared.packet.Lang.TheVariants as langs;
+
 use super::*;
+use crate::lang::TargetLang;
+use crate::policy::take_policy;
+use crate::tables::tables;
 use fws_io::{MemShelf, MemSink, SureShelf, SureSink};
+use fws_net::{Lang, read_site};
 use fws_num::{Items, Memory, Text};
+use fws_place::{Clause, FitAnswer, check};
 use std::alloc::Global;
 use std::test::Fail;
 
@@ -27,6 +35,14 @@ const ROUND: &[u8] =
 /// whether a packet is dropped is told by its destination both as it comes and as it goes on.
 const MARKED: &[u8] =
     b"*mangle\n:PREROUTING ACCEPT [0:0]\n-A PREROUTING -d 203.0.113.2/32 -j MARK --set-xmark 0x1/0xffffffff\nCOMMIT\n*filter\n:INPUT ACCEPT [0:0]\n:FORWARD ACCEPT [0:0]\n:OUTPUT ACCEPT [0:0]\n-A FORWARD -d 10.0.0.5/32 -m mark --mark 0x1 -j DROP\nCOMMIT\n";
+
+/// The host's connections to an outer address go to an inner one.
+const HANDED_OUT: &[u8] =
+    b"*nat\n:PREROUTING ACCEPT [0:0]\n:INPUT ACCEPT [0:0]\n:OUTPUT ACCEPT [0:0]\n:POSTROUTING ACCEPT [0:0]\n-A OUTPUT -d 198.51.100.9/32 -j DNAT --to-destination 10.0.0.5\nCOMMIT\n*filter\n:INPUT ACCEPT [0:0]\n:FORWARD ACCEPT [0:0]\n:OUTPUT ACCEPT [0:0]\nCOMMIT\n";
+
+/// Packets of connections are dropped where they are delivered.
+const UNANSWERED: &[u8] =
+    b"*filter\n:INPUT ACCEPT [0:0]\n:FORWARD ACCEPT [0:0]\n:OUTPUT ACCEPT [0:0]\n-A INPUT -m state --state ESTABLISHED -j DROP\nCOMMIT\n";
 
 /// An ipfw rule that passes everything.
 const PASSING: &[u8] = b"add 100 allow ip from any to any\n";
@@ -189,7 +205,7 @@ fn answers(rt: HostRuntime) -> Result<(), Fail> {
         ),
         ("trace iptables S F C", Status::Usage, USAGE_LINE),
         ("translate iptables S F", Status::Usage, USAGE_LINE),
-        ("translate iptables ipfw S F", Status::Usage, USAGE_LINE),
+        ("translate iptables pf S F", Status::Usage, USAGE_LINE),
         (
             "translate iptables iptables S L",
             Status::Refused,
@@ -247,6 +263,54 @@ fn translations(rt: HostRuntime) -> Result<(), Fail> {
     assert_eq!(rt; words.nth(5), Some(b"5:".as_slice()));
     assert_eq!(rt; words.nth(2), Some(b"203.0.113.2".as_slice()));
     assert_eq!(rt; words.nth(5), Some(b"10.0.0.5".as_slice()));
+    Ok(())
+}
+
+/// The system of a target.
+fn system_of(target: TargetLang) -> Lang
+    ensures { (result ≡ langs.Iptables) ⊎ (result ≡ langs.Ipfw) }
+{
+    match target {
+        TargetLang::Iptables => Lang::Iptables,
+        TargetLang::Ipfw => Lang::Ipfw,
+    }
+}
+
+/// The first clause of a target's placement condition that a policy of iptables doesn't meet.
+fn unmet(alloc: Global, target: TargetLang, bytes: &[u8]) -> Result<Option<Clause>, Memory> {
+    let Ok(site) = read_site(alloc, SITE) else {
+        return Err(Memory);
+    };
+    let Ok(code) = take_policy::<Iptables>(alloc, &site, b"F", bytes) else {
+        return Err(Memory);
+    };
+    let tables = tables(alloc, &site, &code)?;
+    match check(alloc, system_of(target), &tables, &site) {
+        Ok(()) => Ok(None),
+        Err(FitAnswer::Unfit(breach)) => Ok(Some(breach.clause)),
+        Err(FitAnswer::Memory) => Err(Memory),
+    }
+}
+
+#[test]
+fn clauses(rt: HostRuntime) -> Result<(), Fail> {
+    let table: [(TargetLang, &[u8], Option<Clause>); 4] = [
+        (TargetLang::Iptables, CLOSED, None),
+        (TargetLang::Iptables, MARKED, Some(Clause::DropsByOneView)),
+        (
+            TargetLang::Ipfw,
+            HANDED_OUT,
+            Some(Clause::KeepsHostDestinations),
+        ),
+        (
+            TargetLang::Ipfw,
+            UNANSWERED,
+            Some(Clause::DropsAheadOfLookup),
+        ),
+    ];
+    for (target, bytes, expected) in table {
+        assert_eq!(rt; unmet(rt.alloc(), target, bytes)?, expected);
+    }
     Ok(())
 }
 

@@ -12,6 +12,7 @@ ghost use Rattle.fws_top.specs.Translations.{EmitsBy, IsPlacement, IsPlacementBy
 ghost use Rattle.fws_tree.specs.Regular.{AreRegular};
 
 use crate::answer::Answer;
+use crate::ipfw::Ipfw;
 use crate::iptables::Iptables;
 use crate::lang::TargetLang;
 use crate::language::Language;
@@ -64,6 +65,7 @@ fn placed_in(
 {
     match target {
         TargetLang::Iptables => placed::<Iptables>(alloc, target, site, tables),
+        TargetLang::Ipfw => placed::<Ipfw>(alloc, target, site, tables),
     }
 }
 
