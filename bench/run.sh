@@ -85,7 +85,7 @@ echo 'family rules language target seconds times bytes parts'
 translated router 13 iptables iptables 5540 "$top/examples/router.saved"
 translated loaded 400 iptables iptables 124616
 translated loaded 4000 iptables iptables 984632
-translated rewritten 4000 iptables iptables /300
+translated rewritten 1000 iptables iptables /300
 translated skipping 1000 ipfw iptables /300
 translated decided 1000 pf iptables /300
 translated applied 1000 ios iptables /300

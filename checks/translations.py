@@ -4,6 +4,7 @@ Translates to iptables and ipfw the configurations of examples/ and those of whi
 language that each has, with the built program. What is checked of each:
 
 - The status is 0; or it is 1 with a line that names packets, where the target, the site and the configuration stand in UNPLACED.
+  The rules of checks/placing have the status and the line of LINES.
 - The text, read back, has the two tables of the configuration that it was made of.
 - A text of ipfw keeps what its tool asks for: at most 31 networks and 30 ranges of ports in a list, and lines of at most 4,095 bytes.
 - A text of iptables keeps what iptables-restore asks for: no blank behind COMMIT; at most 15 ports in a list, where a range counts as two,
@@ -32,7 +33,46 @@ UNPLACED = {
     ('iptables', 'S', 'marked-established.rules'): ('not placeable on iptables clause 5: ', {2: '203.0.113.2', 8: '10.0.0.5'}),
     # what the host sends of a connection is dropped by the source that the connection writes
     ('iptables', 'S-no-pass', 'masked.ipfw'): ('not placeable on iptables clause 5: ', {0: 'host'}),
+    ('ipfw', 'S-no-pass', 'masked.ipfw'): ('not placeable on ipfw clause 7: ', {0: 'host'}),
+    ('ipfw', 'S', 'marked-established.rules'): ('not placeable on ipfw clause 7: ', {2: '203.0.113.2', 8: '10.0.0.5'}),
+    # what is delivered of a connection is dropped, though other connections may send the same packet
+    ('ipfw', 'site.txt', 'server.rules'): ('not placeable on ipfw clause 7: ', {}),
+    ('ipfw', 'S', 'last-address.rules'): ('not placeable on ipfw clause 7: ', {}),
+    ('ipfw', 'S', 'goto.rules'): ('not placeable on ipfw clause 7: ', {}),
+    ('ipfw', 'S', 'port-forward.rules'): ('not placeable on ipfw clause 7: ', {}),
+    # what comes from the inner end of a redirect of ports gets its outer port
+    ('ipfw', 'office.site', 'office.ipfw'): ('not placeable on ipfw clause 2: ', {1: '6', 4: '10.0.0.5', 5: '8080'}),
+    ('ipfw', 'site.txt', 'office.ipfw'): ('not placeable on ipfw clause 2: ', {1: '6', 4: '10.0.0.5', 5: '8080'}),
+    ('ipfw', 'branch.site', 'branch.ios'): ('not placeable on ipfw clause 2: ', {1: '6', 4: '10.0.0.5', 5: '8080'}),
+    ('ipfw', 'branch', 'branch.ios'): ('not placeable on ipfw clause 2: ', {1: '6', 4: '10.0.0.5', 5: '8080'}),
+    ('ipfw', 'S', 'router.ios'): ('not placeable on ipfw clause 2: ', {1: '6', 4: '10.0.0.5', 5: '8080'}),
+    ('ipfw', 'S', 'static-port.ios'): ('not placeable on ipfw clause 2: ', {1: '6', 4: '10.0.0.5', 5: '8080'}),
+    ('ipfw', 'S', 'static-filtered.ios'): ('not placeable on ipfw clause 2: ', {1: '6', 4: '10.0.0.5', 5: '8080'}),
+    ('ipfw', 'S', 'static-first.ios'): ('not placeable on ipfw clause 2: ', {4: '10.0.0.5', 5: '53'}),
+    # the host's own packets to port 80 go to the router
+    ('ipfw', 'S', 'redirect.rules'): ('not placeable on ipfw clause 3: ', {0: 'host', 3: '80'}),
+    # every destination at a port leads to the router, 0.0.0.0 among them
+    ('ipfw', 'S', 'to-the-host.pf'): ('not placeable on ipfw clause 6: ', {3: '25'}),
+    # networks are mapped
+    ('ipfw', 'S', 'mapped.rules'): ('not placeable on ipfw clause 17: ', {}),
+    ('ipfw', 'S', 'mapped-drop.rules'): ('not placeable on ipfw clause 17: ', {}),
+    ('ipfw', 'S', 'mapped.pf'): ('not placeable on ipfw clause 17: ', {}),
+    ('ipfw', 'S', 'mapped-source.pf'): ('not placeable on ipfw clause 17: ', {}),
 }
+
+# Rules of checks/placing at the site S of the worked tables: the target, and what the line of status 1 is; none where they are placed.
+LINES = [
+    ('ipfw', 'handed-out.rules', r'clause 3: host \d+ 198\.51\.100\.9( \S+){5}'),
+    ('ipfw', 'unanswered.rules', r'clause 7: (lo|lan|wan)( \S+){7} (10\.0\.0\.1|203\.0\.113\.2|127\.\S+)( \S+){3}'),
+    ('iptables', 'unanswered.rules', None),
+    ('ipfw', 'left-early.rules', r'clause 7: host \d+ 198\.51\.100\.9( \S+){9}'),
+    ('ipfw', 'left-late.rules', None),
+    ('ipfw', 'every-server.rules', r'clause 6: (lo|lan|wan) 6 \S+ 80( \S+){4}'),
+    ('ipfw', 'closed.rules', None),
+]
+
+# How many words name what breaks a clause, beside those on packets of connections.
+PACKET_WORDS = {'2': 8, '3': 8, '6': 8, '17': 8}
 
 TARGETS = ('iptables', 'ipfw')
 
@@ -137,7 +177,8 @@ def unplaced(tally, job, status, text):
     name = job[2]
     named = text[len(begins):].split()
     tally.check(status == 1 and text.startswith(begins), name, 'has status', status, text[:80])
-    tally.check(len(named) == 12 and all(named[place] == word for place, word in words.items()), name, 'names', *named)
+    wanted = PACKET_WORDS.get(re.search(r'clause (\d+)', begins).group(1), 12)
+    tally.check(len(named) == wanted and all(named[place] == word for place, word in words.items()), name, 'names', *named)
 
 
 def placed(tally, tools, work, target, job, text):
@@ -153,6 +194,19 @@ def placed(tally, tools, work, target, job, text):
     for tool in () if target != 'iptables' or long_names(site) else tools:
         ended = subprocess.run([tool, '--test'], input=text.encode(), capture_output=True, check=False)
         tally.check(ended.returncode == 0, name, tool, ended.stderr.decode())
+
+
+def lines(tally, tools, work):
+    site = os.path.join(DATA, 'S')
+    for target, name, pattern in LINES:
+        file = os.path.join(TOP, 'checks/placing', name)
+        status, text = run('translate', 'iptables', target, site, file)
+        if pattern is None:
+            tally.check(status == 0, name, 'has status', status, text[:80])
+            placed(tally, tools, work, target, ('iptables', site, file), text)
+        else:
+            line = 'not placeable on %s %s\n' % (re.escape(target), pattern)
+            tally.check(status == 1 and re.fullmatch(line, text), name, 'has status', status, text[:80])
 
 
 def traced(tally, work, target):
@@ -178,6 +232,7 @@ def main():
             else:
                 tally.check(status == 0, name, 'has status', status, text[:80])
                 placed(tally, tools, work, target, job, text)
+        lines(tally, tools, work)
         for target in TARGETS:
             traced(tally, work, target)
     print('translations: %d right, %d wrong; loaded by %s' % (tally.right, tally.wrong, ', '.join(tools) or 'none, as none is installed'))
