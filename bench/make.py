@@ -52,6 +52,18 @@ redirected: one instance with N redirects of ports to hosts of the LAN, which tr
 And this one in pf alone:
 
 expanded: one rule with a list of N sources and one of 500 ports, which stands for a rule for each choice.
+
+These are refused in their second line, since it stands for too many rules or too large a macro; the first one defines a macro
+of 4,000 addresses:
+
+repeated: one rule whose list uses the macro N times.
+joined: one rule whose list uses it N times, each time with the rest of an address joined to its last word.
+defined: a macro of N times the first one.
+typed: one rule whose list of types of ICMP messages uses a macro of 4,000 types N times.
+
+And this one, since its last word lacks a closing quote:
+
+passed: one statement without effect that uses the macro N times.
 """
 
 import random
@@ -387,10 +399,36 @@ def expanded_pf(rng, count):
     return ['pass proto tcp from { %s } to any port { %s }' % (sources, ports)]
 
 
+def macro_of(rng, *ends):
+    return 'm = "%s"' % ', '.join([*drawn_addresses(rng, 4000), *ends])
+
+
+def repeated_pf(rng, count):
+    return [macro_of(rng), 'pass from { %s } to any' % ', '.join(['$m'] * count)]
+
+
+def joined_pf(rng, count):
+    uses = ['$m.%d.%d' % divmod(k % 65536, 256) for k in range(count)]
+    return [macro_of(rng, '10.0'), 'pass from { %s } to any' % ', '.join(uses)]
+
+
+def defined_pf(rng, count):
+    return [macro_of(rng), 'n = %s' % ' '.join(['$m'] * count)]
+
+
+def typed_pf(rng, count):
+    types = ', '.join(str(rng.randrange(256)) for _ in range(4000))
+    return ['m = "%s"' % types, 'pass proto icmp icmp-type { %s }' % ', '.join(['$m'] * count)]
+
+
+def passed_pf(rng, count):
+    return [macro_of(rng), 'scrub %s "' % ' '.join(['$m'] * count)]
+
+
 FILES = {
     'iptables': {family.__name__: family for family in (called, shared, loaded, rewritten, services, unfolded, marked, crossing, skipping, sources, decided, applied, bordered)},
     'ipfw': {'skipping': skipping_ipfw, 'sources': sources_ipfw, 'redirected': redirected_ipfw},
-    'pf': {'decided': decided_pf, 'expanded': expanded_pf},
+    'pf': {'decided': decided_pf, 'expanded': expanded_pf, 'repeated': repeated_pf, 'joined': joined_pf, 'defined': defined_pf, 'typed': typed_pf, 'passed': passed_pf},
     'ios': {'applied': applied_ios, 'bordered': bordered_ios},
 }
 

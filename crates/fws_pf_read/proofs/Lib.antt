@@ -1,2 +1,4 @@
 pub mod Counts
+pub mod Judged
 pub mod Putting
+pub mod Within

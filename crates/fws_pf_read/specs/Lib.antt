@@ -1,3 +1,4 @@
+pub mod Asked
 pub mod Places
 pub mod Statements
 pub mod Texts

@@ -1,10 +1,12 @@
 -- What was read so far of a statement, as the reader has it.
-use Rattle.std.specs.Prelude.{◌≡◌, ℕ, Result, Ok, Err, List}
+use Rattle.std.specs.Prelude.{◌≡◌, ℕ, Result, Ok, Err, List, []}
 use Rattle.fws_net.specs.declared.answer.LineFault.{LineFault}
 use Rattle.fws_net.specs.declared.cause.Cause.{Cause}
 use Rattle.fws_net.specs.Reading.{FaultGiven}
 use Rattle.fws_pf.specs.declared.statement.Statement.{Statement as AnyStatement}
 use Rattle.fws_pf.specs.declared.statement.Statement.TheVariants as any
+use Rattle.fws_pf.specs.declared.value_draft.Item.{Item}
+use Rattle.fws_pf_words.specs.TableSteps.{table_seen}
 use Rattle.fws_pf_read.specs.declared.statement.Statement.{Statement}
 use Rattle.fws_pf_read.specs.declared.statement.Statement.TheVariants as own
 
@@ -13,11 +15,18 @@ abbrev pub seen : Statement → AnyStatement
 seen own.Begun = any.Begun
 seen own.Negated = any.Negated
 seen (own.Rule d) = any.Rule d
-seen (own.Table d) = any.Table d
+seen (own.Table d) = any.Table (table_seen d)
 seen own.Set = any.Set
 seen own.Skip = any.Skip
 seen (own.SkipOn v) = any.SkipOn v
 seen own.Idle = any.Idle
+
+-- the values so far of the list at which a statement is
+abbrev pub items_of : AnyStatement → List Item
+items_of (any.Rule d) = d.value.items
+items_of (any.Table d) = d.members.items
+items_of (any.SkipOn v) = v.items
+items_of _ = []
 
 -- a statement is what reading gives, unless memory ran out
 abbrev pub StatementGiven : Result Statement (LineFault Cause) → Result AnyStatement Cause → Type 0

@@ -11,8 +11,8 @@ use crate::draft::Draft;
 use crate::drawn::draft_count;
 use fws_net::Checks;
 use fws_num::Memory;
-use fws_pf::{Item, Verb};
-use fws_pf_words::{Tables, expanded_by, has_port_protocol, has_protocol, maps_blocks};
+use fws_pf::Verb;
+use fws_pf_words::{ItemList, Tables, expanded_by, has_port_protocol, has_protocol, maps_blocks};
 use std::alloc::Global;
 
 /// Whether a port is written.
@@ -36,18 +36,18 @@ fn has_ports(d: &Draft) -> bool
 fn lacks_protocol(d: &Draft) -> bool
     ensures { result ≡ lacks_protocol (draft_of d.now) }
 {
-    (has_ports(d) && !has_port_protocol(d.protocols.as_slice()))
-        || (d.tests_flags && !has_protocol(6, d.protocols.as_slice()))
-        || (d.has_icmp_type && !has_protocol(1, d.protocols.as_slice()))
+    (has_ports(d) && !has_port_protocol(&d.protocols))
+        || (d.tests_flags && !has_protocol(6, &d.protocols))
+        || (d.has_icmp_type && !has_protocol(1, &d.protocols))
 }
 
 /// The addresses over which a translation writes.
-fn written_over(d: &Draft) -> &[Item]
+fn written_over(d: &Draft) -> &ItemList
     ensures { result.now ≡ written_over d.now.verb (draft_of d.now) }
 {
     match d.verb {
-        Verb::Nat => d.sources.as_slice(),
-        Verb::Block | Verb::Pass | Verb::Rdr => d.destinations.as_slice(),
+        Verb::Nat => &d.sources,
+        Verb::Block | Verb::Pass | Verb::Rdr => &d.destinations,
     }
 }
 

@@ -11,22 +11,21 @@ ghost use Rattle.fws_pf_read.specs.Statements.{seen};
 use crate::statement::{Statement, statement_read};
 use fws_net::{ReadFault, Site};
 use fws_num::{Line, Memory, Text, Word};
-use fws_pf::Table;
 use fws_pf_words::{
-    Macros, Names, Setting, Tables, Tags, define, empty_table, is_definition, table_defined,
-    with_members,
+    KnownTable, Macros, Names, Setting, Tables, Tags, define, empty_table, is_definition,
+    table_defined, with_members,
 };
 use std::alloc::Global;
 
 /// What a whole statement puts into its table.
-fn table_said(alloc: Global, name: Text, s: Statement) -> Result<Table, Memory>
+fn table_said(alloc: Global, name: Text, s: Statement) -> Result<KnownTable, Memory>
     ensures { IfOk result (λ t. t ≡ with_read (Ok (seen s)) (empty_table name)) }
 {
     match s {
         Statement::Begun => Ok(empty_table(alloc, name)),
         Statement::Negated => Ok(empty_table(alloc, name)),
         Statement::Rule(_) => Ok(empty_table(alloc, name)),
-        Statement::Table(d) => with_members(alloc, name, d.members.items.as_slice()),
+        Statement::Table(d) => with_members(alloc, name, d.members.into_items()),
         Statement::Set => Ok(empty_table(alloc, name)),
         Statement::Skip => Ok(empty_table(alloc, name)),
         Statement::SkipOn(_) => Ok(empty_table(alloc, name)),
@@ -41,7 +40,7 @@ fn table_read(
     macros: &Macros,
     name: Text,
     words: &[Word],
-) -> Result<Table, Memory>
+) -> Result<KnownTable, Memory>
     requires { IsSound site.now }
     ensures { IfOk result (λ t. t ≡ with_read (statement_read (unknowing site.now) macros.now [] words.now) (empty_table name)) }
 {
@@ -61,7 +60,7 @@ fn table_of(
     site: &Site,
     macros: &Macros,
     words: &[Word],
-) -> Result<Option<Table>, Memory>
+) -> Result<Option<KnownTable>, Memory>
     requires { IsSound site.now }
     ensures { IfOk result (λ t. option_to_list t ≡ table_of site.now macros.now words.now) }
 {

@@ -3,9 +3,9 @@
 ghost use Rattle.std.specs.Prelude.{◌≡◌};
 ghost use Rattle.fws_pf.specs.Drafts.{is_translation, passes};
 
-use fws_num::Items;
-use fws_pf::{Choice, Expects, Item, Target, ValueDraft, Verb, Way};
-use fws_pf_words::Tags;
+use crate::asked::OptionChoices;
+use fws_pf::{Expects, Target, Verb, Way};
+use fws_pf_words::{ItemList, LongValue, Tags};
 
 /// What was read so far of a rule: a `RuleDraft`, with the names of tags by their places.
 #[derive(Drop)]
@@ -17,7 +17,7 @@ pub(crate) struct Draft {
     /// What its next word is taken for.
     pub(crate) expects: Expects,
     /// What was read so far of the value that its next word belongs to.
-    pub(crate) value: ValueDraft,
+    pub(crate) value: LongValue,
     /// Whether `pass` of a translation stands there.
     pub(crate) past: bool,
     /// On which passes it is met.
@@ -25,19 +25,19 @@ pub(crate) struct Draft {
     /// Whether `quick` stands there.
     pub(crate) quick: bool,
     /// Its interfaces, as many as its list has; none where it names none. So with the following ones.
-    pub(crate) faces: Items<Item>,
+    pub(crate) faces: ItemList,
     /// Its protocols.
-    pub(crate) protocols: Items<Item>,
+    pub(crate) protocols: ItemList,
     /// Its sources.
-    pub(crate) sources: Items<Item>,
+    pub(crate) sources: ItemList,
     /// The ports of its sources.
-    pub(crate) source_ports: Items<Item>,
+    pub(crate) source_ports: ItemList,
     /// Its destinations.
-    pub(crate) destinations: Items<Item>,
+    pub(crate) destinations: ItemList,
     /// The ports of its destinations.
-    pub(crate) destination_ports: Items<Item>,
+    pub(crate) destination_ports: ItemList,
     /// What its options ask for, in their order.
-    pub(crate) options: Items<Choice>,
+    pub(crate) options: OptionChoices,
     /// Whether `flags` stands there.
     pub(crate) has_flags: bool,
     /// Whether it tests flags.

@@ -8,9 +8,7 @@ ghost use Rattle.fws_pf_read.specs.Views.{draft_of};
 use crate::draft::{Draft, passes};
 use fws_num::{Items, Memory};
 use fws_pf::{Choice, Place};
-use fws_pf_words::{
-    Tables, implied_flags, only, place_size, put_choice, put_choices, rule_count, times,
-};
+use fws_pf_words::{Tables, implied_flags, only, place_size, put_choice, times};
 use std::alloc::Global;
 
 /// Whether a rule is for the first packets of TCP connections alone, since it keeps state and has no flags.
@@ -25,34 +23,46 @@ fn place_choices(alloc: Global, tables: &Tables, d: &Draft) -> Result<Items<Choi
     ensures { IfOk result (λ cs. cs ≡ place_choices tables.now (draft_of d.now)) }
 {
     let mut all = Items::new(alloc);
-    put_choice(alloc, tables, Place::On, d.faces.as_slice(), &mut all)?;
+    put_choice(
+        alloc,
+        tables,
+        Place::On,
+        d.faces.to_items(alloc)?.as_slice(),
+        &mut all,
+    )?;
     put_choice(
         alloc,
         tables,
         Place::Proto,
-        d.protocols.as_slice(),
+        d.protocols.to_items(alloc)?.as_slice(),
         &mut all,
     )?;
-    put_choice(alloc, tables, Place::Source, d.sources.as_slice(), &mut all)?;
+    put_choice(
+        alloc,
+        tables,
+        Place::Source,
+        d.sources.to_items(alloc)?.as_slice(),
+        &mut all,
+    )?;
     put_choice(
         alloc,
         tables,
         Place::SourcePort,
-        d.source_ports.as_slice(),
+        d.source_ports.to_items(alloc)?.as_slice(),
         &mut all,
     )?;
     put_choice(
         alloc,
         tables,
         Place::Destination,
-        d.destinations.as_slice(),
+        d.destinations.to_items(alloc)?.as_slice(),
         &mut all,
     )?;
     put_choice(
         alloc,
         tables,
         Place::DestinationPort,
-        d.destination_ports.as_slice(),
+        d.destination_ports.to_items(alloc)?.as_slice(),
         &mut all,
     )?;
     Ok(all)
@@ -67,7 +77,7 @@ pub(crate) fn draft_choices(
     ensures { IfOk result (λ cs. cs ≡ choices tables.now (draft_of d.now)) }
 {
     let mut all = place_choices(alloc, tables, d)?;
-    put_choices(alloc, d.options.as_slice(), &mut all)?;
+    d.options.put_to(alloc, &mut all)?;
     if implies_flags(d) {
         all.put(only(alloc, implied_flags(alloc)?)?)?;
     }
@@ -78,11 +88,11 @@ pub(crate) fn draft_choices(
 pub(crate) fn draft_count(d: &Draft) -> u64
     ensures { result ≡ min (draft_count (draft_of d.now)) 400000 }
 {
-    let count = place_size(d.faces.as_slice());
-    let count = times(count, place_size(d.protocols.as_slice()));
-    let count = times(count, place_size(d.sources.as_slice()));
-    let count = times(count, place_size(d.source_ports.as_slice()));
-    let count = times(count, place_size(d.destinations.as_slice()));
-    let count = times(count, place_size(d.destination_ports.as_slice()));
-    times(count, rule_count(d.options.as_slice()))
+    let count = place_size(&d.faces);
+    let count = times(count, place_size(&d.protocols));
+    let count = times(count, place_size(&d.sources));
+    let count = times(count, place_size(&d.source_ports));
+    let count = times(count, place_size(&d.destinations));
+    let count = times(count, place_size(&d.destination_ports));
+    times(count, d.options.count())
 }

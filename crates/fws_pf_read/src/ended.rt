@@ -10,7 +10,7 @@ use crate::draft::{Draft, is_translation};
 use crate::steps::{put_value, value_place};
 use fws_net::{Cause, ReadFault};
 use fws_pf::{Expects, Place, ValueKind};
-use fws_pf_words::{ended_value, fresh_value};
+use fws_pf_words::LongValue;
 use std::alloc::Global;
 use std::mem;
 
@@ -78,8 +78,8 @@ fn early(expects: Expects) -> Cause
 fn end_value(alloc: Global, place: Place, d: &mut Draft) -> Result<(), ReadFault>
     ensures { StepGiven result (draft_of d.new) (last_valued (expect.Value place) (draft_of d.old)) }
 {
-    let value = mem::replace(&mut d.value, fresh_value(alloc, ValueKind::Interface));
-    match ended_value(alloc, value)? {
+    let value = mem::replace(&mut d.value, LongValue::new(alloc, ValueKind::Interface));
+    match value.ended(alloc)? {
         Some(whole) => {
             d.value = whole;
             put_value(alloc, place, d)?;

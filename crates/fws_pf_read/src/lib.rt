@@ -1,6 +1,7 @@
 //! Reads texts of pf.conf(5).
 #![tactic(auto)]
 
+mod asked;
 mod checks;
 mod definitions;
 mod draft;

@@ -13,7 +13,7 @@ use crate::keywords::{misplaced, option_word};
 use fws_net::{Cause, Cond, ReadFault, Test};
 use fws_num::{Memory, Word};
 use fws_pf::{Expects, OptionWord, Place, ValueKind, Verb};
-use fws_pf_words::{fresh_value, is_any_mark, is_mark, only, read_flags};
+use fws_pf_words::{LongValue, is_any_mark, is_mark, read_flags};
 use fws_rule::{is, positive, put_literals};
 use std::alloc::Global;
 
@@ -34,15 +34,15 @@ fn kind_at(place: Place) -> ValueKind
 pub(crate) fn ask(alloc: Global, place: Place, d: &mut Draft)
     ensures { draft_of d.new ≡ record (draft_of d.old) { expects = expect.Value place; value = fresh_value (kind_at place) } }
 {
-    d.value = fresh_value(alloc, kind_at(place));
+    d.value = LongValue::new(alloc, kind_at(place));
     d.expects = Expects::Value(place);
 }
 
 /// Asks for one condition more.
-fn put_cond(alloc: Global, cond: Cond, d: &mut Draft) -> Result<(), Memory>
+fn put_cond(cond: Cond, d: &mut Draft) -> Result<(), Memory>
     ensures { OnOk result (draft_of d.new ≡ with_choice (only cond) (draft_of d.old)) }
 {
-    d.options.put(only(alloc, cond)?)?;
+    d.options.put(cond)?;
     Ok(())
 }
 
@@ -59,7 +59,7 @@ fn flags_cond(alloc: Global, test: Test) -> Result<Cond, Memory>
 fn put_flags(alloc: Global, test: Test, d: &mut Draft) -> Result<(), Memory>
     ensures { OnOk result (draft_of d.new ≡ with_flags_test test (draft_of d.old)) }
 {
-    put_cond(alloc, flags_cond(alloc, test)?, d)?;
+    put_cond(flags_cond(alloc, test)?, d)?;
     d.tests_flags = true;
     d.expects = Expects::Option;
     Ok(())
@@ -135,7 +135,7 @@ pub(crate) fn tagged_name_step(
         return Err(ReadFault::Bad(Cause::Syntax));
     }
     let place = d.tags.place(alloc, w.text.as_slice())?;
-    put_cond(alloc, tag_cond(alloc, asked, place)?, d)?;
+    put_cond(tag_cond(alloc, asked, place)?, d)?;
     d.expects = behind_tagged(d.verb);
     Ok(())
 }

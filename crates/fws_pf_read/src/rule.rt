@@ -1,21 +1,26 @@
 //! A rule that is read: a filter rule or a translation behind its first word (pf.conf(5)).
 
-ghost use Rattle.std.specs.Prelude.{◌≡◌, IfOk};
+ghost use Rattle.std.specs.Prelude.{◌≡◌, ℕ, ◌≤◌, Ok, List, length, take, IfOk, OnOk};
 ghost use Rattle.fws_net.specs.Reading.{CauseGiven, StepGiven};
 ghost use Rattle.fws_net.specs.Routes.{IsSound};
 ghost use Rattle.fws_pf.specs.Drawn.{choices, filter_rule, rule_checks, rule_ended, translation};
+ghost use Rattle.fws_pf.specs.declared.macros.Macro.{Macro as AnyMacro};
+ghost use Rattle.fws_pf.specs.declared.statement.Statement.TheVariants as any;
 ghost use Rattle.fws_pf.specs.RuleText.{fresh_rule, rule_step};
+ghost use Rattle.fws_pf.specs.StatementText.{words_taken};
+ghost use Rattle.fws_pf_words.specs.UsesKnown.{AreUses, ArePiece};
 
+use crate::asked::OptionChoices;
 use crate::checks::draft_checks;
 use crate::draft::Draft;
 use crate::drawn::draft_choices;
 use crate::ended::draft_ended;
 use crate::made;
-use crate::steps::draft_step;
+use crate::steps::{draft_step, draft_within};
 use fws_net::{Checks, Cond, ReadFault};
-use fws_num::{Items, Memory, Word};
+use fws_num::{Items, Memory, Text, Word};
 use fws_pf::{Choice, Expects, PfNat, PfRule, ValueKind, Verb, Way};
-use fws_pf_words::{Setting, Tables, Tags, fresh_value};
+use fws_pf_words::{ItemList, KnownUses, LongValue, Setting, Source, Tables, Tags};
 use std::alloc::Global;
 use std::marker::Model;
 
@@ -87,17 +92,17 @@ pub(crate) fn fresh_rule(
             verb,
             negated,
             expects,
-            value: fresh_value(alloc, ValueKind::Interface),
+            value: LongValue::new(alloc, ValueKind::Interface),
             past: false,
             way: Way::Both,
             quick: false,
-            faces: Items::new(alloc),
-            protocols: Items::new(alloc),
-            sources: Items::new(alloc),
-            source_ports: Items::new(alloc),
-            destinations: Items::new(alloc),
-            destination_ports: Items::new(alloc),
-            options: Items::new(alloc),
+            faces: ItemList::new(alloc),
+            protocols: ItemList::new(alloc),
+            sources: ItemList::new(alloc),
+            source_ports: ItemList::new(alloc),
+            destinations: ItemList::new(alloc),
+            destination_ports: ItemList::new(alloc),
+            options: OptionChoices::new(alloc),
             has_flags: false,
             tests_flags: false,
             has_icmp_type: false,
@@ -124,6 +129,26 @@ pub(crate) fn rule_step(
     ensures { StepGiven result rule.new (rule_step setting.now w.now rule.old) }
 {
     draft_step(alloc, setting, w, &mut rule.draft)
+}
+
+/// Takes words that belong to the value at which the rule is and don't end it, up to the first other word, and tells how many.
+pub(crate) fn rule_within(
+    alloc: Global,
+    setting: &Setting<'_>,
+    uses: &mut KnownUses,
+    source: Source,
+    name: &Text,
+    words: &[Word],
+    rule: &mut Rule,
+) -> Result<usize, Memory>
+    requires { IsSound setting.now.site }
+    ensures few { IfOk result (λ n. n ≤ length words.now) }
+    ensures taken { (macros : List AnyMacro) → ArePiece macros source name.now words.now → AreUses setting.now macros rule.old.value.items uses.old
+        → IfOk result (λ n. (tags : List (List ℕ)) → words_taken setting.now tags (take n words.now) (any.Rule rule.old) ≡ Ok (any.Rule rule.new)) }
+    ensures known { (macros : List AnyMacro) → ArePiece macros source name.now words.now → AreUses setting.now macros rule.old.value.items uses.old
+        → OnOk result (AreUses setting.now macros rule.new.value.items uses.new) }
+{
+    draft_within(alloc, setting, uses, source, name, words, &mut rule.draft)
 }
 
 /// The rule of all its words. One that ends too early is refused.

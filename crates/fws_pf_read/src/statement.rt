@@ -1,20 +1,30 @@
 //! A statement, word by word.
 
-ghost use Rattle.std.specs.Prelude.{◌≡◌, ℕ, Ok, List, IfOk};
+ghost use Rattle.std.specs.Prelude.{◌≡◌, ℕ, ◌≤◌, true, Ok, List, length, take, IfOk};
+ghost use Rattle.std.specs.List.{list_all};
+ghost use Rattle.fws_num.specs.Words.{is_printed, is_sound};
 ghost use Rattle.fws_net.specs.Reading.{StepGiven, and_then};
 ghost use Rattle.fws_net.specs.Routes.{IsSound};
+ghost use Rattle.fws_pf.specs.declared.macros.Macro.{Macro as AnyMacro};
 ghost use Rattle.fws_pf.specs.declared.statement.Statement.TheVariants as any;
+ghost use Rattle.fws_pf.specs.declared.value_draft.Item.{Item as AnyItem};
+ghost use Rattle.fws_pf.specs.Values.{Setting as AnySetting};
+ghost use Rattle.fws_pf.specs.Macros.{meant};
 ghost use Rattle.fws_pf.specs.RuleText.{rule_step};
-ghost use Rattle.fws_pf.specs.StatementText.{begun, fault, negated, other_begun, raw_taken, raws_taken, rule_begun, set_step, skip_on_step, skip_step, statement_ended, statement_read, statement_step, table_ended, table_step, word_taken, words_taken};
-ghost use Rattle.fws_pf_read.specs.Statements.{AreTags, StatementGiven, seen};
+ghost use Rattle.fws_pf.specs.StatementText.{begun, fault, meant_taken, negated, other_begun, raw_taken, raws_taken, rule_begun, set_step, skip_on_step, skip_step, statement_ended, statement_read, statement_step, table_ended, table_step, word_taken, words_taken};
+ghost use Rattle.fws_pf_words.specs.TableSteps.{table_seen};
+ghost use Rattle.fws_pf_words.specs.Uses.{behind_name, joined_words, last_joined, name_ahead, words_named};
+ghost use Rattle.fws_pf_words.specs.UsesKnown.{AreUses, ArePiece};
+ghost use Rattle.fws_pf_read.specs.Statements.{AreTags, StatementGiven, items_of, seen};
 
 use crate::keywords::{action_word, misplaced};
-use crate::rule::{Rule, fresh_rule, rule_ended, rule_step};
+use crate::rule::{Rule, fresh_rule, rule_ended, rule_step, rule_within};
 use fws_net::{Cause, ReadFault};
-use fws_num::Word;
-use fws_pf::{ActionWord, Expects, TableDraft, TableExpects, ValueDraft, ValueKind, Verb};
+use fws_num::{Memory, Text, Word};
+use fws_pf::{ActionWord, Expects, TableExpects, ValueKind, Verb};
 use fws_pf_words::{
-    Macros, Setting, Tags, ended_value, fresh_table, fresh_value, meant, value_step,
+    KnownUses, LongTable, LongValue, Macros, Setting, Source, Tags, fresh_table, front_words,
+    last_joined, meant, nothing_is_joined, split_name, used_text,
 };
 use fws_rule::is;
 use std::alloc::Global;
@@ -29,13 +39,13 @@ pub(crate) enum Statement {
     /// A filter rule or a translation.
     Rule(Rule),
     /// A table.
-    Table(TableDraft),
+    Table(LongTable),
     /// `set`
     Set,
     /// `set skip`, behind which `on` stands.
     Skip,
     /// The interfaces that are skipped.
-    SkipOn(ValueDraft),
+    SkipOn(LongValue),
     /// A statement that has no effect.
     Idle,
 }
@@ -135,10 +145,10 @@ fn table_step(
     alloc: Global,
     setting: &Setting,
     w: &Word,
-    d: &mut TableDraft,
+    d: &mut LongTable,
 ) -> Result<(), ReadFault>
     requires { IsSound setting.now.site }
-    ensures { StepGiven result d.new (table_step setting.now w.now d.old) }
+    ensures { StepGiven result (table_seen d.new) (table_step setting.now w.now (table_seen d.old)) }
 {
     fws_pf_words::table_step(alloc, setting, misplaced(w.text.as_slice()), w, d)
 }
@@ -148,10 +158,10 @@ fn table_taken(
     alloc: Global,
     setting: &Setting,
     w: &Word,
-    mut d: TableDraft,
+    mut d: LongTable,
 ) -> Result<Statement, ReadFault>
     requires { IsSound setting.now.site }
-    ensures { StatementGiven result (and_then (table_step setting.now w.now d) (λ next. Ok (any.Table next))) }
+    ensures { StatementGiven result (and_then (table_step setting.now w.now (table_seen d)) (λ next. Ok (any.Table next))) }
 {
     table_step(alloc, setting, w, &mut d)?;
     Ok(Statement::Table(d))
@@ -175,7 +185,7 @@ fn skip_step(alloc: Global, w: &Word) -> Result<Statement, ReadFault>
     if !is(text, b"on") {
         return Err(ReadFault::Bad(misplaced(text)));
     }
-    Ok(Statement::SkipOn(fresh_value(alloc, ValueKind::Interface)))
+    Ok(Statement::SkipOn(LongValue::new(alloc, ValueKind::Interface)))
 }
 
 /// Takes a word of the interfaces that are skipped; nothing stands behind them.
@@ -183,12 +193,12 @@ fn skip_on_step(
     alloc: Global,
     setting: &Setting,
     w: &Word,
-    mut v: ValueDraft,
+    mut v: LongValue,
 ) -> Result<Statement, ReadFault>
     requires { IsSound setting.now.site }
     ensures { StatementGiven result (skip_on_step setting.now w.now v) }
 {
-    let took = value_step(alloc, setting, w, &mut v)?;
+    let took = v.step(alloc, setting, w)?;
     if !took {
         return Err(ReadFault::Bad(Cause::Syntax));
     }
@@ -251,23 +261,368 @@ fn word_taken(
     statement_step(alloc, setting, tags, w, s)
 }
 
-/// Takes words out of a macro, or one that stands there.
+/// Whether each byte is one that is printed.
+fn are_printed(text: &[u8]) -> bool
+    ensures { result ≡ list_all is_printed text.now }
+{
+    text.iter().all(|c| 33 <= *c && *c <= 126)
+}
+
+/// Whether words that can be judged change nothing any more.
+fn passes_over(sound: bool, s: &Statement) -> bool
+    ensures { result ≡ true → (sound ≡ true) × (seen s.now ≡ any.Idle) }
+{
+    match s {
+        Statement::Idle => sound,
+        _ => false,
+    }
+}
+
+/// Takes words out of a macro, or one that stands there. A statement that has no effect passes over words of which all are known
+/// to be such that can be judged.
 fn words_taken(
     alloc: Global,
     setting: &Setting,
     tags: &mut Tags,
     words: &[Word],
+    sound: bool,
     s: Statement,
 ) -> Result<Statement, ReadFault>
-    requires { IsSound setting.now.site }
+    requires site { IsSound setting.now.site }
+    requires judged { sound ≡ true → list_all is_sound words.now ≡ true }
     ensures given { (t : List (List ℕ)) → AreTags t s tags.old → StatementGiven result (words_taken setting.now t words.now (seen s)) }
     ensures kept { (t : List (List ℕ)) → AreTags t s tags.old → IfOk result (λ next. AreTags t next tags.new) }
 {
     let mut next = s;
     for w in words {
+        if passes_over(sound, &next) {
+            return Ok(next);
+        }
         next = word_taken(alloc, setting, tags, w, next)?;
     }
     Ok(next)
+}
+
+/// Takes words that belong to the value at which a rule is and don't end it, up to the first other word, and tells how many.
+fn rule_piece(
+    alloc: Global,
+    setting: &Setting,
+    uses: &mut KnownUses,
+    source: Source,
+    name: &Text,
+    words: &[Word],
+    mut rule: Rule,
+) -> Result<(Statement, usize), Memory>
+    requires { IsSound setting.now.site }
+    ensures few { IfOk result (λ r. r.1 ≤ length words.now) }
+    ensures taken { (macros : List AnyMacro) → ArePiece macros source name.now words.now → AreUses setting.now macros rule.value.items uses.old
+        → IfOk result (λ r. (t : List (List ℕ)) → words_taken setting.now t (take r.1 words.now) (any.Rule rule) ≡ Ok (seen r.0)) }
+    ensures known { (macros : List AnyMacro) → ArePiece macros source name.now words.now → AreUses setting.now macros rule.value.items uses.old
+        → IfOk result (λ r. AreUses setting.now macros (items_of (seen r.0)) uses.new) }
+    ensures kept { IfOk result (λ r. (t k : List (List ℕ)) → AreTags t r.0 k) }
+{
+    let n = rule_within(alloc, setting, uses, source, name, words, &mut rule)?;
+    Ok((Statement::Rule(rule), n))
+}
+
+/// Takes words that belong to the list of a table and don't end it, up to the first other word, and tells how many.
+fn table_piece(
+    alloc: Global,
+    setting: &Setting,
+    uses: &mut KnownUses,
+    source: Source,
+    name: &Text,
+    words: &[Word],
+    mut d: LongTable,
+) -> Result<(Statement, usize), Memory>
+    requires { IsSound setting.now.site }
+    ensures few { IfOk result (λ r. r.1 ≤ length words.now) }
+    ensures taken { (macros : List AnyMacro) → ArePiece macros source name.now words.now → AreUses setting.now macros d.members.items uses.old
+        → IfOk result (λ r. (t : List (List ℕ)) → words_taken setting.now t (take r.1 words.now) (any.Table (table_seen d)) ≡ Ok (seen r.0)) }
+    ensures known { (macros : List AnyMacro) → ArePiece macros source name.now words.now → AreUses setting.now macros d.members.items uses.old
+        → IfOk result (λ r. AreUses setting.now macros (items_of (seen r.0)) uses.new) }
+    ensures kept { IfOk result (λ r. (t k : List (List ℕ)) → k ≡ t → AreTags t r.0 k) }
+{
+    match d.expects {
+        TableExpects::Members => {
+            let n = uses.take(alloc, setting, source, name, words, &mut d.members)?;
+            Ok((Statement::Table(d), n))
+        }
+        _ => Ok((Statement::Table(d), 0)),
+    }
+}
+
+/// Takes words that belong to the interfaces that are skipped and don't end them, up to the first other word, and tells how many.
+fn skip_piece(
+    alloc: Global,
+    setting: &Setting,
+    uses: &mut KnownUses,
+    source: Source,
+    name: &Text,
+    words: &[Word],
+    mut v: LongValue,
+) -> Result<(Statement, usize), Memory>
+    requires { IsSound setting.now.site }
+    ensures few { IfOk result (λ r. r.1 ≤ length words.now) }
+    ensures taken { (macros : List AnyMacro) → ArePiece macros source name.now words.now → AreUses setting.now macros v.items uses.old
+        → IfOk result (λ r. (t : List (List ℕ)) → words_taken setting.now t (take r.1 words.now) (any.SkipOn v) ≡ Ok (seen r.0)) }
+    ensures known { (macros : List AnyMacro) → ArePiece macros source name.now words.now → AreUses setting.now macros v.items uses.old
+        → IfOk result (λ r. AreUses setting.now macros (items_of (seen r.0)) uses.new) }
+    ensures kept { IfOk result (λ r. (t k : List (List ℕ)) → k ≡ t → AreTags t r.0 k) }
+{
+    let n = uses.take(alloc, setting, source, name, words, &mut v)?;
+    Ok((Statement::SkipOn(v), n))
+}
+
+/// Takes words that belong to the value at which the statement is and don't end it, up to the first other word, and tells how
+/// many.
+fn statement_within(
+    alloc: Global,
+    setting: &Setting,
+    uses: &mut KnownUses,
+    source: Source,
+    name: &Text,
+    words: &[Word],
+    s: Statement,
+) -> Result<(Statement, usize), Memory>
+    requires { IsSound setting.now.site }
+    ensures few { IfOk result (λ r. r.1 ≤ length words.now) }
+    ensures taken { (macros : List AnyMacro) → ArePiece macros source name.now words.now → AreUses setting.now macros (items_of (seen s)) uses.old
+        → IfOk result (λ r. (t : List (List ℕ)) → words_taken setting.now t (take r.1 words.now) (seen s) ≡ Ok (seen r.0)) }
+    ensures known { (macros : List AnyMacro) → ArePiece macros source name.now words.now → AreUses setting.now macros (items_of (seen s)) uses.old
+        → IfOk result (λ r. AreUses setting.now macros (items_of (seen r.0)) uses.new) }
+    ensures kept { IfOk result (λ r. (t k : List (List ℕ)) → AreTags t s k → AreTags t r.0 k) }
+{
+    match s {
+        Statement::Rule(rule) => rule_piece(alloc, setting, uses, source, name, words, rule),
+        Statement::Table(d) => table_piece(alloc, setting, uses, source, name, words, d),
+        Statement::SkipOn(v) => skip_piece(alloc, setting, uses, source, name, words, v),
+        other => Ok((other, 0)),
+    }
+}
+
+/// Forgets what is known of uses.
+fn forget(alloc: Global, uses: &mut KnownUses)
+    ensures { (setting : AnySetting) (macros : List AnyMacro) (items : List AnyItem) → AreUses setting macros items uses.new }
+{
+    *uses = KnownUses::new(alloc);
+}
+
+/// Takes words that may belong to no value, or to another one, of which no use is known.
+fn rest_taken(
+    alloc: Global,
+    setting: &Setting,
+    uses: &mut KnownUses,
+    tags: &mut Tags,
+    words: &[Word],
+    sound: bool,
+    s: Statement,
+) -> Result<Statement, ReadFault>
+    requires site { IsSound setting.now.site }
+    requires judged { sound ≡ true → list_all is_sound words.now ≡ true }
+    ensures given { (t : List (List ℕ)) → AreTags t s tags.old → StatementGiven result (words_taken setting.now t words.now (seen s)) }
+    ensures kept { (t : List (List ℕ)) → AreTags t s tags.old → IfOk result (λ next. AreTags t next tags.new) }
+    ensures known { (macros : List AnyMacro) → IfOk result (λ next. AreUses setting.now macros (items_of (seen next)) uses.new) }
+{
+    forget(alloc, uses);
+    words_taken(alloc, setting, tags, words, sound, s)
+}
+
+/// Takes words that come from somewhere. Where they belong to the value at which the statement is, those of a macro take no
+/// longer for being many, if they were taken from the same place before, or if they are known to be such that can be judged and the
+/// statement has no effect.
+fn piece_taken(
+    alloc: Global,
+    setting: &Setting,
+    uses: &mut KnownUses,
+    tags: &mut Tags,
+    source: Source,
+    name: &Text,
+    words: &[Word],
+    sound: bool,
+    s: Statement,
+) -> Result<Statement, ReadFault>
+    requires site { IsSound setting.now.site }
+    requires judged { sound ≡ true → list_all is_sound words.now ≡ true }
+    ensures given { (t : List (List ℕ)) (macros : List AnyMacro) → AreTags t s tags.old → ArePiece macros source name.now words.now
+        → AreUses setting.now macros (items_of (seen s)) uses.old → StatementGiven result (words_taken setting.now t words.now (seen s)) }
+    ensures kept { (t : List (List ℕ)) → AreTags t s tags.old → IfOk result (λ next. AreTags t next tags.new) }
+    ensures known { (macros : List AnyMacro) → ArePiece macros source name.now words.now → AreUses setting.now macros (items_of (seen s)) uses.old
+        → IfOk result (λ next. AreUses setting.now macros (items_of (seen next)) uses.new) }
+{
+    let (next, n) = statement_within(alloc, setting, uses, source, name, words, s)?;
+    if n == words.len() {
+        return Ok(next);
+    }
+    rest_taken(alloc, setting, uses, tags, &words[n..], sound, next)
+}
+
+/// Takes the words of a macro.
+fn whole_taken(
+    alloc: Global,
+    setting: &Setting,
+    macros: &Macros,
+    uses: &mut KnownUses,
+    tags: &mut Tags,
+    name: &Text,
+    s: Statement,
+) -> Result<Statement, ReadFault>
+    requires { IsSound setting.now.site }
+    ensures given { (t : List (List ℕ)) → AreTags t s tags.old → AreUses setting.now macros.now (items_of (seen s)) uses.old
+        → StatementGiven result (words_taken setting.now t (words_named macros.now name.now) (seen s)) }
+    ensures kept { (t : List (List ℕ)) → AreTags t s tags.old → IfOk result (λ next. AreTags t next tags.new) }
+    ensures known { AreUses setting.now macros.now (items_of (seen s)) uses.old → IfOk result (λ next. AreUses setting.now macros.now (items_of (seen next)) uses.new) }
+{
+    let words = macros.words(name);
+    let sound = macros.are_sound(name);
+    piece_taken(
+        alloc,
+        setting,
+        uses,
+        tags,
+        Source::Whole,
+        name,
+        words,
+        sound,
+        s,
+    )
+}
+
+/// Takes the last of some words with a text joined to it. A statement that has no effect passes over it where all these words are known
+/// to be such that can be judged.
+fn last_taken(
+    alloc: Global,
+    setting: &Setting,
+    uses: &mut KnownUses,
+    tags: &mut Tags,
+    words: &[Word],
+    sound: bool,
+    text: &[u8],
+    s: Statement,
+) -> Result<Statement, ReadFault>
+    requires site { IsSound setting.now.site }
+    requires judged { sound ≡ true → list_all is_sound words.now ≡ true }
+    ensures given { (t : List (List ℕ)) (macros : List AnyMacro) → AreTags t s tags.old → AreUses setting.now macros (items_of (seen s)) uses.old
+        → StatementGiven result (words_taken setting.now t (last_joined words.now text.now) (seen s)) }
+    ensures kept { (t : List (List ℕ)) → AreTags t s tags.old → IfOk result (λ next. AreTags t next tags.new) }
+    ensures known { (macros : List AnyMacro) → AreUses setting.now macros (items_of (seen s)) uses.old
+        → IfOk result (λ next. AreUses setting.now macros (items_of (seen next)) uses.new) }
+{
+    if passes_over(sound, &s) {
+        if are_printed(text) {
+            return Ok(s);
+        }
+    }
+    let last = last_joined(alloc, words, text)?;
+    let name = Text::new(alloc);
+    piece_taken(
+        alloc,
+        setting,
+        uses,
+        tags,
+        Source::Other,
+        &name,
+        last.as_slice(),
+        false,
+        s,
+    )
+}
+
+/// Takes the words of a macro, the last of which has a text joined to it.
+fn joined_taken(
+    alloc: Global,
+    setting: &Setting,
+    macros: &Macros,
+    uses: &mut KnownUses,
+    tags: &mut Tags,
+    name: &Text,
+    text: &[u8],
+    s: Statement,
+) -> Result<Statement, ReadFault>
+    requires { IsSound setting.now.site }
+    ensures given { (t : List (List ℕ)) → AreTags t s tags.old → AreUses setting.now macros.now (items_of (seen s)) uses.old
+        → StatementGiven result (words_taken setting.now t (joined_words (words_named macros.now name.now) text.now) (seen s)) }
+    ensures kept { (t : List (List ℕ)) → AreTags t s tags.old → IfOk result (λ next. AreTags t next tags.new) }
+    ensures known { AreUses setting.now macros.now (items_of (seen s)) uses.old → IfOk result (λ next. AreUses setting.now macros.now (items_of (seen next)) uses.new) }
+{
+    let words = macros.words(name);
+    let front = front_words(words);
+    let sound = macros.are_sound(name);
+    match piece_taken(
+        alloc,
+        setting,
+        uses,
+        tags,
+        Source::Front,
+        name,
+        front,
+        sound,
+        s,
+    ) {
+        Ok(next) => last_taken(alloc, setting, uses, tags, words, sound, text, next),
+        Err(fault) => Err(fault),
+    }
+}
+
+/// Takes the words for which a use of a macro stands: its words, the last of which has a text joined to it.
+fn macro_taken(
+    alloc: Global,
+    setting: &Setting,
+    macros: &Macros,
+    uses: &mut KnownUses,
+    tags: &mut Tags,
+    text: &[u8],
+    s: Statement,
+) -> Result<Statement, ReadFault>
+    requires { IsSound setting.now.site }
+    ensures given { (t : List (List ℕ)) → AreTags t s tags.old → AreUses setting.now macros.now (items_of (seen s)) uses.old
+        → StatementGiven result (words_taken setting.now t (joined_words (words_named macros.now (name_ahead text.now)) (behind_name text.now)) (seen s)) }
+    ensures kept { (t : List (List ℕ)) → AreTags t s tags.old → IfOk result (λ next. AreTags t next tags.new) }
+    ensures known { AreUses setting.now macros.now (items_of (seen s)) uses.old → IfOk result (λ next. AreUses setting.now macros.now (items_of (seen next)) uses.new) }
+{
+    nothing_is_joined();
+    let (name, behind) = split_name(text);
+    let named = Text::of(alloc, name)?;
+    match behind {
+        [] => whole_taken(alloc, setting, macros, uses, tags, &named, s),
+        [_, ..] => joined_taken(alloc, setting, macros, uses, tags, &named, behind, s),
+    }
+}
+
+/// Takes the words for which a word stands that is no use of a macro with words.
+fn plain_taken(
+    alloc: Global,
+    setting: &Setting,
+    macros: &Macros,
+    uses: &mut KnownUses,
+    tags: &mut Tags,
+    w: &Word,
+    s: Statement,
+) -> Result<Statement, ReadFault>
+    requires { IsSound setting.now.site }
+    ensures given { (t : List (List ℕ)) → AreTags t s tags.old → AreUses setting.now macros.now (items_of (seen s)) uses.old
+        → StatementGiven result (meant_taken setting.now t (meant macros.now w.now) (seen s)) }
+    ensures kept { (t : List (List ℕ)) → AreTags t s tags.old → IfOk result (λ next. AreTags t next tags.new) }
+    ensures known { AreUses setting.now macros.now (items_of (seen s)) uses.old → IfOk result (λ next. AreUses setting.now macros.now (items_of (seen next)) uses.new) }
+{
+    match meant(alloc, macros, w) {
+        Ok(words) => {
+            let name = Text::new(alloc);
+            piece_taken(
+                alloc,
+                setting,
+                uses,
+                tags,
+                Source::Other,
+                &name,
+                words.as_slice(),
+                false,
+                s,
+            )
+        }
+        Err(ReadFault::Bad(cause)) => Err(ReadFault::Bad(fault(&s, cause))),
+        Err(ReadFault::Memory) => Err(ReadFault::Memory),
+    }
 }
 
 /// Takes the words for which a word stands.
@@ -275,21 +630,24 @@ fn raw_taken(
     alloc: Global,
     setting: &Setting,
     macros: &Macros,
+    uses: &mut KnownUses,
     tags: &mut Tags,
     w: &Word,
     s: Statement,
 ) -> Result<Statement, ReadFault>
     requires { IsSound setting.now.site }
-    ensures given { (t : List (List ℕ)) → AreTags t s tags.old → StatementGiven result (raw_taken setting.now macros.now t w.now (seen s)) }
+    ensures given { (t : List (List ℕ)) → AreTags t s tags.old → AreUses setting.now macros.now (items_of (seen s)) uses.old
+        → StatementGiven result (raw_taken setting.now macros.now t w.now (seen s)) }
     ensures kept { (t : List (List ℕ)) → AreTags t s tags.old → IfOk result (λ next. AreTags t next tags.new) }
+    ensures known { AreUses setting.now macros.now (items_of (seen s)) uses.old → IfOk result (λ next. AreUses setting.now macros.now (items_of (seen next)) uses.new) }
 {
     if !w.is_sound() {
         return Err(ReadFault::Bad(fault(&s, Cause::Syntax)));
     }
-    match meant(alloc, macros, w) {
-        Ok(words) => words_taken(alloc, setting, tags, words.as_slice(), s),
-        Err(ReadFault::Bad(cause)) => Err(ReadFault::Bad(fault(&s, cause))),
-        Err(ReadFault::Memory) => Err(ReadFault::Memory),
+    let used = used_text(alloc, macros, w)?;
+    match used {
+        Some(text) => macro_taken(alloc, setting, macros, uses, tags, text, s),
+        None => plain_taken(alloc, setting, macros, uses, tags, w, s),
     }
 }
 
@@ -305,25 +663,26 @@ fn raws_taken(
     ensures given { StatementGiven result (raws_taken setting.now macros.now tags.old words.now any.Begun) }
     ensures kept { IfOk result (λ s. AreTags tags.old s tags.new) }
 {
+    let mut uses = KnownUses::new(alloc);
     let mut next = Statement::Begun;
     for w in words {
-        next = raw_taken(alloc, setting, macros, tags, w, next)?;
+        next = raw_taken(alloc, setting, macros, &mut uses, tags, w, next)?;
     }
     Ok(next)
 }
 
 /// The whole table.
-fn table_ended(alloc: Global, d: TableDraft) -> Result<Statement, ReadFault>
-    ensures given { StatementGiven result (table_ended d.expects d) }
+fn table_ended(alloc: Global, d: LongTable) -> Result<Statement, ReadFault>
+    ensures given { StatementGiven result (table_ended d.expects (table_seen d)) }
 {
-    let TableDraft {
+    let LongTable {
         name,
         expects,
         members,
     } = d;
     match expects {
-        TableExpects::Members => match ended_value(alloc, members)? {
-            Some(members) => Ok(Statement::Table(TableDraft {
+        TableExpects::Members => match members.ended(alloc)? {
+            Some(members) => Ok(Statement::Table(LongTable {
                 name,
                 expects,
                 members,
@@ -335,10 +694,10 @@ fn table_ended(alloc: Global, d: TableDraft) -> Result<Statement, ReadFault>
 }
 
 /// All the interfaces that are skipped.
-fn skip_on_ended(alloc: Global, v: ValueDraft) -> Result<Statement, ReadFault>
+fn skip_on_ended(alloc: Global, v: LongValue) -> Result<Statement, ReadFault>
     ensures { StatementGiven result (statement_ended (any.SkipOn v)) }
 {
-    match ended_value(alloc, v)? {
+    match v.ended(alloc)? {
         Some(whole) => Ok(Statement::SkipOn(whole)),
         None => Err(ReadFault::Bad(Cause::Syntax)),
     }

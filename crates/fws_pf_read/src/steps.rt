@@ -1,14 +1,18 @@
 //! The words of a rule, from left to right (pf.conf(5)).
 
-ghost use Rattle.std.specs.Prelude.{◌≡◌, OnOk};
+ghost use Rattle.std.specs.Prelude.{◌≡◌, ℕ, ◌≤◌, Ok, List, length, take, IfOk, OnOk};
 ghost use Rattle.std.specs.List.{list_any};
 ghost use Rattle.std.specs.Str.{bytes_eq};
 ghost use Rattle.fws_net.specs.Reading.{StepGiven};
 ghost use Rattle.fws_net.specs.Routes.{IsSound};
+ghost use Rattle.fws_pf.specs.declared.macros.Macro.{Macro as AnyMacro};
 ghost use Rattle.fws_pf.specs.declared.rule_draft.Expects.TheVariants as expect;
+ghost use Rattle.fws_pf.specs.declared.statement.Statement.TheVariants as any;
 ghost use Rattle.fws_pf.specs.Drafts.{going};
 ghost use Rattle.fws_pf.specs.RuleText.{answer_step, answers, behind, destination_ports_step, hosts_step, inet_step, log_all_step, log_end_step, log_step, logged_step, on_step, past_step, proto_step, quick_step, rule_step, source_ports_step, to_step, value_taken, value_word_step, valued, way_step, with_items, word_step};
+ghost use Rattle.fws_pf.specs.StatementText.{words_taken};
 ghost use Rattle.fws_pf.specs.Values.{no_mark};
+ghost use Rattle.fws_pf_words.specs.UsesKnown.{AreUses, ArePiece};
 ghost use Rattle.fws_pf_read.specs.Places.{value_place};
 ghost use Rattle.fws_pf_read.specs.Views.{draft_of};
 
@@ -20,10 +24,10 @@ use crate::options::{
 };
 use crate::target::written_step;
 use fws_net::{Cause, ReadFault};
-use fws_num::{Items, Memory, Word};
-use fws_pf::{Expects, Item, Place, ValueKind, Way};
+use fws_num::{Memory, Text, Word};
+use fws_pf::{Expects, Place, ValueKind, Way};
 use fws_pf_words::{
-    Setting, Tables, choice_of, fresh_value, has_ended, is_any_mark, is_mark, value_step,
+    ItemList, KnownUses, LongValue, Setting, Source, has_ended, is_any_mark, is_mark,
 };
 use fws_rule::is;
 use std::alloc::Global;
@@ -44,16 +48,15 @@ fn behind(place: Place) -> Expects
 }
 
 /// Takes the types of ICMP messages.
-fn put_icmp_types(alloc: Global, items: &[Item], d: &mut Draft) -> Result<(), Memory>
-    ensures { OnOk result (draft_of d.new ≡ with_items Place.IcmpType items.now (draft_of d.old)) }
+fn put_icmp_types(items: ItemList, d: &mut Draft) -> Result<(), Memory>
+    ensures { OnOk result (draft_of d.new ≡ with_items Place.IcmpType items (draft_of d.old)) }
 {
-    let choice = choice_of(alloc, &Tables::new(alloc), Place::IcmpType, items)?;
-    d.options.put(choice)?;
+    d.options.put_types(items)?;
     Ok(())
 }
 
 /// Takes the values of a place.
-fn put_items(alloc: Global, place: Place, items: Items<Item>, d: &mut Draft) -> Result<(), Memory>
+fn put_items(place: Place, items: ItemList, d: &mut Draft) -> Result<(), Memory>
     ensures { OnOk result (draft_of d.new ≡ with_items place items (draft_of d.old)) }
 {
     match place {
@@ -63,7 +66,7 @@ fn put_items(alloc: Global, place: Place, items: Items<Item>, d: &mut Draft) -> 
         Place::SourcePort => d.source_ports = items,
         Place::Destination => d.destinations = items,
         Place::DestinationPort => d.destination_ports = items,
-        Place::IcmpType => put_icmp_types(alloc, items.as_slice(), d)?,
+        Place::IcmpType => put_icmp_types(items, d)?,
     }
     Ok(())
 }
@@ -72,9 +75,9 @@ fn put_items(alloc: Global, place: Place, items: Items<Item>, d: &mut Draft) -> 
 pub(crate) fn put_value(alloc: Global, place: Place, d: &mut Draft) -> Result<(), Memory>
     ensures { OnOk result (draft_of d.new ≡ valued place d.old.value (draft_of d.old)) }
 {
-    let value = mem::replace(&mut d.value, fresh_value(alloc, ValueKind::Interface));
+    let value = mem::replace(&mut d.value, LongValue::new(alloc, ValueKind::Interface));
     d.expects = behind(place);
-    put_items(alloc, place, value.items, d)?;
+    put_items(place, value.into_items(), d)?;
     Ok(())
 }
 
@@ -82,7 +85,7 @@ pub(crate) fn put_value(alloc: Global, place: Place, d: &mut Draft) -> Result<()
 fn take_value(alloc: Global, place: Place, d: &mut Draft) -> Result<(), Memory>
     ensures { OnOk result (draft_of d.new ≡ value_taken place d.old.value (draft_of d.old)) }
 {
-    if has_ended(d.value.expects) {
+    if has_ended(d.value.expects()) {
         put_value(alloc, place, d)?;
     }
     Ok(())
@@ -341,7 +344,7 @@ fn value_word_step(
     requires { IsSound setting.now.site }
     ensures { StepGiven result (draft_of d.new) (value_word_step setting.now place w.now (draft_of d.old)) }
 {
-    if value_step(alloc, setting, w, &mut d.value)? {
+    if d.value.step(alloc, setting, w)? {
         take_value(alloc, place, d)?;
         return Ok(());
     }
@@ -356,6 +359,32 @@ pub(crate) fn value_place(expects: Expects) -> Option<Place>
     match expects {
         Expects::Value(place) => Some(place),
         _ => None,
+    }
+}
+
+/// Takes words that belong to the value at which the rule is and don't end it, up to the first other word, and tells how many.
+pub(crate) fn draft_within(
+    alloc: Global,
+    setting: &Setting<'_>,
+    uses: &mut KnownUses,
+    source: Source,
+    name: &Text,
+    words: &[Word],
+    d: &mut Draft,
+) -> Result<usize, Memory>
+    requires { IsSound setting.now.site }
+    ensures few { IfOk result (λ n. n ≤ length words.now) }
+    ensures taken { (macros : List AnyMacro) → ArePiece macros source name.now words.now → AreUses setting.now macros d.old.value.items uses.old
+        → IfOk result (λ n. (tags : List (List ℕ)) → words_taken setting.now tags (take n words.now) (any.Rule (draft_of d.old)) ≡ Ok (any.Rule (draft_of d.new))) }
+    ensures known { (macros : List AnyMacro) → ArePiece macros source name.now words.now → AreUses setting.now macros d.old.value.items uses.old
+        → OnOk result (AreUses setting.now macros d.new.value.items uses.new) }
+{
+    match value_place(d.expects) {
+        Some(_) => {
+            let n = uses.take(alloc, setting, source, name, words, &mut d.value)?;
+            Ok(n)
+        }
+        None => Ok(0),
     }
 }
 

@@ -14,9 +14,9 @@ use crate::rule::{Rule, choices, rule_checks};
 use crate::statement::{Statement, statement_read};
 use fws_net::{ReadFault, Site};
 use fws_num::{Memory, Text, Word};
-use fws_pf::{TableDraft, ValueDraft};
 use fws_pf_words::{
-    Tables, conditions, is_definition, name_defined, value_behind, value_defined, with_skipped,
+    LongTable, LongValue, Tables, conditions, is_definition, name_defined, value_behind,
+    value_defined, with_skipped,
 };
 use std::alloc::Global;
 
@@ -49,7 +49,7 @@ fn rule_put(
 }
 
 /// Notes a table by its name.
-fn put_table(alloc: Global, d: TableDraft, reader: &mut Progress) -> Result<(), ReadFault>
+fn put_table(alloc: Global, d: LongTable, reader: &mut Progress) -> Result<(), ReadFault>
     ensures { StepGiven result reader.new (Ok (record reader.old { tables = reader.old.tables ++ d.name ∷ [] })) }
 {
     reader.put_table(alloc, d.name)?;
@@ -60,14 +60,15 @@ fn put_table(alloc: Global, d: TableDraft, reader: &mut Progress) -> Result<(), 
 fn put_skip(
     alloc: Global,
     site: &Site,
-    v: ValueDraft,
+    v: LongValue,
     reader: &mut Progress,
 ) -> Result<(), ReadFault>
     requires { IsSound site.now }
     ensures { StepGiven result reader.new (Ok (record reader.old { config = record reader.old.config { skip = with_skipped (suc (length site.now.faces)) reader.old.config.skip v.items } })) }
 {
     let last = site.faces.len() as u32 + 1;
-    let skip = with_skipped(alloc, last, reader.skip(), v.items.as_slice())?;
+    let items = v.into_items();
+    let skip = with_skipped(alloc, last, reader.skip(), &items)?;
     reader.put_skip(skip);
     Ok(())
 }

@@ -1,9 +1,12 @@
+pub mod Adding
 pub mod Counts
 pub mod Crossing
+pub mod Finding
 pub mod Found
-pub mod Gathering
+pub mod Fronting
 pub mod Joining
 pub mod Keeping
+pub mod Leading
 pub mod Letters
 pub mod Marks
 pub mod Naming
@@ -12,5 +15,8 @@ pub mod Placed
 pub mod Places
 pub mod Reaching
 pub mod Reading
+pub mod Repeating
 pub mod Splitting
+pub mod Staying
+pub mod Unions
 pub mod Uses

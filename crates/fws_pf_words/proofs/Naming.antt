@@ -1,10 +1,14 @@
 -- Which table words define, seen word by word.
-use Rattle.std.proofs.Common.{◌≡◌, ℕ, ◌+◌, ◌<◌, ◌≤◌, Bool, true, false, ◌&&◌, not, cond, Option, Some, None, List, [], ◌∷◌, length, get_or, drop, codes, refl, sym, ap, ◌∙◌, true≢false}
+use Rattle.std.proofs.Common.{◌≡◌, ℕ, ◌+◌, ◌<◌, ◌≤◌, Bool, true, false, ◌&&◌, not, cond, Option, Some, None, Result, Ok, Err, List, [], ◌∷◌, ◌++◌, length, IfOk, get_or, drop, codes, refl, sym, ap, ◌∙◌, true≢false}
 use Rattle.std.proofs.lemmas.List.{at_drop_all, at_drop_more}
 use Rattle.std.specs.Str.{bytes_eq}
+use Rattle.fws_num.specs.declared.memory.Memory.{Memory}
 use Rattle.fws_num.specs.declared.word.Word.{Word}
+use Rattle.fws_num.specs.Words.{is_sound}
+use Rattle.fws_net.specs.declared.cause.Cause.{Cause}
 use Rattle.fws_pf.specs.declared.macros.Macro.{Macro}
-use Rattle.fws_pf.specs.FileText.{readable, table_defined}
+use Rattle.fws_pf.specs.FileText.{readable, table_defined, with_front, with_meant}
+use Rattle.fws_pf.specs.Macros.{meant}
 use Rattle.fws_pf.specs.Statements.{is_mark}
 use Rattle.fws_pf.specs.Values.{is_any_mark}
 use Rattle.fws_pf_words.specs.declared.defining.Defining.{Defining}
@@ -132,3 +136,45 @@ refused_now macros words i w d new all r h lt item step refused is =
     ∙ ap name_of (sym (ap (λ x. words_seen d (readable macros (x ∷ rest))) (sym item) ∙ step rest ∙ not_all all (words_seen new (readable macros rest)) new refused)
     ∙ sym (at_drop_more (λ ws. words_seen d (readable macros ws)) words i w lt) ∙ h)
     ∙ name_seen (readable macros words)
+
+-- Pieces of the words of a macro
+
+front_behind : (xs ys rest : List Word) → with_front (xs ++ ys) rest ≡ with_front xs (with_front ys rest)
+front_behind [] ys rest = refl
+front_behind (x ∷ xs) ys rest = ap (λ (l : List Word). cond (is_sound x) (x ∷ l) []) (front_behind xs ys rest)
+
+pieces_seen : (d : Defining) (all xs ys ws : List Word) → all ≡ xs ++ ys → words_seen d (with_front all ws) ≡ words_seen d (with_front xs (with_front ys ws))
+pieces_seen d all xs ys ws e = ap (λ (l : List Word). words_seen d (with_front l ws)) e ∙ ap (words_seen d) (front_behind xs ys ws)
+
+-- the first piece was the last that was taken
+pub front_ends : (d new : Defining) (all xs ys : List Word) (taken : Bool) → all ≡ xs ++ ys
+    → ((rest : List Word) → words_seen d (with_front xs rest) ≡ cond taken (words_seen new rest) new) → taken ≡ false → (ws : List Word) → words_seen d (with_front all ws) ≡ new
+front_ends d new all xs ys taken e h f ws = pieces_seen d all xs ys ws e ∙ h (with_front ys ws) ∙ not_all taken (words_seen new (with_front ys ws)) new f
+
+is_all : (all : Bool) (x y : Defining) → all ≡ true → cond all x y ≡ x
+is_all true x y e = refl
+is_all false x y e = absurd (true≢false (sym e))
+
+-- both pieces were taken
+pub both_seen : (d mid new : Defining) (all xs ys : List Word) (taken : Bool) (r : Result Bool Memory) → all ≡ xs ++ ys
+    → ((rest : List Word) → words_seen d (with_front xs rest) ≡ cond taken (words_seen mid rest) mid) → taken ≡ true
+    → IfOk r (λ last. (rest : List Word) → words_seen mid (with_front ys rest) ≡ cond last (words_seen new rest) new)
+    → IfOk r (λ last. (ws : List Word) → words_seen d (with_front all ws) ≡ cond last (words_seen new ws) new)
+both_seen d mid new all xs ys taken (Ok last) e h t k =
+    λ ws. pieces_seen d all xs ys ws e ∙ h (with_front ys ws) ∙ is_all taken (words_seen mid (with_front ys ws)) mid t ∙ k ws
+both_seen d mid new all xs ys taken (Err memory) e h t k = tt
+
+-- a word that can be judged, and the words for which it stands
+pub word_read : (macros : List Macro) (w : Word) (d new : Defining) (r : Result Bool Memory) → is_sound w ≡ true
+    → IfOk r (λ all. (ws : List Word) → words_seen d (with_meant (meant macros w) ws) ≡ cond all (words_seen new ws) new)
+    → IfOk r (λ all. (ws : List Word) → words_seen d (readable macros (w ∷ ws)) ≡ cond all (words_seen new (readable macros ws)) new)
+word_read macros w d new (Ok all) e h =
+    λ ws. ap (λ (b : Bool). words_seen d (cond b (with_meant (meant macros w) (readable macros ws)) [])) e ∙ h (readable macros ws)
+word_read macros w d new (Err memory) e h = tt
+
+pub use_read : (macros : List Macro) (w : Word) (words : List Word) (d new : Defining) (r : Result Bool Memory) → is_sound w ≡ true → meant macros w ≡ Ok words
+    → IfOk r (λ all. (ws : List Word) → words_seen d (with_front words ws) ≡ cond all (words_seen new ws) new)
+    → IfOk r (λ all. (ws : List Word) → words_seen d (readable macros (w ∷ ws)) ≡ cond all (words_seen new (readable macros ws)) new)
+use_read macros w words d new (Ok all) e m h =
+    word_read macros w d new (Ok all) e (λ ws. ap (λ (x : Result (List Word) Cause). words_seen d (with_meant x ws)) m ∙ h ws)
+use_read macros w words d new (Err memory) e m h = tt

@@ -12,7 +12,7 @@ use Rattle.fws_net.specs.declared.cause.Cause.TheVariants.{NoName}
 use Rattle.fws_net.specs.Reading.{and_then}
 use Rattle.fws_pf.specs.declared.macros.Macro.{Macro}
 use Rattle.fws_pf.specs.Macros.{is_name_byte, joined_last, meant_from, value_of, with_behind, with_macro}
-use Rattle.fws_pf_words.specs.Uses.{alone_words, behind_name, further, further_use, joined_words, macro_of, name_ahead}
+use Rattle.fws_pf_words.specs.Uses.{all_but_last, alone_words, behind_name, further, further_use, joined_words, last_joined, macro_of, name_ahead, words_named, words_or_none}
 
 -- The map
 
@@ -162,3 +162,43 @@ pub joined_as : (words front joined new : List Word) (last word : Word) (text pu
     → put ≡ word.text ++ text → new ≡ joined ++ record word { text = put } ∷ [] → new ≡ joined_words words text
 joined_as words front joined new last word text put a f w p h =
     h ∙ (λ i. f i ++ record (w i) { text = (p ∙ ap (λ v. v.text ++ text) w) i } ∷ []) ∙ sym (joined_front front last text) ∙ ap (λ ws. joined_words ws text) (sym a)
+
+-- Words without the last one
+
+front_of : (front : List Word) (last : Word) → all_but_last (front ++ last ∷ []) ≡ front
+front_of [] last = refl
+front_of (f ∷ []) last = refl
+front_of (f ∷ g ∷ fs) last = ap (λ l. f ∷ l) (front_of (g ∷ fs) last)
+
+last_of : (front : List Word) (last : Word) (text : List ℕ) → last_joined (front ++ last ∷ []) text ≡ record last { text = last.text ++ text } ∷ []
+last_of [] last text = refl
+last_of (f ∷ []) last text = refl
+last_of (f ∷ g ∷ fs) last text = last_of (g ∷ fs) last text
+
+pub front_is : (words front : List Word) (last : Word) → words ≡ front ++ last ∷ [] → front ≡ all_but_last words
+front_is words front last e = sym (ap all_but_last e ∙ front_of front last)
+
+pub split_joined : (words front : List Word) (last : Word) → words ≡ front ++ last ∷ [] → (text : List ℕ) → joined_words words text ≡ front ++ last_joined words text
+split_joined words front last e text =
+    ap (λ l. joined_words l text) e ∙ joined_front front last text ∙ ap (λ l. front ++ l) (sym (ap (λ l. last_joined l text) e ∙ last_of front last text))
+
+pub last_as : (words front new : List Word) (last word : Word) (text put : List ℕ) → words ≡ front ++ last ∷ [] → word ≡ last → put ≡ word.text ++ text
+    → new ≡ record word { text = put } ∷ [] → new ≡ last_joined words text
+last_as words front new last word text put e w p n =
+    n ∙ (λ i. record (w i) { text = (p ∙ ap (λ v. v.text ++ text) w) i } ∷ []) ∙ sym (ap (λ l. last_joined l text) e ∙ last_of front last text)
+
+pub nothing_joined : (words : List Word) → joined_words words [] ≡ words
+nothing_joined [] = refl
+nothing_joined (w ∷ ws) = joined_nothing w ws
+
+with_named : (macros : List Macro) (line : ℕ) (behind : List ℕ) (r : Result (List Word) Cause) → 1 ≤ length (words_or_none r)
+    → use_of macros line r behind ≡ Ok (joined_words (words_or_none r) behind)
+with_named macros line behind (Ok []) h = absurd (omega arith)
+with_named macros line behind (Ok (w ∷ ws)) h = joined_use macros line w ws behind
+with_named macros line behind (Err cause) h = absurd (omega arith)
+
+pub named_use : (macros : List Macro) (text name : List ℕ) (shown : List Word) → name ≡ name_ahead text → shown ≡ words_named macros name → 1 ≤ length shown
+    → (line : ℕ) → meant_from macros line [] text ≡ Ok (joined_words (words_named macros (name_ahead text)) (behind_name text))
+named_use macros text name shown e s h line =
+    let some : 1 ≤ length (words_named macros (name_ahead text)) = let k = ap length (s ∙ ap (words_named macros) e) in omega arith in
+    name_split macros line [] text ∙ with_named macros line (behind_name text) (value_of macros (name_ahead text)) some

@@ -1,10 +1,16 @@
+pub mod Additions
 pub mod Ahead
 pub mod Defining
+pub mod Fronts
 pub mod Kept
 pub mod Limits
 pub mod Members
 pub mod Reached
+pub mod Spots
+pub mod Stretches
 pub mod TableSteps
 pub mod Taken
 pub mod Tests
 pub mod Uses
+pub mod UsesKnown
+pub mod WaysKnown

@@ -8,6 +8,11 @@ use Rattle.fws_pf.specs.declared.statement.TableExpects.TheVariants as tables
 use Rattle.fws_pf.specs.Drafts.{is}
 use Rattle.fws_pf.specs.StatementText.{list_begun, list_step, members_step, table_expecting, table_mark_step, table_name_step}
 use Rattle.fws_pf.specs.Values.{Setting}
+use Rattle.fws_pf_words.specs.declared.table_draft.LongTable.{LongTable}
+
+-- the draft of a table
+abbrev pub table_seen : LongTable → TableDraft
+table_seen t = record { name = t.name; expects = t.expects; members = t.members }
 
 abbrev pub const_step : Cause → Word → TableDraft → Result TableDraft Cause
 const_step cause w d = if is w (codes "const") then Ok (table_expecting tables.List d) else list_begun cause w d

@@ -1,5 +1,5 @@
 -- Macros by their names, and their uses.
-use Rattle.std.specs.Prelude.{ℕ, nat_eq, Option, Some, None, Result, Ok, Err, List, [], ◌∷◌, if◌then◌else◌}
+use Rattle.std.specs.Prelude.{ℕ, nat_eq, Option, Some, None, Result, Ok, Err, List, [], ◌∷◌, ◌++◌, if◌then◌else◌}
 use Rattle.fws_num.specs.declared.word.Word.{Word}
 use Rattle.fws_num.specs.Words.{plain_word}
 use Rattle.fws_net.specs.declared.cause.Cause.{Cause}
@@ -39,3 +39,22 @@ further_use macros text = further (value_of macros (name_ahead text)) (behind_na
 abbrev pub alone_words : ℕ → List ℕ → List Word
 alone_words line [] = []
 alone_words line (c ∷ cs) = plain_word line (c ∷ cs) ∷ []
+
+-- the words that stand for a name; none where no macro has it
+abbrev pub words_or_none : Result (List Word) Cause → List Word
+words_or_none (Ok ws) = ws
+words_or_none (Err cause) = []
+
+abbrev pub words_named : List Macro → List ℕ → List Word
+words_named macros name = words_or_none (value_of macros name)
+
+-- words without the last one, and the last one with a text joined to it
+abbrev pub all_but_last : List Word → List Word
+all_but_last [] = []
+all_but_last (w ∷ []) = []
+all_but_last (w ∷ v ∷ ws) = w ∷ all_but_last (v ∷ ws)
+
+abbrev pub last_joined : List Word → List ℕ → List Word
+last_joined [] text = []
+last_joined (w ∷ []) text = record w { text = w.text ++ text } ∷ []
+last_joined (w ∷ v ∷ ws) text = last_joined (v ∷ ws) text

@@ -5,6 +5,7 @@ ghost use Rattle.std.specs.List.{list_all};
 ghost use Rattle.fws_iv.specs.Prefixes.{agree};
 ghost use Rattle.fws_pf.specs.Drawn.{are_one_block, is_one_block, maps_blocks};
 
+use crate::lists::ItemList;
 use crate::setting::Tables;
 use crate::tables::part_set;
 use fws_iv::Iv;
@@ -58,15 +59,26 @@ fn is_one_block(alloc: Global, tables: &Tables, n: u8, item: &Item) -> Result<bo
     }
 }
 
-/// Whether there are values, none of them is negated, and the addresses of each agree in their first `n` bits. An error is
-/// want of memory.
-pub fn maps_blocks(alloc: Global, tables: &Tables, n: u8, items: &[Item]) -> Result<bool, Memory>
-    ensures { IfOk result (λ b. b ≡ maps_blocks tables.now n items.now) }
+/// Whether none of the values is negated, and the addresses of each agree in their first `n` bits.
+fn are_all_blocks(alloc: Global, tables: &Tables, n: u8, items: &[Item]) -> Result<bool, Memory>
+    ensures { IfOk result (λ b. b ≡ list_all (is_one_block tables.now n) items.now) }
 {
     for item in items {
         if !is_one_block(alloc, tables, n, item)? {
             return Ok(false);
         }
     }
-    Ok(1 <= items.len())
+    Ok(true)
+}
+
+/// Whether there are values, none of them is negated, and the addresses of each agree in their first `n` bits. An error is
+/// want of memory.
+pub fn maps_blocks(alloc: Global, tables: &Tables, n: u8, items: &ItemList) -> Result<bool, Memory>
+    ensures { IfOk result (λ b. b ≡ maps_blocks tables.now n items.now) }
+{
+    if items.len() == 0 {
+        return Ok(false);
+    }
+    let all = are_all_blocks(alloc, tables, n, items.kept())?;
+    Ok(all)
 }

@@ -2,11 +2,15 @@
 
 ghost use Rattle.std.specs.Prelude.{◌≡◌, ◌∷◌, List, IfOk, OnOk, if◌then◌else◌};
 ghost use Rattle.fws_num.specs.declared.word.Word.{Word as AnyWord};
-ghost use Rattle.fws_pf.specs.FileText.{readable, table_defined, with_front};
+ghost use Rattle.fws_pf.specs.FileText.{readable, table_defined, with_front, with_meant};
+ghost use Rattle.fws_pf.specs.Macros.{meant};
 ghost use Rattle.fws_pf.specs.Values.{is_any_mark};
 ghost use Rattle.fws_pf_words.specs.Defining.{defining_step, is_over, name_of, named, words_seen};
+ghost use Rattle.fws_pf_words.specs.Uses.{behind_name, joined_words, name_ahead, words_named};
 
-use crate::macros::{Macros, meant};
+use crate::macros::{
+    Macros, front_words, last_joined, meant, nothing_is_joined, split_name, used_text,
+};
 use crate::statements::is_mark;
 use crate::values::is_any_mark;
 use fws_net::ReadFault;
@@ -83,33 +87,6 @@ fn take_name(alloc: Global, w: &Word, d: &mut Defining) -> Result<(), Memory>
     Ok(())
 }
 
-/// Takes words up to the first that can't be judged, and tells whether there is none.
-fn take_front(alloc: Global, words: &[Word], d: &mut Defining) -> Result<bool, Memory>
-    ensures { IfOk result (λ all. (rest : List AnyWord) → words_seen d.old (with_front words.now rest) ≡ (if all then words_seen d.new rest else d.new)) }
-{
-    for w in words {
-        if !w.is_sound() {
-            return Ok(false);
-        }
-        defining_step(alloc, w, d)?;
-    }
-    Ok(true)
-}
-
-/// Takes the words for which a word stands, and tells whether all can be judged.
-fn take_meant(alloc: Global, macros: &Macros, w: &Word, d: &mut Defining) -> Result<bool, Memory>
-    ensures { IfOk result (λ all. (ws : List AnyWord) → words_seen d.old (readable macros.now (w.now ∷ ws)) ≡ (if all then words_seen d.new (readable macros.now ws) else d.new)) }
-{
-    if !w.is_sound() {
-        return Ok(false);
-    }
-    match meant(alloc, macros, w) {
-        Ok(words) => take_front(alloc, words.as_slice(), d),
-        Err(ReadFault::Bad(_)) => Ok(false),
-        Err(ReadFault::Memory) => Err(Memory),
-    }
-}
-
 /// Whether no further word changes it.
 fn is_over(stage: Stage) -> bool
     ensures { result ≡ is_over stage }
@@ -121,6 +98,72 @@ fn is_over(stage: Stage) -> bool
         Stage::Close => false,
         Stage::Whole => true,
         Stage::Other => true,
+    }
+}
+
+/// Takes words up to the first that can't be judged, or behind which no further one changes it, and tells whether there is none.
+fn take_front(alloc: Global, words: &[Word], d: &mut Defining) -> Result<bool, Memory>
+    ensures { IfOk result (λ all. (rest : List AnyWord) → words_seen d.old (with_front words.now rest) ≡ (if all then words_seen d.new rest else d.new)) }
+{
+    for w in words {
+        if is_over(d.stage) {
+            return Ok(false);
+        }
+        if !w.is_sound() {
+            return Ok(false);
+        }
+        defining_step(alloc, w, d)?;
+    }
+    Ok(true)
+}
+
+/// Takes words, the last of which has a text joined to it.
+fn take_joined(alloc: Global, words: &[Word], text: &[u8], d: &mut Defining) -> Result<bool, Memory>
+    ensures { IfOk result (λ all. (rest : List AnyWord) → words_seen d.old (with_front (joined_words words.now text.now) rest) ≡ (if all then words_seen d.new rest else d.new)) }
+{
+    if !take_front(alloc, front_words(words), d)? {
+        return Ok(false);
+    }
+    let last = last_joined(alloc, words, text)?;
+    take_front(alloc, last.as_slice(), d)
+}
+
+/// Takes the words for which a use of a macro stands: its words, the last of which has a text joined to it.
+fn take_use(alloc: Global, macros: &Macros, text: &[u8], d: &mut Defining) -> Result<bool, Memory>
+    ensures { IfOk result (λ all. (rest : List AnyWord) → words_seen d.old (with_front (joined_words (words_named macros.now (name_ahead text.now)) (behind_name text.now)) rest) ≡ (if all then words_seen d.new rest else d.new)) }
+{
+    nothing_is_joined();
+    let (name, behind) = split_name(text);
+    let named = Text::of(alloc, name)?;
+    let words = macros.words(&named);
+    match behind {
+        [] => take_front(alloc, words, d),
+        [_, ..] => take_joined(alloc, words, behind, d),
+    }
+}
+
+/// Takes the words for which a word stands that is no use of a macro with words.
+fn take_plain(alloc: Global, macros: &Macros, w: &Word, d: &mut Defining) -> Result<bool, Memory>
+    ensures { IfOk result (λ all. (rest : List AnyWord) → words_seen d.old (with_meant (meant macros.now w.now) rest) ≡ (if all then words_seen d.new rest else d.new)) }
+{
+    match meant(alloc, macros, w) {
+        Ok(words) => take_front(alloc, words.as_slice(), d),
+        Err(ReadFault::Bad(_)) => Ok(false),
+        Err(ReadFault::Memory) => Err(Memory),
+    }
+}
+
+/// Takes the words for which a word stands, and tells whether all can be judged and a further one may change it.
+fn take_meant(alloc: Global, macros: &Macros, w: &Word, d: &mut Defining) -> Result<bool, Memory>
+    ensures { IfOk result (λ all. (ws : List AnyWord) → words_seen d.old (readable macros.now (w.now ∷ ws)) ≡ (if all then words_seen d.new (readable macros.now ws) else d.new)) }
+{
+    if !w.is_sound() {
+        return Ok(false);
+    }
+    let used = used_text(alloc, macros, w)?;
+    match used {
+        Some(text) => take_use(alloc, macros, text, d),
+        None => take_plain(alloc, macros, w, d),
     }
 }
 

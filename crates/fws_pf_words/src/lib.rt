@@ -4,10 +4,14 @@
 mod addresses;
 mod blocks;
 mod choices;
+mod defined;
 mod defining;
 mod flags;
 mod items;
+mod known_uses;
 mod limits;
+mod lists;
+mod long_value;
 mod macros;
 mod members;
 mod ports;
@@ -19,21 +23,30 @@ mod table_draft;
 mod tables;
 mod tags;
 mod values;
+mod ways;
 
 pub use addresses::modified;
 pub use blocks::maps_blocks;
 pub use choices::{choice_of, conditions, implied_flags, only, put_choice, put_choices};
+pub use defined::{define, value_defined};
 pub use defining::table_defined;
 pub use flags::read_flags;
 pub use items::begins_with_digit;
+pub use known_uses::{KnownUses, Source};
 pub use limits::{expanded_by, expanded_with, place_size, rule_count, times};
-pub use macros::{Macros, define, is_definition, meant, name_defined, value_behind, value_defined};
-pub use members::{empty_table, with_members};
+pub use lists::ItemList;
+pub use long_value::{LongValue, Spot};
+pub use macros::{
+    Macros, front_words, is_definition, last_joined, meant, name_defined, nothing_is_joined,
+    split_name, used_text, value_behind,
+};
+pub use members::{KnownTable, empty_table, with_members};
 pub use protocols::{has_port_protocol, has_protocol};
 pub use setting::{Names, Setting, Tables};
 pub use skipped::with_skipped;
 pub use statements::{is_mark, read_statements};
-pub use table_draft::{fresh_table, table_step};
+pub use table_draft::{LongTable, fresh_table, table_step};
 pub use tables::part_set;
 pub use tags::Tags;
-pub use values::{ended_value, fresh_value, has_ended, is_any_mark, value_step};
+pub use values::{has_ended, is_any_mark};
+pub use ways::{Way, Ways};

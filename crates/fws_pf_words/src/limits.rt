@@ -4,8 +4,9 @@ ghost use Rattle.std.specs.Prelude.{◌≡◌, ◌*◌, ℕ, min, IfOk};
 ghost use Rattle.fws_pf.specs.Drawn.{condition_count, expanded_with};
 ghost use Rattle.fws_pf_words.specs.Limits.{place_size, within_limit};
 
+use crate::lists::ItemList;
 use fws_num::Memory;
-use fws_pf::{Choice, Item};
+use fws_pf::Choice;
 
 /// How many conditions are told apart: 200,000 and more can still be counted.
 const MOST_CONDITIONS: u64 = 400_000;
@@ -35,7 +36,7 @@ pub fn rule_count(choices: &[Choice]) -> u64
 }
 
 /// How many conditions the values of a place are.
-pub fn place_size(items: &[Item]) -> u64
+pub fn place_size(items: &ItemList) -> u64
     ensures { result ≡ place_size items.now }
 {
     (items.len() as u64).max(1)

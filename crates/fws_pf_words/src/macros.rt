@@ -1,26 +1,78 @@
-//! Macros: what stands for `$` and a name, and what a definition defines (pf.conf(5)).
+//! Macros: what stands for `$` and a name (pf.conf(5)).
 
-ghost use Rattle.std.specs.Prelude.{◌≡◌, ◌++◌, ◌∷◌, [], Ok, Err, Some, None, MatchOption, IfOk, OnOk};
+ghost use Rattle.std.specs.Prelude.{◌≡◌, ◌↔◌, IsTrue, ℕ, List, ◌++◌, ◌∷◌, [], Ok, Err, Some, None, MatchOption, IfOk, IfSome, OnOk};
 ghost use Rattle.std.specs.List.{list_all};
 ghost use Rattle.std.specs.Option.{ok_or, option_map};
-ghost use Rattle.fws_num.specs.Words.{plain_word};
-ghost use Rattle.fws_net.specs.Reading.{CauseGiven, StepGiven};
-ghost use Rattle.fws_pf.specs.FileText.{is_definition, name_defined, value_behind, with_value};
-ghost use Rattle.fws_pf.specs.Macros.{all_out_of_quotes, begins_use, is_name, is_name_byte, meant, meant_by, meant_from, out_of_quotes, value_defined, value_of, value_words, with_macro};
-ghost use Rattle.fws_pf_words.specs.Kept.{kept_read, kept_words, with_more, with_word};
-ghost use Rattle.fws_pf_words.specs.Uses.{alone_words, behind_name, further_use, joined_words, name_ahead};
+ghost use Rattle.fws_num.specs.declared.word.Word.{Word as AnyWord};
+ghost use Rattle.fws_num.specs.Words.{is_sound, plain_word};
+ghost use Rattle.fws_net.specs.Reading.{CauseGiven};
+ghost use Rattle.fws_pf.specs.FileText.{is_definition, name_defined, value_behind};
+ghost use Rattle.fws_pf.specs.Macros.{is_name, is_name_byte, meant, meant_by, meant_from, value_of, with_macro};
+ghost use Rattle.fws_pf_words.specs.Uses.{all_but_last, alone_words, behind_name, further_use, joined_words, last_joined, name_ahead, words_named};
 
-use crate::statements::{is_mark, words_of};
+use crate::statements::is_mark;
 use fws_net::{Cause, ReadFault};
-use fws_num::{Items, Memory, Text, Word};
+use fws_num::{Items, Memory, Text, Word, are_sound};
 use indexmap::IndexMap;
 use std::alloc::Global;
 use std::marker::Model;
 
+/// The words of a macro. Contracts see them.
+#[derive(Drop)]
+struct MacroWords {
+    words: Items<Word>,
+    /// Whether each of them can be judged.
+    sound: bool,
+}
+
+impl Model for MacroWords {
+    ghost use Rattle.std.specs.Prelude.{◌≡◌, List};
+    ghost use Rattle.std.specs.List.{list_all};
+    ghost use Rattle.fws_num.specs.declared.word.Word.{Word as AnyWord};
+    ghost use Rattle.fws_num.specs.Words.{is_sound};
+
+    ghost Value = { List AnyWord };
+
+    ghost view = { λ m. m.words };
+
+    ghost invariant = { λ m. m.sound ≡ list_all is_sound m.words };
+}
+
+impl MacroWords {
+    /// These words.
+    fn new(words: Items<Word>) -> MacroWords
+        ensures { result ≡ words }
+    {
+        let sound = are_sound(words.as_slice());
+        MacroWords { words, sound }
+    }
+
+    /// The words.
+    fn as_slice(&self) -> &[Word]
+        ensures { result.now ≡ self.now }
+    {
+        self.words.as_slice()
+    }
+
+    /// Whether there is no word.
+    fn is_empty(&self) -> bool
+        ensures { IsTrue result ↔ (self.now ≡ []) }
+    {
+        self.words.is_empty()
+    }
+
+    /// Whether each of them can be judged.
+    fn are_sound(&self) -> bool
+        ensures { result ≡ list_all is_sound self.now }
+    {
+        self.sound
+    }
+}
+
 /// Macros by their names. Contracts see the list.
 #[derive(Drop)]
 pub struct Macros {
-    words: IndexMap<Text, Items<Word>>,
+    words: IndexMap<Text, MacroWords>,
 }
 
 impl Model for Macros {
@@ -47,12 +99,32 @@ impl Macros {
     pub fn put(&mut self, name: Text, words: Items<Word>) -> Result<(), Memory>
         ensures { OnOk result (self.new ≡ with_macro name words self.old) }
     {
-        self.words.insert(name, words)?;
+        self.words.insert(name, MacroWords::new(words))?;
         Ok(())
     }
 
+    /// The words that stand for the name; none where no macro has it.
+    pub fn words(&self, name: &Text) -> &[Word]
+        ensures { result.now ≡ words_named self.now name.now }
+    {
+        match self.value(name) {
+            Some(words) => words.as_slice(),
+            None => &[],
+        }
+    }
+
+    /// Whether each of the words that stand for the name can be judged.
+    pub fn are_sound(&self, name: &Text) -> bool
+        ensures { result ≡ list_all is_sound (words_named self.now name.now) }
+    {
+        match self.value(name) {
+            Some(words) => words.are_sound(),
+            None => true,
+        }
+    }
+
     /// The words that stand for the name.
-    fn value(&self, name: &Text) -> Option<&Items<Word>>
+    fn value(&self, name: &Text) -> Option<&MacroWords>
         ensures { MatchOption result (value_of self.now name.now ≡ Err Cause.NoName) (λ words. value_of self.now name.now ≡ Ok words.now) }
     {
         match self.words.get(name) {
@@ -116,7 +188,7 @@ pub fn value_behind(words: &[Word]) -> &[Word]
 }
 
 /// An equal word.
-fn copied_word(alloc: Global, w: &Word) -> Result<Word, Memory>
+pub(crate) fn copied_word(alloc: Global, w: &Word) -> Result<Word, Memory>
     ensures { IfOk result (λ v. v ≡ w.now) }
 {
     Ok(Word {
@@ -139,7 +211,7 @@ fn copied_words(alloc: Global, words: &[Word]) -> Result<Items<Word>, Memory>
 }
 
 /// This word alone.
-fn single(alloc: Global, w: Word) -> Result<Items<Word>, Memory>
+pub(crate) fn single(alloc: Global, w: Word) -> Result<Items<Word>, Memory>
     ensures { IfOk result (λ ws. ws ≡ w ∷ []) }
 {
     let mut words = Items::new(alloc);
@@ -162,7 +234,7 @@ fn joined_words(alloc: Global, words: &[Word], text: &[u8]) -> Result<Items<Word
 }
 
 /// The bytes of a name, and what stands behind them.
-fn split_name(text: &[u8]) -> (&[u8], &[u8])
+pub fn split_name(text: &[u8]) -> (&[u8], &[u8])
     ensures name { result.0.now ≡ name_ahead text.now }
     ensures behind { result.1.now ≡ behind_name text.now }
 {
@@ -235,16 +307,93 @@ fn last_use(
     Ok(joined)
 }
 
-/// The words for which `$` and the text behind it stand.
-fn used(alloc: Global, macros: &Macros, line: u32, text: &[u8]) -> Result<Items<Word>, ReadFault>
-    ensures { CauseGiven result (meant_from macros.now line [] text.now) }
+/// The text behind the last `$` of a use, ahead of which macros without words stand.
+fn last_text<'a>(alloc: Global, macros: &Macros, text: &'a [u8]) -> Result<&'a [u8], Memory>
+    ensures same { IfOk result (λ rest. (line : ℕ) → meant_from macros.now line [] rest.now ≡ meant_from macros.now line [] text.now) }
+    ensures last { IfOk result (λ rest. further_use macros.now rest.now ≡ None) }
 {
     let mut rest = text;
     while let Some(behind) = further_use(alloc, macros, rest)? {
         rest = behind;
     }
+    Ok(rest)
+}
+
+/// The words for which `$` and the text behind it stand.
+fn used(alloc: Global, macros: &Macros, line: u32, text: &[u8]) -> Result<Items<Word>, ReadFault>
+    ensures { CauseGiven result (meant_from macros.now line [] text.now) }
+{
+    let rest = last_text(alloc, macros, text)?;
     last_use(alloc, macros, line, rest)
 }
+
+/// The text, if a macro with words has the name with which it begins.
+fn with_words<'a>(
+    alloc: Global,
+    macros: &Macros,
+    text: &'a [u8],
+) -> Result<Option<&'a [u8]>, Memory>
+    ensures { IfOk result (λ o. IfSome o (λ t. (line : ℕ) → meant_from macros.now line [] text.now ≡ Ok (joined_words (words_named macros.now (name_ahead t.now)) (behind_name t.now)))) }
+{
+    let (name, _) = split_name(text);
+    let name = Text::of(alloc, name)?;
+    match macros.words(&name) {
+        [] => Ok(None),
+        [_, ..] => Ok(Some(text)),
+    }
+}
+
+/// The text of a use of a macro that has words: the name of the macro, and what stands behind it. None where the word is no such use.
+/// An error is want of memory.
+pub fn used_text<'a>(
+    alloc: Global,
+    macros: &Macros,
+    w: &'a Word,
+) -> Result<Option<&'a [u8]>, Memory>
+    ensures { IfOk result (λ o. IfSome o (λ t. meant macros.now w.now ≡ Ok (joined_words (words_named macros.now (name_ahead t.now)) (behind_name t.now)))) }
+{
+    if w.quoted {
+        return Ok(None);
+    }
+    match w.text.as_slice() {
+        [b'$', text @ ..] => {
+            let rest = last_text(alloc, macros, text)?;
+            with_words(alloc, macros, rest)
+        }
+        _ => Ok(None),
+    }
+}
+
+/// All of the words but the last one.
+pub fn front_words(words: &[Word]) -> &[Word]
+    ensures front { result.now ≡ all_but_last words.now }
+    ensures joined { (text : List ℕ) → joined_words words.now text ≡ result.now ++ last_joined words.now text }
+{
+    match words.split_last() {
+        Some((_, front)) => front,
+        None => words,
+    }
+}
+
+/// The last of the words with a text joined to it. An error is want of memory.
+pub fn last_joined(alloc: Global, words: &[Word], text: &[u8]) -> Result<Items<Word>, Memory>
+    ensures { IfOk result (λ ws. ws ≡ last_joined words.now text.now) }
+{
+    match words.split_last() {
+        Some((last, _)) => {
+            let mut word = copied_word(alloc, last)?;
+            word.text.put(text)?;
+            let words = single(alloc, word)?;
+            Ok(words)
+        }
+        None => Ok(Items::new(alloc)),
+    }
+}
+
+/// Words to which nothing is joined are as before.
+pub fn nothing_is_joined()
+    ensures { (words : List AnyWord) → joined_words words [] ≡ words }
+{}
 
 /// The words for which a word stands: those of its macro, where it begins with `$` outside quotes, and else itself.
 pub fn meant(alloc: Global, macros: &Macros, w: &Word) -> Result<Items<Word>, ReadFault>
@@ -256,211 +405,5 @@ pub fn meant(alloc: Global, macros: &Macros, w: &Word) -> Result<Items<Word>, Re
     match w.text.as_slice() {
         [b'$', text @ ..] => used(alloc, macros, w.line, text),
         _ => Ok(single(alloc, copied_word(alloc, w)?)?),
-    }
-}
-
-/// Whether the text begins like a use of a macro.
-fn begins_use(text: &[u8]) -> bool
-    ensures { result ≡ begins_use text.now }
-{
-    match text {
-        [] => false,
-        [first, ..] => *first == b'$',
-    }
-}
-
-/// The word out of quotes, which is no use of a macro: where it looks like one it can't be judged. Its bytes stood in
-/// quotes: one with a byte that isn't printed counts as a quoted word.
-fn out_of_quotes(alloc: Global, w: &Word) -> Result<Word, Memory>
-    ensures { IfOk result (λ v. v ≡ out_of_quotes w.now) }
-{
-    let mut word = copied_word(alloc, w)?;
-    if w.quoted {
-        return Ok(word);
-    }
-    if begins_use(w.text.as_slice()) {
-        word.quoted = true;
-        word.whole = false;
-    } else if !w.is_sound() {
-        word.quoted = true;
-        word.whole = true;
-    }
-    Ok(word)
-}
-
-/// The words out of quotes, in which each quote has to be closed.
-fn all_out_of_quotes(alloc: Global, words: &[Word]) -> Result<Items<Word>, ReadFault>
-    ensures { CauseGiven result (all_out_of_quotes words.now) }
-{
-    let mut all = Items::new(alloc);
-    for w in words {
-        if w.quoted && !w.whole {
-            return Err(ReadFault::Bad(Cause::Syntax));
-        }
-        all.put(out_of_quotes(alloc, w)?)?;
-    }
-    Ok(all)
-}
-
-/// What a word adds to a value: the words within its quotes, or itself.
-fn value_words(alloc: Global, w: &Word) -> Result<Items<Word>, ReadFault>
-    ensures { CauseGiven result (value_words w.now) }
-{
-    if w.quoted {
-        let words = words_of(alloc, w.line, w.text.as_slice())?;
-        return all_out_of_quotes(alloc, words.as_slice());
-    }
-    Ok(single(alloc, copied_word(alloc, w)?)?)
-}
-
-/// The most bytes that a value may have, with a blank ahead of each word.
-const MOST_BYTES: u64 = 65537;
-
-/// The words of a value, which are kept while they aren't too large. Contracts see them, or none.
-#[derive(Drop)]
-struct Kept {
-    alloc: Global,
-    words: Items<Word>,
-    /// The bytes of the words with a blank ahead of each, or a greater number than the most where they were too large.
-    size: u64,
-}
-
-impl Model for Kept {
-    ghost use Rattle.std.specs.Prelude.{◌≡◌, List, Option, Some, None, false, nat_lt, if◌then◌else◌};
-    ghost use Rattle.fws_num.specs.declared.word.Word.{Word};
-    ghost use Rattle.fws_pf.specs.Macros.{size_with_blanks};
-
-    ghost Value = { Option (List Word) };
-
-    ghost view = { λ k. if nat_lt 65537 k.size then None else Some k.words };
-
-    ghost invariant = { λ k. nat_lt 65537 k.size ≡ false → k.size ≡ size_with_blanks k.words };
-}
-
-impl Kept {
-    /// No words.
-    fn new(alloc: Global) -> Kept
-        ensures { result ≡ Some [] }
-    {
-        Kept {
-            alloc,
-            words: Items::new(alloc),
-            size: 0,
-        }
-    }
-
-    /// Puts a word behind the others.
-    fn put(&mut self, word: Word) -> Result<(), Memory>
-        ensures { OnOk result (self.new ≡ with_word self.old word) }
-    {
-        if self.size > MOST_BYTES {
-            return Ok(());
-        }
-        let size = self.size + 1 + word.text.as_slice().len() as u64;
-        if size > MOST_BYTES {
-            self.size = size;
-            self.words = Items::new(self.alloc);
-            return Ok(());
-        }
-        self.words.put(word)?;
-        self.size = size;
-        Ok(())
-    }
-
-    /// Puts words behind the others.
-    fn put_all(&mut self, words: &[Word]) -> Result<(), Memory>
-        ensures { OnOk result (self.new ≡ with_more self.old words.now) }
-    {
-        for w in words {
-            self.put(copied_word(self.alloc, w)?)?;
-        }
-        Ok(())
-    }
-
-    /// The words, unless they are too large.
-    fn into_words(self) -> Option<Items<Word>>
-        ensures { result ≡ self }
-    {
-        if self.size > MOST_BYTES {
-            None
-        } else {
-            Some(self.words)
-        }
-    }
-}
-
-/// Takes further words of a value, as definitions have them.
-fn keep_words(alloc: Global, kept: &mut Kept, words: &[Word]) -> Result<(), ReadFault>
-    ensures { StepGiven result kept.new (kept_words kept.old words.now) }
-{
-    for w in words {
-        if !w.is_sound() {
-            return Err(ReadFault::Bad(Cause::Syntax));
-        }
-        let more = value_words(alloc, w)?;
-        kept.put_all(more.as_slice())?;
-    }
-    Ok(())
-}
-
-/// Takes the words of a value, macros replaced.
-fn keep_value(
-    alloc: Global,
-    macros: &Macros,
-    kept: &mut Kept,
-    words: &[Word],
-) -> Result<(), ReadFault>
-    ensures { StepGiven result kept.new (kept_read macros.now kept.old words.now) }
-{
-    for w in words {
-        if !w.is_sound() {
-            return Err(ReadFault::Bad(Cause::Syntax));
-        }
-        let meant = meant(alloc, macros, w)?;
-        keep_words(alloc, kept, meant.as_slice())?;
-    }
-    Ok(())
-}
-
-/// The words that were kept, unless they are too large.
-fn whole_value(kept: Kept) -> Result<Items<Word>, ReadFault>
-    ensures { CauseGiven result (ok_or kept Cause.Expand) }
-{
-    match kept.into_words() {
-        Some(value) => Ok(value),
-        None => Err(ReadFault::Bad(Cause::Expand)),
-    }
-}
-
-/// The words of the value that these words define, of which there is at least one. Words of a value that has become too
-/// large are judged and not kept.
-pub fn value_defined(
-    alloc: Global,
-    macros: &Macros,
-    words: &[Word],
-) -> Result<Items<Word>, ReadFault>
-    ensures { CauseGiven result (value_defined macros.now words.now) }
-{
-    if words.is_empty() {
-        return Err(ReadFault::Bad(Cause::Syntax));
-    }
-    let mut kept = Kept::new(alloc);
-    match keep_value(alloc, macros, &mut kept, words) {
-        Ok(()) => whole_value(kept),
-        Err(fault) => Err(fault),
-    }
-}
-
-/// Notes the macro that these words define; a refused definition changes none. An error is want of memory.
-pub fn define(alloc: Global, macros: &mut Macros, words: &[Word]) -> Result<(), Memory>
-    ensures { OnOk result (macros.new ≡ with_value (name_defined words.now) (value_defined macros.old (value_behind words.now)) macros.old) }
-{
-    match value_defined(alloc, macros, value_behind(words)) {
-        Ok(value) => {
-            macros.put(Text::of(alloc, name_defined(words))?, value)?;
-            Ok(())
-        }
-        Err(ReadFault::Bad(_)) => Ok(()),
-        Err(ReadFault::Memory) => Err(Memory),
     }
 }

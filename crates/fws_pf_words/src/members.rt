@@ -1,36 +1,74 @@
 //! What stands in tables.
 
-ghost use Rattle.std.specs.Prelude.{◌≡◌, ℕ, List, IfOk, OnOk};
-ghost use Rattle.fws_iv.specs.Ivs.{AreRanges};
-ghost use Rattle.fws_pf.specs.Tables.{empty_table, with_member, with_members};
-ghost use Rattle.fws_pf_words.specs.Members.{gathered};
+ghost use Rattle.std.specs.Prelude.{◌≡◌, [], ◌++◌, List, ℕ, nat_le, true, IfOk, OnOk};
+ghost use Rattle.std.specs.List.{list_all};
+ghost use Rattle.fws_iv.specs.Ivs.{with_ranges};
+ghost use Rattle.fws_pf.specs.declared.tables.Table.{Table};
+ghost use Rattle.fws_pf.specs.Tables.{empty_table, with_members};
+ghost use Rattle.fws_pf_words.specs.Members.{all_ranges, is_ranged, item_ranges, names_of, own_ranges};
+ghost use Rattle.fws_pf_words.specs.Reached.{with_places};
 
-use fws_iv::{Iv, Ivs};
-use fws_num::{Items, Memory, Text};
-use fws_pf::{Item, Part, Table};
+use crate::lists::ItemList;
+use fws_iv::{Iv, Ivs, ranges_add_members, ranges_are_regular, same_members_same_list};
+use fws_num::{Memory, Text};
+use fws_pf::{Item, Part};
 use std::alloc::Global;
+use std::marker::Model;
 
-/// The table of this name in which nothing stands.
-pub fn empty_table(alloc: Global, name: Text) -> Table
-    ensures { result ≡ empty_table name }
-{
-    Table {
-        name,
-        own: Ivs::none(alloc),
-        named: Items::new(alloc),
+/// A table that is as long as its list is kept. Contracts see the table.
+#[derive(Drop)]
+pub struct KnownTable {
+    name: Text,
+    own: Ivs,
+    members: ItemList,
+}
+
+impl Model for KnownTable {
+    ghost use Rattle.fws_pf.specs.declared.tables.Table.{Table as Seen};
+    ghost use Rattle.fws_pf_words.specs.Members.{names_of};
+
+    ghost Value = { Seen };
+
+    ghost view = { λ t. record { name = t.name; own = t.own; named = names_of t.members } };
+}
+
+impl KnownTable {
+    /// Its name.
+    pub fn name(&self) -> &Text
+        ensures { result.now ≡ self.now.name }
+    {
+        &self.name
+    }
+
+    /// The addresses that stand in it.
+    pub(crate) fn own(&self) -> &Ivs
+        ensures { result.now ≡ self.now.own }
+    {
+        &self.own
+    }
+
+    /// Members among which is each table that it names.
+    pub(crate) fn named(&self) -> &[Item]
+        ensures { (tables : List Table) (places : List ℕ) → with_places tables places (names_of result.now) ≡ with_places tables places self.now.named }
+    {
+        self.members.naming()
     }
 }
 
-/// Gathers a member of a table: its ranges, or the name of a table.
-fn gather(
-    alloc: Global,
-    part: &Part,
-    ranges: &mut Vec<Iv>,
-    named: &mut Items<Text>,
-) -> Result<(), Memory>
-    requires ranges { AreRanges ranges.old.items }
-    ensures ranges { OnOk result (AreRanges ranges.new.items) }
-    ensures table { OnOk result ((name : List ℕ) → gathered name ranges.new.items named.new ≡ with_member part.now (gathered name ranges.old.items named.old)) }
+/// The table of this name in which nothing stands.
+pub fn empty_table(alloc: Global, name: Text) -> KnownTable
+    ensures { result ≡ empty_table name }
+{
+    KnownTable {
+        name,
+        own: Ivs::none(alloc),
+        members: ItemList::new(alloc),
+    }
+}
+
+/// Gathers the ranges of a member.
+fn gather(part: &Part, ranges: &mut Vec<Iv>) -> Result<(), Memory>
+    ensures { OnOk result (ranges.new.items ≡ ranges.old.items ++ own_ranges part.now) }
 {
     match part {
         Part::Every => {
@@ -44,25 +82,58 @@ fn gather(
             ranges.extend_from_slice(set.parts())?;
             Ok(())
         }
-        Part::Table(name) => {
-            named.put(name.copy(alloc)?)?;
-            Ok(())
-        }
+        Part::Table(_) => Ok(()),
     }
 }
 
-/// The table of this name with these members. Of n ranges the time is that of n log n steps. An error is want of memory.
-pub fn with_members(alloc: Global, name: Text, items: &[Item]) -> Result<Table, Memory>
-    ensures { IfOk result (λ t. t ≡ with_members items.now (empty_table name)) }
+/// None of the ranges of a value is empty.
+fn is_ranged(part: &Part)
+    ensures { list_all (λ x. nat_le x.lo x.hi) (own_ranges part.now) ≡ true }
+{
+    match part {
+        Part::Every => {}
+        Part::Set(set) => {
+            set.parts();
+        }
+        Part::Table(_) => {}
+    }
+}
+
+/// The ranges of members, of which none is empty.
+fn gathered(alloc: Global, items: &[Item]) -> Result<Vec<Iv>, Memory>
+    ensures ranges { IfOk result (λ rs. rs.items ≡ all_ranges item_ranges items.now) }
+    ensures ranged { OnOk result (list_all is_ranged items.now ≡ true) }
 {
     let mut ranges = Vec::new(alloc);
-    let mut named = Items::new(alloc);
     for item in items {
-        gather(alloc, &item.part, &mut ranges, &mut named)?;
+        is_ranged(&item.part);
+        gather(&item.part, &mut ranges)?;
     }
-    Ok(Table {
+    Ok(ranges)
+}
+
+/// The addresses of members.
+fn own_of(alloc: Global, items: &[Item]) -> Result<Ivs, Memory>
+    ensures own { IfOk result (λ s. s ≡ with_ranges [] (all_ranges item_ranges items.now)) }
+    ensures ranged { OnOk result (list_all is_ranged items.now ≡ true) }
+{
+    let ranges = gathered(alloc, items)?;
+    let own = Ivs::of_ranges(alloc, ranges.as_slice())?;
+    Ok(own)
+}
+
+/// The table of this name with these members, one after another. Of n ranges the time is that of n log n steps; a stretch of the
+/// list that comes again takes none. An error is want of memory.
+pub fn with_members(alloc: Global, name: Text, items: ItemList) -> Result<KnownTable, Memory>
+    ensures { IfOk result (λ t. t ≡ with_members items (empty_table name)) }
+{
+    ranges_are_regular();
+    ranges_add_members();
+    same_members_same_list();
+    let own = own_of(alloc, items.kept())?;
+    Ok(KnownTable {
         name,
-        own: Ivs::of_ranges(alloc, ranges.as_slice())?,
-        named,
+        own,
+        members: items,
     })
 }

@@ -4,6 +4,7 @@ ghost use Rattle.std.specs.Prelude.{◌≡◌, nat_eq};
 ghost use Rattle.std.specs.List.{list_all};
 ghost use Rattle.fws_pf.specs.Drawn.{has_protocols, is_port_protocol, protocol_passes};
 
+use crate::lists::ItemList;
 use fws_pf::{Item, Part};
 
 /// Whether it is this protocol alone.
@@ -27,10 +28,10 @@ fn are_protocol(number: u32, items: &[Item]) -> bool
 }
 
 /// Whether the protocols that are named are this one, and there is one.
-pub fn has_protocol(number: u32, items: &[Item]) -> bool
+pub fn has_protocol(number: u32, items: &ItemList) -> bool
     ensures { result ≡ has_protocols (nat_eq number) items.now }
 {
-    1 <= items.len() && are_protocol(number, items)
+    1 <= items.len() && are_protocol(number, items.kept())
 }
 
 /// Whether it is a protocol that has ports.
@@ -54,8 +55,8 @@ fn are_port_protocols(items: &[Item]) -> bool
 }
 
 /// Whether the protocols that are named have ports, and there is one.
-pub fn has_port_protocol(items: &[Item]) -> bool
+pub fn has_port_protocol(items: &ItemList) -> bool
     ensures { result ≡ has_protocols is_port_protocol items.now }
 {
-    1 <= items.len() && are_port_protocols(items)
+    1 <= items.len() && are_port_protocols(items.kept())
 }

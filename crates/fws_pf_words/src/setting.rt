@@ -7,9 +7,9 @@ ghost use Rattle.std.specs.Str.{bytes_eq};
 ghost use Rattle.fws_pf.specs.Tables.{has_table};
 ghost use Rattle.fws_pf.specs.Values.{is_table, is_taken};
 
+use crate::members::KnownTable;
 use fws_net::Site;
 use fws_num::{Items, Memory, Text};
-use fws_pf::Table;
 use indexmap::{IndexMap, IndexSet};
 use std::alloc::Global;
 use std::marker::Model;
@@ -17,7 +17,7 @@ use std::marker::Model;
 /// Tables in the order in which a text defines them; the first of a name counts. Contracts see the list.
 #[derive(Drop)]
 pub struct Tables {
-    tables: Items<Table>,
+    tables: Items<KnownTable>,
     /// The place of the first table of each name.
     places: IndexMap<Text, usize>,
 }
@@ -47,7 +47,7 @@ impl Tables {
     }
 
     /// The tables.
-    pub fn as_slice(&self) -> &[Table]
+    pub fn as_slice(&self) -> &[KnownTable]
         ensures { result.now ≡ self.now }
     {
         self.tables.as_slice()
@@ -68,15 +68,15 @@ impl Tables {
     }
 
     /// Puts a table behind the others. An error is want of memory, after which the tables are as before.
-    pub fn put(&mut self, alloc: Global, table: Table) -> Result<(), Memory>
+    pub fn put(&mut self, alloc: Global, table: KnownTable) -> Result<(), Memory>
         ensures { OnOk result (self.new ≡ self.old ++ table ∷ []) }
     {
-        if self.has(&table.name) {
+        if self.has(table.name()) {
             self.tables.put(table)?;
             return Ok(());
         }
         let place = self.tables.len();
-        let name = table.name.copy(alloc)?;
+        let name = table.name().copy(alloc)?;
         self.places.reserve(1)?;
         self.tables.put(table)?;
         self.places.insert(name, place)?;

@@ -6,7 +6,8 @@ ghost use Rattle.fws_pf.specs.FileText.{skipped_ranges, with_skipped};
 ghost use Rattle.fws_pf.specs.Values.{from_below};
 ghost use Rattle.fws_pf_words.specs.Defining.{entry_ranges};
 
-use fws_iv::Ivs;
+use crate::lists::ItemList;
+use fws_iv::{Ivs, ranges_add_members, ranges_are_regular, same_members_same_list};
 use fws_num::Memory;
 use fws_pf::{Item, Part};
 use std::alloc::Global;
@@ -60,14 +61,26 @@ fn with_item(alloc: Global, last: u32, set: &Ivs, item: &Item) -> Result<Ivs, Me
     }
 }
 
-/// The interfaces that are skipped, with those of a further statement, at a site whose last entry has this number. An error is want
-/// of memory.
-pub fn with_skipped(alloc: Global, last: u32, skip: &Ivs, items: &[Item]) -> Result<Ivs, Memory>
+/// The interfaces that are skipped, with those that each of these values names.
+fn with_each(alloc: Global, last: u32, skip: &Ivs, items: &[Item]) -> Result<Ivs, Memory>
     ensures { IfOk result (λ s. s ≡ with_skipped last skip.now items.now) }
 {
     let mut set = skip.copy(alloc)?;
     for item in items {
         set = with_item(alloc, last, &set, item)?;
     }
+    Ok(set)
+}
+
+/// The interfaces that are skipped, with those of a further statement, at a site whose last entry has this number. A stretch of
+/// the list that comes again adds nothing. An error is want of memory.
+pub fn with_skipped(alloc: Global, last: u32, skip: &Ivs, items: &ItemList) -> Result<Ivs, Memory>
+    ensures { IfOk result (λ s. s ≡ with_skipped last skip.now items.now) }
+{
+    ranges_are_regular();
+    ranges_add_members();
+    same_members_same_list();
+    skip.parts();
+    let set = with_each(alloc, last, skip, items.kept())?;
     Ok(set)
 }

@@ -4,25 +4,37 @@ ghost use Rattle.std.specs.Prelude.{◌≡◌};
 ghost use Rattle.fws_net.specs.Reading.{StepGiven};
 ghost use Rattle.fws_net.specs.Routes.{IsSound};
 ghost use Rattle.fws_pf.specs.StatementText.{fresh_table, list_begun, list_step, members_step, table_mark_step, table_name_step};
-ghost use Rattle.fws_pf_words.specs.TableSteps.{const_step, persist_step, table_step};
+ghost use Rattle.fws_pf_words.specs.TableSteps.{const_step, persist_step, table_seen, table_step};
 
+use crate::long_value::LongValue;
 use crate::setting::Setting;
 use crate::statements::is_mark;
-use crate::values::{fresh_value, is_any_mark, value_step};
+use crate::values::is_any_mark;
 use fws_net::{Cause, ReadFault};
 use fws_num::{Text, Word};
-use fws_pf::{TableDraft, TableExpects, ValueExpects, ValueKind};
+use fws_pf::{TableExpects, ValueKind};
 use fws_rule::is;
 use std::alloc::Global;
 
+/// What was read so far of a table: a `TableDraft`, whose list may be long.
+#[derive(Drop)]
+pub struct LongTable {
+    /// Its name, once it was read.
+    pub name: Text,
+    /// What its next word is taken for.
+    pub expects: TableExpects,
+    /// What was read so far of its list.
+    pub members: LongValue,
+}
+
 /// A table before its words.
-pub fn fresh_table(alloc: Global) -> TableDraft
-    ensures { result ≡ fresh_table }
+pub fn fresh_table(alloc: Global) -> LongTable
+    ensures { table_seen result ≡ fresh_table }
 {
-    TableDraft {
+    LongTable {
         name: Text::new(alloc),
         expects: TableExpects::Open,
-        members: fresh_value(alloc, ValueKind::Member),
+        members: LongValue::new(alloc, ValueKind::Member),
     }
 }
 
@@ -31,9 +43,9 @@ fn table_mark_step(
     mark: &[u8],
     next: TableExpects,
     w: &Word,
-    d: &mut TableDraft,
+    d: &mut LongTable,
 ) -> Result<(), ReadFault>
-    ensures { StepGiven result d.new (table_mark_step mark.now next w.now d.old) }
+    ensures { StepGiven result (table_seen d.new) (table_mark_step mark.now next w.now (table_seen d.old)) }
 {
     if !is_mark(w, mark) {
         return Err(ReadFault::Bad(Cause::Syntax));
@@ -47,9 +59,9 @@ fn table_name_step(
     alloc: Global,
     setting: &Setting,
     w: &Word,
-    d: &mut TableDraft,
+    d: &mut LongTable,
 ) -> Result<(), ReadFault>
-    ensures { StepGiven result d.new (table_name_step setting.now w.now d.old) }
+    ensures { StepGiven result (table_seen d.new) (table_name_step setting.now w.now (table_seen d.old)) }
 {
     if is_any_mark(w) {
         return Err(ReadFault::Bad(Cause::Syntax));
@@ -63,21 +75,20 @@ fn table_name_step(
 }
 
 /// Takes the brace before a list; any other word is refused for this cause.
-fn list_begun(cause: Cause, w: &Word, d: &mut TableDraft) -> Result<(), ReadFault>
-    ensures { StepGiven result d.new (list_begun cause w.now d.old) }
+fn list_begun(cause: Cause, w: &Word, d: &mut LongTable) -> Result<(), ReadFault>
+    ensures { StepGiven result (table_seen d.new) (list_begun cause w.now (table_seen d.old)) }
 {
     if !is_mark(w, b"{") {
         return Err(ReadFault::Bad(cause));
     }
     d.expects = TableExpects::Members;
-    d.members.in_list = true;
-    d.members.expects = ValueExpects::First;
+    d.members.begin();
     Ok(())
 }
 
 /// Takes `const`, or what follows.
-fn const_step(misplaced: Cause, w: &Word, d: &mut TableDraft) -> Result<(), ReadFault>
-    ensures { StepGiven result d.new (const_step misplaced w.now d.old) }
+fn const_step(misplaced: Cause, w: &Word, d: &mut LongTable) -> Result<(), ReadFault>
+    ensures { StepGiven result (table_seen d.new) (const_step misplaced w.now (table_seen d.old)) }
 {
     if is(w.text.as_slice(), b"const") {
         d.expects = TableExpects::List;
@@ -87,8 +98,8 @@ fn const_step(misplaced: Cause, w: &Word, d: &mut TableDraft) -> Result<(), Read
 }
 
 /// Takes `persist`, or what follows.
-fn persist_step(misplaced: Cause, w: &Word, d: &mut TableDraft) -> Result<(), ReadFault>
-    ensures { StepGiven result d.new (persist_step misplaced w.now d.old) }
+fn persist_step(misplaced: Cause, w: &Word, d: &mut LongTable) -> Result<(), ReadFault>
+    ensures { StepGiven result (table_seen d.new) (persist_step misplaced w.now (table_seen d.old)) }
 {
     if is(w.text.as_slice(), b"persist") {
         d.expects = TableExpects::Const;
@@ -98,8 +109,8 @@ fn persist_step(misplaced: Cause, w: &Word, d: &mut TableDraft) -> Result<(), Re
 }
 
 /// Takes the brace before a list; a file of addresses is left out.
-fn list_step(w: &Word, d: &mut TableDraft) -> Result<(), ReadFault>
-    ensures { StepGiven result d.new (list_step w.now d.old) }
+fn list_step(w: &Word, d: &mut LongTable) -> Result<(), ReadFault>
+    ensures { StepGiven result (table_seen d.new) (list_step w.now (table_seen d.old)) }
 {
     if is(w.text.as_slice(), b"file") {
         return list_begun(Cause::LeftOut, w, d);
@@ -112,12 +123,12 @@ fn members_step(
     alloc: Global,
     setting: &Setting,
     w: &Word,
-    d: &mut TableDraft,
+    d: &mut LongTable,
 ) -> Result<(), ReadFault>
     requires { IsSound setting.now.site }
-    ensures { StepGiven result d.new (members_step setting.now w.now d.old) }
+    ensures { StepGiven result (table_seen d.new) (members_step setting.now w.now (table_seen d.old)) }
 {
-    let took = value_step(alloc, setting, w, &mut d.members)?;
+    let took = d.members.step(alloc, setting, w)?;
     if !took {
         return Err(ReadFault::Bad(Cause::Syntax));
     }
@@ -131,10 +142,10 @@ pub fn table_step(
     setting: &Setting,
     misplaced: Cause,
     w: &Word,
-    d: &mut TableDraft,
+    d: &mut LongTable,
 ) -> Result<(), ReadFault>
     requires { IsSound setting.now.site }
-    ensures { StepGiven result d.new (table_step misplaced setting.now w.now d.old) }
+    ensures { StepGiven result (table_seen d.new) (table_step misplaced setting.now w.now (table_seen d.old)) }
 {
     match d.expects {
         TableExpects::Open => table_mark_step(b"<", TableExpects::Name, w, d),

@@ -1,16 +1,18 @@
 //! The addresses of tables, which may name one another.
 
-ghost use Rattle.std.specs.Prelude.{◌≡◌, ◌<◌, ℕ, length, slice_index_or, IfOk, OnOk};
+ghost use Rattle.std.specs.Prelude.{◌≡◌, ◌<◌, ℕ, List, length, slice_index_or, IfOk, OnOk};
 ghost use Rattle.fws_pf.specs.Tables.{part_set, table_set};
+ghost use Rattle.fws_pf_words.specs.Members.{names_of, with_name};
 ghost use Rattle.fws_pf_words.specs.Reached.{AreRegularAt, IsClosure, IsPlace, own_ranges, table_at, with_place, with_places};
 
+use crate::members::KnownTable;
 use crate::setting::Tables;
 use fws_iv::{
     Iv, Ivs, many_ranges_add_members, ranges_add_members, ranges_are_regular,
     same_members_same_list,
 };
 use fws_num::{Memory, Text};
-use fws_pf::{Part, Table};
+use fws_pf::{Item, Part};
 use indexmap::IndexSet;
 use std::alloc::Global;
 
@@ -27,18 +29,32 @@ fn find(tables: &Tables, name: &Text, places: &mut IndexSet<usize>) -> Result<()
     }
 }
 
-/// Finds the tables with these names.
-fn find_all(tables: &Tables, names: &[Text], places: &mut IndexSet<usize>) -> Result<(), Memory>
-    ensures { OnOk result (places.new.keys ≡ with_places tables.now places.old.keys names.now) }
+/// Finds the table that a member names, if it names one.
+fn find_named(tables: &Tables, part: &Part, places: &mut IndexSet<usize>) -> Result<(), Memory>
+    ensures { OnOk result ((names : List (List ℕ)) → with_places tables.now places.new.keys names ≡ with_places tables.now places.old.keys (with_name part.now names)) }
 {
-    for name in names {
-        find(tables, name, places)?;
+    match part {
+        Part::Every => Ok(()),
+        Part::Set(_) => Ok(()),
+        Part::Table(name) => {
+            find(tables, name, places)?;
+            Ok(())
+        }
+    }
+}
+
+/// Finds the tables that members name.
+fn find_all(tables: &Tables, items: &[Item], places: &mut IndexSet<usize>) -> Result<(), Memory>
+    ensures { OnOk result (places.new.keys ≡ with_places tables.now places.old.keys (names_of items.now)) }
+{
+    for item in items {
+        find_named(tables, &item.part, places)?;
     }
     Ok(())
 }
 
 /// The table at a place.
-fn table_at(tables: &[Table], place: usize) -> &Table
+fn table_at(tables: &[KnownTable], place: usize) -> &KnownTable
     requires { place < length tables.now }
     ensures { result.now ≡ table_at tables.now place }
 {
@@ -55,21 +71,21 @@ fn reached(alloc: Global, tables: &Tables, name: &Text) -> Result<IndexSet<usize
     let mut next = 0;
     while next < places.len() {
         let table = table_at(tables.as_slice(), places.as_slice()[next]);
-        find_all(tables, table.named.as_slice(), &mut places)?;
+        find_all(tables, table.named(), &mut places)?;
         next += 1;
     }
     Ok(places)
 }
 
 /// The addresses that stand in the tables at these places, as ranges in any order.
-fn own_ranges(alloc: Global, tables: &[Table], places: &[usize]) -> Result<Vec<Iv>, Memory>
+fn own_ranges(alloc: Global, tables: &[KnownTable], places: &[usize]) -> Result<Vec<Iv>, Memory>
     requires { (p : ℕ) → IsPlace places.now p → p < length tables.now }
     ensures ranges { IfOk result (λ ranges. ranges.items ≡ own_ranges tables.now places.now) }
     ensures regular { OnOk result (AreRegularAt tables.now places.now) }
 {
     let mut ranges = Vec::new(alloc);
     for place in places {
-        ranges.extend_from_slice(table_at(tables, *place).own.parts())?;
+        ranges.extend_from_slice(table_at(tables, *place).own().parts())?;
     }
     Ok(ranges)
 }

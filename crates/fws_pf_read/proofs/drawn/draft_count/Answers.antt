@@ -16,4 +16,4 @@ returns c =
     let d = c.times-count-3.ensures (f * p * s) q (counts_as _ _ _ b) refl in
     let e = c.times-count-4.ensures (f * p * s * q) t (counts_as _ _ _ d) refl in
     let g = c.times-count-5.ensures (f * p * s * q * t) u (counts_as _ _ _ e) refl in
-    let all = c.times.ensures (f * p * s * q * t * u) (condition_count c.as_slice-7.result.now) (counts_as _ _ _ g) (counts_as _ _ _ c.rule_count.ensures) in cc
+    let all = c.times.ensures (f * p * s * q * t * u) (condition_count c.args.d.now.options) (counts_as _ _ _ g) (counts_as _ _ _ c.count.ensures) in cc

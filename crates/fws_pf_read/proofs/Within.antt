@@ -1,0 +1,281 @@
+-- Words that belong to a value of a rule and don't end it.
+use Rattle.std.proofs.Common.{◌≡◌, ℕ, Bool, true, false, ◌&&◌, not, cond, Option, None, Some, option_and_then, Result, Ok, Err, List, [], ◌∷◌, ◌++◌, length, take, drop, refl, sym, ap, subst, ◌∙◌, arith, IfOk, suc, ◌+◌, ◌<◌, get_or, drop-cons}
+use Rattle.std.proofs.lemmas.List.{take-append-drop, take_all}
+use Rattle.fws_num.specs.declared.word.Word.{Word}
+use Rattle.fws_num.specs.Words.{is_sound}
+use Rattle.fws_net.specs.declared.cause.Cause.{Cause}
+use Rattle.fws_net.specs.declared.cause.Cause.TheVariants.{Syntax}
+use Rattle.fws_net.specs.declared.answer.LineFault.{LineFault}
+use Rattle.fws_net.specs.declared.answer.LineFault.TheVariants as faults
+use Rattle.fws_net.specs.Reading.{FaultGiven, and_then}
+use Rattle.fws_pf.specs.declared.rule_draft.Expects.{Expects}
+use Rattle.fws_pf.specs.declared.rule_draft.Expects.TheVariants as expect
+use Rattle.fws_pf.specs.declared.rule_draft.Place.{Place}
+use Rattle.fws_pf.specs.declared.rule_draft.RuleDraft.{RuleDraft}
+use Rattle.fws_pf.specs.declared.statement.Statement.{Statement}
+use Rattle.fws_pf.specs.declared.statement.Statement.TheVariants as statements
+use Rattle.fws_pf.specs.declared.statement.TableDraft.{TableDraft}
+use Rattle.fws_pf.specs.declared.statement.TableExpects.{TableExpects}
+use Rattle.fws_pf.specs.declared.statement.TableExpects.TheVariants as tables
+use Rattle.fws_pf.specs.declared.value_draft.ValueDraft.{ValueDraft}
+use Rattle.fws_pf.specs.RuleText.{behind, expected_step, value_taken, valued, word_step}
+use Rattle.fws_pf.specs.declared.macros.Macro.{Macro}
+use Rattle.fws_pf.specs.Macros.{meant}
+use Rattle.fws_pf.specs.StatementText.{fault, meant_taken, raw_taken, raws_taken, table_expected_step, word_taken, words_taken}
+use Rattle.fws_pf.specs.Values.{Setting, has_ended, value_step}
+use Rattle.fws_pf_words.specs.Fronts.{going_on, within, word_within}
+use Rattle.fws_pf_read.specs.declared.statement.Statement.{Statement as Own}
+use Rattle.fws_pf_read.specs.Places.{value_place}
+use Rattle.fws_pf_read.specs.Statements.{StatementGiven, seen}
+
+-- A word
+
+abbrev with_value : RuleDraft → ValueDraft → Statement
+with_value d v = statements.Rule (record d { value = v })
+
+none_some : {X : Type 0} (v : ValueDraft) → None ≡ Some v → X
+none_some {X = X} v e = absurd (let k : None ≡ Some v = e in cc)
+
+kept_value : (place : Place) (d : RuleDraft) (v new : ValueDraft) (other : Result RuleDraft Cause) (took ended : Bool) → has_ended v.expects ≡ ended
+    → cond (took && not ended) (Some v) None ≡ Some new
+    → and_then (cond took (Ok (cond ended (valued place v d) (record d { value = v }))) other) (λ (next : RuleDraft). Ok (statements.Rule next)) ≡ Ok (with_value d new)
+kept_value place d v new other true false e h = ap (λ (x : ValueDraft). Ok (with_value d x)) (let same : v ≡ new = cc in same)
+kept_value place d v new other true true e h = none_some new h
+kept_value place d v new other false ended e h = none_some new h
+
+value_goes : (setting : Setting) (place : Place) (w : Word) (d : RuleDraft) (r : Result (ValueDraft × Bool) Cause) (new : ValueDraft) → going_on r ≡ Some new
+    → and_then (and_then r (λ next. cond next.1 (Ok (value_taken place next.0 d)) (word_step setting (behind place) w (valued place next.0 d)))) (λ (next : RuleDraft). Ok (statements.Rule next))
+    ≡ Ok (with_value d new)
+value_goes setting place w d (Ok next) new h =
+    kept_value place d next.0 new (word_step setting (behind place) w (valued place next.0 d)) next.1 (has_ended next.0.expects) refl h
+value_goes setting place w d (Err cause) new h = none_some new h
+
+sound_goes : (b : Bool) (o : Option ValueDraft) (r : Result Statement Cause) (cause : Cause) (d : RuleDraft) (new : ValueDraft) → cond b o None ≡ Some new
+    → (o ≡ Some new → r ≡ Ok (with_value d new)) → cond b r (Err cause) ≡ Ok (with_value d new)
+sound_goes true o r cause d new h f = f h
+sound_goes false o r cause d new h f = none_some new h
+
+word_goes : (setting : Setting) (tags : List (List ℕ)) (w : Word) (place : Place) (d : RuleDraft) (new : ValueDraft) → d.expects ≡ expect.Value place
+    → word_within setting w d.value ≡ Some new → word_taken setting tags w (statements.Rule d) ≡ Ok (with_value d new)
+word_goes setting tags w place d new at h =
+    sound_goes (is_sound w) (going_on (value_step setting w d.value)) _ _ d new h
+    (λ g.
+    ap (λ (e : Expects). and_then (expected_step setting e w d) (λ (next : RuleDraft). Ok (statements.Rule next))) at
+    ∙ value_goes setting place w d (value_step setting w d.value) new g)
+
+-- Words
+
+words_next : (setting : Setting) (tags : List (List ℕ)) (ws : List Word) (d : RuleDraft) (w : Word) (o : Option ValueDraft) (new : ValueDraft)
+    → option_and_then (within setting ws) o ≡ Some new
+    → ((v : ValueDraft) → o ≡ Some v → word_taken setting tags w (statements.Rule d) ≡ Ok (with_value d v))
+    → ((v : ValueDraft) → within setting ws v ≡ Some new → words_taken setting tags ws (with_value d v) ≡ Ok (with_value d new))
+    → and_then (word_taken setting tags w (statements.Rule d)) (words_taken setting tags ws) ≡ Ok (with_value d new)
+words_next setting tags ws d w (Some v) new h f g = ap (λ r. and_then r (words_taken setting tags ws)) (f v refl) ∙ g v h
+words_next setting tags ws d w None new h f g = none_some new h
+
+words_go : (setting : Setting) (tags : List (List ℕ)) (ws : List Word) (place : Place) (d : RuleDraft) (new : ValueDraft) → d.expects ≡ expect.Value place
+    → within setting ws d.value ≡ Some new → words_taken setting tags ws (statements.Rule d) ≡ Ok (with_value d new)
+words_go setting tags [] place d new at h = ap (λ (v : ValueDraft). Ok (with_value d v)) (let same : d.value ≡ new = cc in same)
+words_go setting tags (w ∷ ws) place d new at h =
+    words_next setting tags ws d w (word_within setting w d.value) new h (λ v o. word_goes setting tags w place d v at o)
+    (λ v k. words_go setting tags ws place (record d { value = v }) new at k)
+
+value_at : (e : Expects) (place : Place) → value_place e ≡ Some place → e ≡ expect.Value place
+value_at (expect.Value p) place h = ap (λ x. expect.Value x) (let same : p ≡ place = cc in same)
+value_at expect.Answer place h = absurd (let k : None ≡ Some place = h in cc)
+value_at expect.Way place h = absurd (let k : None ≡ Some place = h in cc)
+value_at expect.Log place h = absurd (let k : None ≡ Some place = h in cc)
+value_at expect.Logged place h = absurd (let k : None ≡ Some place = h in cc)
+value_at expect.LogAll place h = absurd (let k : None ≡ Some place = h in cc)
+value_at expect.LogEnd place h = absurd (let k : None ≡ Some place = h in cc)
+value_at expect.Quick place h = absurd (let k : None ≡ Some place = h in cc)
+value_at expect.Past place h = absurd (let k : None ≡ Some place = h in cc)
+value_at expect.On place h = absurd (let k : None ≡ Some place = h in cc)
+value_at expect.Inet place h = absurd (let k : None ≡ Some place = h in cc)
+value_at expect.Proto place h = absurd (let k : None ≡ Some place = h in cc)
+value_at expect.Hosts place h = absurd (let k : None ≡ Some place = h in cc)
+value_at expect.SourcePorts place h = absurd (let k : None ≡ Some place = h in cc)
+value_at expect.To place h = absurd (let k : None ≡ Some place = h in cc)
+value_at expect.DestinationPorts place h = absurd (let k : None ≡ Some place = h in cc)
+value_at expect.Option place h = absurd (let k : None ≡ Some place = h in cc)
+value_at (expect.State keeps) place h = absurd (let k : None ≡ Some place = h in cc)
+value_at expect.Flags place h = absurd (let k : None ≡ Some place = h in cc)
+value_at expect.TagName place h = absurd (let k : None ≡ Some place = h in cc)
+value_at expect.NotTagged place h = absurd (let k : None ≡ Some place = h in cc)
+value_at (expect.TaggedName asked) place h = absurd (let k : None ≡ Some place = h in cc)
+value_at expect.Label place h = absurd (let k : None ≡ Some place = h in cc)
+value_at expect.Tagged place h = absurd (let k : None ≡ Some place = h in cc)
+value_at expect.Arrow place h = absurd (let k : None ≡ Some place = h in cc)
+value_at expect.Target place h = absurd (let k : None ≡ Some place = h in cc)
+value_at expect.TargetName place h = absurd (let k : None ≡ Some place = h in cc)
+value_at expect.TargetEnd place h = absurd (let k : None ≡ Some place = h in cc)
+value_at expect.Bitmask place h = absurd (let k : None ≡ Some place = h in cc)
+value_at expect.Targeted place h = absurd (let k : None ≡ Some place = h in cc)
+value_at expect.TargetPort place h = absurd (let k : None ≡ Some place = h in cc)
+value_at expect.Ended place h = absurd (let k : None ≡ Some place = h in cc)
+
+-- words of a rule at a value
+pub rule_words : (setting : Setting) (ws : List Word) (place : Place) (d new : RuleDraft) (v : ValueDraft) → value_place d.expects ≡ Some place → within setting ws d.value ≡ Some v
+    → new ≡ record d { value = v } → (tags : List (List ℕ)) → words_taken setting tags ws (statements.Rule d) ≡ Ok (statements.Rule new)
+rule_words setting ws place d new v at h n tags =
+    words_go setting tags ws place d v (value_at d.expects place at) h ∙ ap (λ (x : RuleDraft). Ok (statements.Rule x)) (sym n)
+
+-- Words of a table, and of interfaces that are skipped
+
+abbrev step_of : ValueDraft → Bool → Result (ValueDraft × Bool) Cause
+step_of v took = Ok (v, took)
+
+goes_as : (v new : ValueDraft) (took ended : Bool) → cond (took && not ended) (Some v) None ≡ Some new → step_of v took ≡ step_of new true
+goes_as v new true false h = ap (λ (x : ValueDraft). step_of x true) (let same : v ≡ new = cc in same)
+goes_as v new true true h = none_some new h
+goes_as v new false ended h = none_some new h
+
+goes_on : (r : Result (ValueDraft × Bool) Cause) (new : ValueDraft) → going_on r ≡ Some new → r ≡ Ok (new, true)
+goes_on (Ok next) new h = goes_as next.0 new next.1 (has_ended next.0.expects) h
+goes_on (Err cause) new h = none_some new h
+
+by_sound : (b : Bool) (o : Option ValueDraft) (r end : Result Statement Cause) (cause : Cause) (new : ValueDraft) → cond b o None ≡ Some new
+    → (o ≡ Some new → r ≡ end) → cond b r (Err cause) ≡ end
+by_sound true o r end cause new h f = f h
+by_sound false o r end cause new h f = none_some new h
+
+table_word : (setting : Setting) (tags : List (List ℕ)) (w : Word) (d : TableDraft) (new : ValueDraft) → d.expects ≡ tables.Members
+    → word_within setting w d.members ≡ Some new → word_taken setting tags w (statements.Table d) ≡ Ok (statements.Table (record d { members = new }))
+table_word setting tags w d new at h =
+    by_sound (is_sound w) (going_on (value_step setting w d.members)) _ (Ok (statements.Table (record d { members = new }))) _ new h
+    (λ g.
+    ap (λ (e : TableExpects). and_then (table_expected_step setting e w d) (λ (next : TableDraft). Ok (statements.Table next))) at
+    ∙ ap (λ (r : Result (ValueDraft × Bool) Cause). and_then (and_then r (λ next. cond next.1 (Ok (record d { members = next.0 })) (Err Syntax))) (λ (next : TableDraft). Ok (statements.Table next)))
+    (goes_on (value_step setting w d.members) new g))
+
+skip_word : (setting : Setting) (tags : List (List ℕ)) (w : Word) (v new : ValueDraft)
+    → word_within setting w v ≡ Some new → word_taken setting tags w (statements.SkipOn v) ≡ Ok (statements.SkipOn new)
+skip_word setting tags w v new h =
+    by_sound (is_sound w) (going_on (value_step setting w v)) _ (Ok (statements.SkipOn new)) _ new h
+    (λ g.
+    ap (λ (r : Result (ValueDraft × Bool) Cause). and_then r (λ next. cond next.1 (Ok (statements.SkipOn next.0)) (Err Syntax)))
+    (goes_on (value_step setting w v) new g))
+
+next_goes : (setting : Setting) (tags : List (List ℕ)) (ws : List Word) (s end : Statement) (w : Word) (f : ValueDraft → Statement) (o : Option ValueDraft) (new : ValueDraft)
+    → option_and_then (within setting ws) o ≡ Some new → ((v : ValueDraft) → o ≡ Some v → word_taken setting tags w s ≡ Ok (f v))
+    → ((v : ValueDraft) → within setting ws v ≡ Some new → words_taken setting tags ws (f v) ≡ Ok end)
+    → and_then (word_taken setting tags w s) (words_taken setting tags ws) ≡ Ok end
+next_goes setting tags ws s end w f (Some v) new h g k = ap (λ r. and_then r (words_taken setting tags ws)) (g v refl) ∙ k v h
+next_goes setting tags ws s end w f None new h g k = none_some new h
+
+table_words_go : (setting : Setting) (tags : List (List ℕ)) (ws : List Word) (d : TableDraft) (new : ValueDraft) → d.expects ≡ tables.Members
+    → within setting ws d.members ≡ Some new → words_taken setting tags ws (statements.Table d) ≡ Ok (statements.Table (record d { members = new }))
+table_words_go setting tags [] d new at h = ap (λ (v : ValueDraft). Ok (statements.Table (record d { members = v }))) (let same : d.members ≡ new = cc in same)
+table_words_go setting tags (w ∷ ws) d new at h =
+    next_goes setting tags ws (statements.Table d) (statements.Table (record d { members = new })) w (λ (v : ValueDraft). statements.Table (record d { members = v }))
+    (word_within setting w d.members) new h (λ v o. table_word setting tags w d v at o) (λ v k. table_words_go setting tags ws (record d { members = v }) new at k)
+
+-- words of a table at its list
+pub table_words : (setting : Setting) (ws : List Word) (d new : TableDraft) (v : ValueDraft) → d.expects ≡ tables.Members → within setting ws d.members ≡ Some v
+    → new ≡ record d { members = v } → (tags : List (List ℕ)) → words_taken setting tags ws (statements.Table d) ≡ Ok (statements.Table new)
+table_words setting ws d new v at h n tags = table_words_go setting tags ws d v at h ∙ ap (λ (x : TableDraft). Ok (statements.Table x)) (sym n)
+
+-- words of interfaces that are skipped
+pub skip_words : (setting : Setting) (ws : List Word) (v new : ValueDraft) → within setting ws v ≡ Some new → (tags : List (List ℕ))
+    → words_taken setting tags ws (statements.SkipOn v) ≡ Ok (statements.SkipOn new)
+skip_words setting [] v new h tags = ap (λ (x : ValueDraft). Ok (statements.SkipOn x)) (let same : v ≡ new = cc in same)
+skip_words setting (w ∷ ws) v new h tags =
+    next_goes setting tags ws (statements.SkipOn v) (statements.SkipOn new) w (λ (x : ValueDraft). statements.SkipOn x)
+    (word_within setting w v) new h (λ x o. skip_word setting tags w v x o) (λ x k. skip_words setting ws x new k tags)
+
+-- Words behind words
+
+after : (setting : Setting) (tags : List (List ℕ)) (xs ys : List Word) (s : Statement) → words_taken setting tags (xs ++ ys) s ≡ and_then (words_taken setting tags xs s) (words_taken setting tags ys)
+after setting tags [] ys s = refl
+after setting tags (x ∷ xs) ys s = after_word (word_taken setting tags x s) (λ t. after setting tags xs ys t)
+  where
+    after_word : (r : Result Statement Cause) → ((t : Statement) → words_taken setting tags (xs ++ ys) t ≡ and_then (words_taken setting tags xs t) (words_taken setting tags ys))
+        → and_then r (words_taken setting tags (xs ++ ys)) ≡ and_then (and_then r (words_taken setting tags xs)) (words_taken setting tags ys)
+    after_word (Ok t) h = h t
+    after_word (Err cause) h = refl
+
+-- the words that are left of those of which some were taken
+pub words_left : (setting : Setting) (tags : List (List ℕ)) (ws rest : List Word) (n : ℕ) (s next : Statement) → words_taken setting tags (take n ws) s ≡ Ok next → rest ≡ drop n ws
+    → words_taken setting tags ws s ≡ words_taken setting tags rest next
+words_left setting tags ws rest n s next h r =
+    ap (λ l. words_taken setting tags l s) (sym (take-append-drop n ws)) ∙ after setting tags (take n ws) (drop n ws) s
+    ∙ ap (λ q. and_then q (words_taken setting tags (drop n ws))) h ∙ ap (λ l. words_taken setting tags l next) (sym r)
+
+pub words_behind : (setting : Setting) (tags : List (List ℕ)) (xs ys all : List Word) (s next : Statement) → all ≡ xs ++ ys → words_taken setting tags xs s ≡ Ok next
+    → words_taken setting tags all s ≡ words_taken setting tags ys next
+words_behind setting tags xs ys all s next a h =
+    ap (λ l. words_taken setting tags l s) a ∙ after setting tags xs ys s ∙ ap (λ q. and_then q (words_taken setting tags ys)) h
+
+-- Pieces
+
+pub piece_whole : (setting : Setting) (tags : List (List ℕ)) (ws : List Word) (n : ℕ) (s next : Statement) → words_taken setting tags (take n ws) s ≡ Ok next → n ≡ length ws
+    → words_taken setting tags ws s ≡ Ok next
+piece_whole setting tags ws n s next h e = ap (λ l. words_taken setting tags l s) (sym (take_all n ws (omega arith))) ∙ h
+
+pub piece_rest : (setting : Setting) (tags : List (List ℕ)) (ws rest : List Word) (n : ℕ) (s next : Statement) (r : Result Own (LineFault Cause))
+    → words_taken setting tags (take n ws) s ≡ Ok next → rest ≡ drop n ws → StatementGiven r (words_taken setting tags rest next) → StatementGiven r (words_taken setting tags ws s)
+piece_rest setting tags ws rest n s next r h e given = subst (StatementGiven r) (sym (words_left setting tags ws rest n s next h e)) given
+
+-- a piece that was taken, ahead of another
+pub front_taken : (setting : Setting) (tags : List (List ℕ)) (xs ys all : List Word) (s : Statement) (next : Own) (r : Result Own (LineFault Cause)) → all ≡ xs ++ ys
+    → words_taken setting tags xs s ≡ Ok (seen next) → StatementGiven r (words_taken setting tags ys (seen next)) → StatementGiven r (words_taken setting tags all s)
+front_taken setting tags xs ys all s next r a h given = subst (StatementGiven r) (sym (words_behind setting tags xs ys all s (seen next) a h)) given
+
+refused_front : (setting : Setting) (tags : List (List ℕ)) (xs ys all : List Word) (s : Statement) (cause : Cause) → all ≡ xs ++ ys → words_taken setting tags xs s ≡ Err cause
+    → words_taken setting tags all s ≡ Err cause
+refused_front setting tags xs ys all s cause a h =
+    ap (λ l. words_taken setting tags l s) a ∙ after setting tags xs ys s ∙ ap (λ q. and_then q (words_taken setting tags ys)) h
+
+pub front_refused : (setting : Setting) (tags : List (List ℕ)) (xs ys all : List Word) (s : Statement) (fault : LineFault Cause) → all ≡ xs ++ ys
+    → FaultGiven fault (words_taken setting tags xs s) → FaultGiven fault (words_taken setting tags all s)
+front_refused setting tags xs ys all s (faults.Bad cause) a h = refused_front setting tags xs ys all s cause a h
+front_refused setting tags xs ys all s faults.Memory a h = tt
+
+-- The words of a statement
+
+raws_ahead : (setting : Setting) (macros : List Macro) (tags : List (List ℕ)) (words : List Word) (i : ℕ) (w : Word) (s : Statement) → i < length words → w ≡ get_or words i w
+    → raws_taken setting macros tags (drop i words) s ≡ and_then (raw_taken setting macros tags w s) (raws_taken setting macros tags (drop (i + 1) words))
+raws_ahead setting macros tags words i w s lt r =
+    ap (λ l. raws_taken setting macros tags l s) (drop-cons words i w lt ∙ ap (λ (x : Word). x ∷ drop (suc i) words) (sym r))
+    ∙ ap (λ n. and_then (raw_taken setting macros tags w s) (raws_taken setting macros tags (drop n words))) (let k : suc i ≡ i + 1 = omega arith in k)
+
+pub raws_step : (setting : Setting) (macros : List Macro) (tags : List (List ℕ)) (words : List Word) (i : ℕ) (w : Word) (s next : Statement) (total : Result Statement Cause)
+    → i < length words → w ≡ get_or words i w → raw_taken setting macros tags w s ≡ Ok next → raws_taken setting macros tags (drop i words) s ≡ total
+    → raws_taken setting macros tags (drop (i + 1) words) next ≡ total
+raws_step setting macros tags words i w s next total lt r h e =
+    sym (ap (λ x. and_then x (raws_taken setting macros tags (drop (i + 1) words))) h) ∙ sym (raws_ahead setting macros tags words i w s lt r) ∙ e
+
+pub raws_refused : (setting : Setting) (macros : List Macro) (tags : List (List ℕ)) (words : List Word) (i : ℕ) (w : Word) (s : Statement) (total : Result Statement Cause)
+    (fault : LineFault Cause) → i < length words → w ≡ get_or words i w → FaultGiven fault (raw_taken setting macros tags w s)
+    → raws_taken setting macros tags (drop i words) s ≡ total → FaultGiven fault total
+raws_refused setting macros tags words i w s total (faults.Bad cause) lt r h e =
+    sym e ∙ raws_ahead setting macros tags words i w s lt r ∙ ap (λ x. and_then x (raws_taken setting macros tags (drop (i + 1) words))) h
+raws_refused setting macros tags words i w s total faults.Memory lt r h e = tt
+
+-- A word and the words for which it stands
+
+pub in_any_case : {X Y : Type 0} (r : Result X Y) (P : X → Type 0) → ((x : X) → P x) → IfOk r P
+in_any_case (Ok x) P f = f x
+in_any_case (Err e) P f = tt
+
+pub raw_sound : (setting : Setting) (macros : List Macro) (tags : List (List ℕ)) (w : Word) (s : Statement) (r : Result Own (LineFault Cause)) → is_sound w ≡ true
+    → StatementGiven r (meant_taken setting tags (meant macros w) s) → StatementGiven r (raw_taken setting macros tags w s)
+raw_sound setting macros tags w s r sound given =
+    subst (λ (b : Bool). StatementGiven r (cond b (meant_taken setting tags (meant macros w) s) (Err (fault s Syntax)))) (sym sound) given
+
+pub raw_unsound : (setting : Setting) (macros : List Macro) (tags : List (List ℕ)) (w : Word) (s : Statement) (cause : Cause) → is_sound w ≡ false → cause ≡ fault s Syntax
+    → raw_taken setting macros tags w s ≡ Err cause
+raw_unsound setting macros tags w s cause sound e =
+    ap (λ (b : Bool). cond b (meant_taken setting tags (meant macros w) s) (Err (fault s Syntax))) sound ∙ ap (λ x. Err x) (sym e)
+
+pub meant_given : (setting : Setting) (macros : List Macro) (tags : List (List ℕ)) (w : Word) (ws : List Word) (s : Statement) (r : Result Own (LineFault Cause))
+    → meant macros w ≡ Ok ws → StatementGiven r (words_taken setting tags ws s) → StatementGiven r (meant_taken setting tags (meant macros w) s)
+meant_given setting macros tags w ws s r e given = subst (λ (m : Result (List Word) Cause). StatementGiven r (meant_taken setting tags m s)) (sym e) given
+
+pub meant_refused : (setting : Setting) (macros : List Macro) (tags : List (List ℕ)) (w : Word) (s : Statement) (cause why : Cause) → meant macros w ≡ Err cause → why ≡ fault s cause
+    → meant_taken setting tags (meant macros w) s ≡ Err why
+meant_refused setting macros tags w s cause why e f = ap (λ (m : Result (List Word) Cause). meant_taken setting tags m s) e ∙ ap (λ x. Err x) (sym f)
+
+pub use_given : (setting : Setting) (macros : List Macro) (tags : List (List ℕ)) (w : Word) (ws : List Word) (s : Statement) (r : Result Own (LineFault Cause)) → is_sound w ≡ true
+    → meant macros w ≡ Ok ws → StatementGiven r (words_taken setting tags ws s) → StatementGiven r (raw_taken setting macros tags w s)
+use_given setting macros tags w ws s r sound e given = raw_sound setting macros tags w s r sound (meant_given setting macros tags w ws s r e given)

@@ -1,6 +1,0 @@
-use Rattle.std.proofs.Common.{◌≡◌, drop}
-use Rattle.fws_pf_words.specs.Kept.{kept_read}
-use Rattle.fws_pf_words.proofs.macros.keep_value.Given as goal
-
-abbrev pub invariant-loop-w : goal.invariant-loop-w
-invariant-loop-w l = kept_read l.macros l.kept (drop l.w-index l.words) ≡ kept_read l.macros l.fn.kept l.words

@@ -1,9 +1,0 @@
-use Rattle.std.proofs.Common.{◌≡◌, [], length}
-use Rattle.fws_pf.specs.Macros.{meant_from}
-use Rattle.fws_pf_words.proofs.macros.used.Given as goal
-
-abbrev pub invariant-loop-behind : goal.invariant-loop-behind
-invariant-loop-behind l = meant_from l.macros l.line [] l.rest ≡ meant_from l.macros l.line [] l.fn.text
-
-abbrev pub decreases-loop-behind : goal.decreases-loop-behind
-decreases-loop-behind l = length l.rest
