@@ -132,6 +132,13 @@ counted_more eq exact leaves keys new x e old = elim (cases_Bool (list_any (eq x
     shown : All (Contains (leaves ++ x ∷ [])) keys
     shown = All-weaker (Contains leaves) (Contains (leaves ++ x ∷ [])) (λ y h. Contains-append_left leaves (x ∷ []) y h) keys old.shown
 
+-- one more leaf of a list, that is put among the keys unless it is there
+pub counted_leaf : {L : Type 0} (eq : L → L → Bool) → ((x y : L) → eq x y ≡ true → x ≡ y) → (leaves : List L) (at : ℕ) (item : L) (keys new : List L) (x : L)
+    → at < length leaves → item ≡ get_or leaves at item → x ≡ item → new ≡ insert_key eq keys x → AreCounted (take at leaves) keys → AreCounted (take (at + 1) leaves) new
+counted_leaf eq exact leaves at item keys new x lt is e grown old =
+    subst (λ ls. AreCounted ls new) (ap (λ y. take at leaves ++ y ∷ []) (e ∙ is) ∙ sym (take_more leaves at item lt))
+    (counted_more eq exact (take at leaves) keys new x grown old)
+
 -- a key that was put behind others unless it was there
 pub key_put : {X : Type 0} (eq : X → X → Bool) → ((x y : X) → eq x y ≡ true → x ≡ y) → IsEquivalence eq → (old new : List X) (x : X) → new ≡ insert_key eq old x → IsDistinct eq new
     → IsPut old new x

@@ -1,3 +1,4 @@
+pub mod Apartness
 pub mod Breaking
 pub mod CanDrop
 pub mod Collecting
@@ -9,12 +10,16 @@ pub mod FieldPoints
 pub mod Finding
 pub mod IpfwViews
 pub mod LocalWritten
+pub mod NearPoints
 pub mod NewPackets
 pub mod NewRows
 pub mod NextValues
+pub mod NoneDropped
+pub mod OneEnds
 pub mod OpenRows
 pub mod PairPoints
 pub mod Passing
+pub mod PfFits
 pub mod RedirectRows
 pub mod Regions
 pub mod SameSets

@@ -25,7 +25,7 @@ within_top (top ∷ tops) (x ∷ p) zero w lt = w.0
 within_top (top ∷ tops) (x ∷ p) (suc k) w lt = within_top tops p k w.1 (omega arith)
 
 -- twelve values are those of a packet and ends
-twelve_values : (q : List ℕ) → length q ≡ 12 → point_of (packet_of q) (rec_of q) ≡ q
+pub twelve_values : (q : List ℕ) → length q ≡ 12 → point_of (packet_of q) (rec_of q) ≡ q
 twelve_values q n = sym (fill_by_all (λ k. get_or q k 0) q 12 0 n (λ k lt. refl))
 
 -- a point of a site is that of its packet and its ends

@@ -45,7 +45,7 @@ not_accepted Drop n = refl
 not_accepted (Accept w) n = absurd (n (λ e. cc))
 
 -- what the tree of outcomes has at a point
-est_at : (tables : Tables) (p : Packet) (r : Rec) (o : Outcome) → value tables.est.1 (point_of p r) ≡ Some o → est_of tables p r ≡ o
+pub est_at : (tables : Tables) (p : Packet) (r : Rec) (o : Outcome) → value tables.est.1 (point_of p r) ≡ Some o → est_of tables p r ≡ o
 est_at tables p r o e = ap (λ v. unwrap_or v Drop) e
 
 -- a tree with whether outcomes accept tells which pairs are accepted
@@ -72,7 +72,7 @@ lost_is site p r e = by site.forwarding (nat_eq p.entry 0) (is_local site r.rdst
     by false true l e = absurd (cc)
     by true h l e = absurd (cc)
 
-is_lost : (site : Site) (p : Packet) (r : Rec) → IsLost site p r → is_lost_at site (point_of p r) ≡ true
+pub is_lost : (site : Site) (p : Packet) (r : Rec) → IsLost site p r → is_lost_at site (point_of p r) ≡ true
 is_lost site p r e = by site.forwarding (nat_eq p.entry 0) (is_local site r.rdst) e
   where
     by : (f h l : Bool) → (if h then (if l then Out 1 else Out (route_of site r.rdst)) else if l then Deliver else if f then Out (route_of site r.rdst) else Lost) ≡ Lost

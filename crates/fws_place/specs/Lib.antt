@@ -1,5 +1,6 @@
 pub mod AheadOfLookup
 pub mod Answers
+pub mod Apart
 pub mod Asked
 pub mod Clauses
 pub mod Counts
@@ -12,7 +13,9 @@ pub mod Gathered
 pub mod IpfwLaws
 pub mod Lost
 pub mod Meaning
+pub mod OneEnd
 pub mod Pairs
+pub mod PfLaws
 pub mod Rewritings
 pub mod RowRedirects
 pub mod Seen

@@ -11,11 +11,14 @@ use crate::breach::{Breach, FitAnswer, Pair};
 use crate::clause::{Clause, clauses_of};
 use crate::drops_ahead_of_lookup::drops_ahead_of_lookup;
 use crate::drops_by_one_view::drops_by_one_view;
+use crate::drops_no_established::drops_no_established;
 use crate::few_outcomes::few_outcomes;
 use crate::few_redirects::few_redirects;
 use crate::keeps_delivered_sources::keeps_delivered_sources;
 use crate::keeps_host_destinations::keeps_host_destinations;
 use crate::keeps_source_ports::keeps_source_ports;
+use crate::one_destination::one_destination;
+use crate::one_host_source::one_host_source;
 use crate::writes_whole_addresses::writes_whole_addresses;
 use fws_net::{Lang, Site};
 use fws_num::Memory;
@@ -42,6 +45,9 @@ fn broken(
         Clause::DropsByOneView => drops_by_one_view(alloc, site, tables),
         Clause::FewRedirects => few_redirects(alloc, site, tables),
         Clause::DropsAheadOfLookup => drops_ahead_of_lookup(alloc, site, tables),
+        Clause::DropsNoEstablished => drops_no_established(alloc, site, tables),
+        Clause::OneDestination => one_destination(alloc, site, tables),
+        Clause::OneHostSource => one_host_source(alloc, site, tables),
         Clause::WritesWholeAddresses => writes_whole_addresses(alloc, site, tables),
         _ => unreachable!(),
     }
@@ -50,7 +56,7 @@ fn broken(
 /// Whether the system can hold the tables: `Ok` exactly where they meet each of its clauses, and else the first
 /// clause that they don't meet, with packets that show so.
 pub fn check(alloc: Global, target: Lang, tables: &Tables, site: &Site) -> Result<(), FitAnswer>
-    requires built { (target ≡ langs.Iptables) ⊎ (target ≡ langs.Ipfw) }
+    requires built { (target ≡ langs.Iptables) ⊎ (target ≡ langs.Ipfw) ⊎ (target ≡ langs.Pf) }
     requires sound { IsSound site.now }
     requires regular { AreRegular site.now tables.now }
     ensures fits { OnOk result (Fits target site.now tables.now) }

@@ -149,8 +149,8 @@ fn dropped_with_either(
     all.relabel(alloc, &DroppedWithEither)
 }
 
-// The tree that is true where both are.
-fn true_in_both(
+/// The tree that is true where both are. An error is want of memory.
+pub(crate) fn true_in_both(
     alloc: Global,
     first: &Tree<bool>,
     second: &Tree<bool>,

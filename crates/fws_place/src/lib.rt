@@ -1,6 +1,7 @@
 //! When a system can hold a policy.
 #![tactic(auto)]
 
+mod apart;
 mod asking;
 mod breach;
 mod checking;
@@ -8,6 +9,7 @@ mod clause;
 mod delivering;
 mod drops_ahead_of_lookup;
 mod drops_by_one_view;
+mod drops_no_established;
 mod exact;
 mod few_outcomes;
 mod few_redirects;
@@ -20,9 +22,14 @@ mod keeps_source_ports;
 mod laws;
 mod lost;
 mod naming;
+mod one_destination;
+mod one_end;
+mod one_host_source;
+mod pf_laws;
 mod point;
 mod redirect;
 mod seeing;
+mod true_near;
 mod values;
 mod writes_whole_addresses;
 
@@ -34,6 +41,9 @@ pub use ipfw_laws::{ipfw_drops_new_arrivals, ipfw_drops_new_host, ipfw_pairs_are
 pub use laws::{
     breaches_refute_fits, fitting_drops_are_seen, fitting_pairs_are_told, lost_pairs_are_dropped,
     points_are_of_pairs, points_are_seen, views_are_told,
+};
+pub use pf_laws::{
+    pf_destinations_agree, pf_host_sources_agree, pf_keeps_new_packets, pf_pairs_pass,
 };
 pub use point::{ends_at, packet_at};
 pub use redirect::{PublicEnd, Redirect};

@@ -1,0 +1,63 @@
+-- Points that agree in all but flags and ICMP types, and what a tree has there.
+use Rattle.std.specs.Prelude.{◌≡◌, ◌≢◌, ℕ, ◌/◌, ◌%◌, Bool, ◌&&◌, not, nat_eq, Some, List, unwrap_or, position, Contains, if◌then◌else◌}
+use Rattle.fws_box.specs.Sides.{IsWithin}
+use Rattle.fws_tree.specs.Changed.{Agree}
+use Rattle.fws_tree.specs.Plain.{Plain, value}
+use Rattle.fws_place.specs.Found.{IsTrueAt}
+
+-- the points agree in all but flags and ICMP types, the fields 6 and 7
+abbrev pub AreNear : List ℕ → List ℕ → Type 0
+AreNear p q = Agree 192 p q
+
+-- Trees of truth values
+
+-- of two such points the one tree is true at the first, and the other at the second
+pub record AreTrueNear (tops : List ℕ) (t u : Plain Bool) (p q : List ℕ) : Type 0 where
+  pub first : IsTrueAt tops t p
+  pub second : IsTrueAt tops u q
+  pub near : AreNear p q
+
+-- there are no two points that are such
+abbrev pub NoneTrueNear : List ℕ → Plain Bool → Plain Bool → Type 0
+NoneTrueNear tops t u = (p q : List ℕ) → AreTrueNear tops t u p q → ⊥
+
+-- Trees of leaves, of which one doesn't count
+
+-- two such points have values that count
+pub record HaveNear {L : Type 0} (tops : List ℕ) (t : Plain L) (off : L) (p q : List ℕ) (a b : L) : Type 0 where
+  pub within : IsWithin tops p
+  pub other_within : IsWithin tops q
+  pub near : AreNear p q
+  pub here : value t p ≡ Some a
+  pub there : value t q ≡ Some b
+  pub counts : a ≢ off
+  pub other_counts : b ≢ off
+
+-- and they are different
+pub record AreApart {L : Type 0} (tops : List ℕ) (t : Plain L) (off : L) (p q : List ℕ) : Type 0 where
+  pub leaf : L
+  pub other : L
+  pub have : HaveNear tops t off p q leaf other
+  pub differ : leaf ≢ other
+
+-- at any two such points a function gives the same
+abbrev pub AreAlikeBy : {L X : Type 0} → (L → X) → List ℕ → Plain L → L → Type 0
+AreAlikeBy {L} f tops t off = (p q : List ℕ) (a b : L) → HaveNear tops t off p q a b → f a ≡ f b
+
+-- each value of the tree is among these
+abbrev pub HasValuesAmong : {L : Type 0} → Plain L → List L → Type 0
+HasValuesAmong {L} t keys = (p : List ℕ) (a : L) → value t p ≡ Some a → Contains keys a
+
+-- Bits of places
+
+-- the place of a leaf among others
+abbrev pub place_in : {L : Type 0} → (L → L → Bool) → List L → L → ℕ
+place_in eq keys x = unwrap_or (position (eq x) keys) 0
+
+-- the bit of a number that stands for this power of 2
+abbrev pub has_bit : ℕ → ℕ → Bool
+has_bit size n = nat_eq (n / size % 2) 1
+
+-- the leaf counts, and the bit of its place is set, or it isn't
+abbrev pub is_marked : {L : Type 0} → (L → L → Bool) → L → List L → ℕ → Bool → L → Bool
+is_marked eq off keys size set x = not (eq x off) && (if set then has_bit size (place_in eq keys x) else not (has_bit size (place_in eq keys x)))

@@ -1,0 +1,140 @@
+//! Points that agree in all but flags and ICMP types and have different leaves.
+
+ghost use Rattle.std.specs.Prelude.{◌≡◌, ◌<◌, List, IfOk, MatchOption, All, Contains};
+ghost use Rattle.fws_place.specs.Apart.{has_bit, is_marked, place_in, AreAlikeBy, AreApart, HasValuesAmong};
+
+use crate::true_near::true_together;
+use fws_box::Point;
+use fws_num::Memory;
+use fws_tree::{Leaf, Relabelling, Tree};
+use indexmap::IndexSet;
+use std::alloc::Global;
+
+// The leaves, each once. An error is want of memory.
+fn once<L: Leaf>(alloc: Global, leaves: &[L]) -> Result<IndexSet<L>, Memory>
+    ensures { IfOk result (λ kept. All (Contains kept.keys) leaves.now) }
+{
+    let mut kept = IndexSet::new(alloc);
+    for leaf in leaves {
+        kept.insert(leaf.copy(alloc)?)?;
+    }
+    Ok(kept)
+}
+
+// The place of a leaf among others.
+fn place_in<L: Leaf>(kept: &IndexSet<L>, leaf: &L) -> u64
+    ensures { result ≡ place_in L.PartialEq.eq kept.now.keys leaf.now }
+{
+    match kept.get_index_of(leaf) {
+        Some(place) => place as u64,
+        None => 0,
+    }
+}
+
+// Whether the bit of a number that stands for this power of 2 is set.
+fn has_bit(size: u64, number: u64) -> bool
+    requires { 0 < size }
+    ensures { result ≡ has_bit size number }
+{
+    number / size % 2 == 1
+}
+
+/// Whether a leaf counts and the bit of its place is set, or isn't.
+#[derive(Drop)]
+struct ByBit<'a, L: Leaf> {
+    /// The leaf that doesn't count.
+    off: &'a L,
+    /// Those that have a place.
+    kept: &'a IndexSet<L>,
+    /// The power of 2 for which the bit stands.
+    size: u64,
+    /// Whether it is to be set.
+    set: bool,
+    ghost some: { 0 < size },
+}
+
+// Whether the leaf counts and its bit is as it is to be.
+fn is_marked<L: Leaf>(by: &ByBit<'_, L>, leaf: &L) -> bool
+    ensures { result ≡ is_marked L.PartialEq.eq by.now.off.now by.now.kept.now.keys by.now.size by.now.set leaf.now }
+{
+    if *leaf == *by.off {
+        return false;
+    }
+    let bit = has_bit(by.size, place_in(by.kept, leaf));
+    if by.set { bit } else { !bit }
+}
+
+impl<L: Leaf> Relabelling<L, bool> for ByBit<'_, L> {
+    ghost use Rattle.fws_place.specs.Apart.{is_marked};
+
+    ghost gives = { λ s x. is_marked L.PartialEq.eq s.off.now s.kept.now.keys s.size s.set x };
+
+    fn leaf(&self, _alloc: Global, leaf: &L) -> Result<bool, Memory> {
+        Ok(is_marked(self, leaf))
+    }
+}
+
+// Two points that agree in all but flags and ICMP types and have leaves that count, of whose places the bit for this power
+// of 2 differs. An error is want of memory.
+fn apart_by<L: Leaf>(
+    alloc: Global,
+    tree: &Tree<L>,
+    off: &L,
+    kept: &IndexSet<L>,
+    size: u64,
+) -> Result<Option<(Point, Point)>, Memory>
+    requires { 0 < size }
+    ensures { IfOk result (λ found. MatchOption found (AreAlikeBy (λ x. has_bit size (place_in L.PartialEq.eq kept.now.keys x)) tree.now.0 tree.now.1 off.now) (λ pair. AreApart tree.now.0 tree.now.1 off.now pair.0 pair.1)) }
+{
+    let set = ByBit {
+        off,
+        kept,
+        size,
+        set: true,
+    };
+    let clear = ByBit {
+        off,
+        kept,
+        size,
+        set: false,
+    };
+    let first = tree.relabel(alloc, &set)?;
+    let second = tree.relabel(alloc, &clear)?;
+    true_together(alloc, &first, &second)
+}
+
+// Two points that agree in all but flags and ICMP types and have different leaves that count, where those that are kept are
+// all of the tree's. An error is want of memory.
+fn apart_among<L: Leaf>(
+    alloc: Global,
+    tree: &Tree<L>,
+    off: &L,
+    kept: &IndexSet<L>,
+) -> Result<Option<(Point, Point)>, Memory>
+    requires { HasValuesAmong tree.now.1 kept.now.keys }
+    ensures { IfOk result (λ found. MatchOption found (AreAlikeBy (λ x. x) tree.now.0 tree.now.1 off.now) (λ pair. AreApart tree.now.0 tree.now.1 off.now pair.0 pair.1)) }
+{
+    let count = kept.len() as u64;
+    let mut size: u64 = 1;
+    while size < count {
+        if let Some(found) = apart_by(alloc, tree, off, kept, size)? {
+            return Ok(Some(found));
+        }
+        size *= 2;
+    }
+    Ok(None)
+}
+
+/// Two points that agree in all but flags and ICMP types and have different leaves, neither of which is the one that
+/// doesn't count, if there are any. An error is want of memory. The work is that of a few changes of the tree for each
+/// binary digit of the number of leaves.
+pub(crate) fn apart<L: Leaf>(
+    alloc: Global,
+    tree: &Tree<L>,
+    off: &L,
+) -> Result<Option<(Point, Point)>, Memory>
+    ensures { IfOk result (λ found. MatchOption found (AreAlikeBy (λ x. x) tree.now.0 tree.now.1 off.now) (λ pair. AreApart tree.now.0 tree.now.1 off.now pair.0 pair.1)) }
+{
+    let kept = once(alloc, tree.shared().leaves)?;
+    apart_among(alloc, tree, off, &kept)
+}
