@@ -1,0 +1,17 @@
+pub mod Basics
+pub mod Conds
+pub mod Drafts
+pub mod Laws
+pub mod LineWords
+pub mod LinesPut
+pub mod LinesTaken
+pub mod NamesRead
+pub mod NatsRead
+pub mod OptionsRead
+pub mod ReadBack
+pub mod RulesRead
+pub mod Shapes
+pub mod TagNames
+pub mod TargetsRead
+pub mod ValuesRead
+pub mod WordsWritten

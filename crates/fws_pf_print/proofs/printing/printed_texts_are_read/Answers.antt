@@ -1,0 +1,13 @@
+use Rattle.fws_pf_print.proofs.ReadBack.{printed_read}
+use Rattle.fws_pf_print.proofs.printing.printed_texts_are_read.Goals as goal
+
+pub returns : goal.returns
+returns c = printed_read (record {
+  decimals = c.decimals_are_read.ensures;
+  quads = c.quads_are_dotted.ensures;
+  prefixes = c.prefixes_are_read.ensures;
+  digits = c.numbers_are_digits.ensures;
+  dotted_bytes = c.addresses_are_dotted.ensures;
+  splits = c.splits_back.ensures;
+  lines = c.lines_are_read.ensures;
+})
