@@ -1,0 +1,9 @@
+pub mod Conding
+pub mod Deciding
+pub mod Hitting
+pub mod Leading
+pub mod Moving
+pub mod Passing
+pub mod Proper
+pub mod Stating
+pub mod Walking

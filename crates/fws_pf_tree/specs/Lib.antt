@@ -1,0 +1,9 @@
+pub mod Blocks
+pub mod Conds
+pub mod Filters
+pub mod Literals
+pub mod Pieces
+pub mod Planned
+pub mod Rules
+pub mod States
+pub mod Stating

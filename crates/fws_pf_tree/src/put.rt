@@ -1,0 +1,78 @@
+//! The filter rules of a tree.
+
+ghost use Rattle.std.specs.Prelude.{◌≡◌, ◌++◌, List, length, IfOk, OnOk};
+ghost use Rattle.fws_pf.specs.declared.config.PfRule.{PfRule};
+ghost use Rattle.fws_pf_tree.specs.Blocks.{AreMoves};
+ghost use Rattle.fws_pf_tree.specs.Filters.{IsFilter};
+ghost use Rattle.fws_pf_tree.specs.Planned.{IsPlanned};
+ghost use Rattle.fws_pf_tree.specs.Rules.{block_all};
+
+use crate::nodes::put_node;
+use crate::passes::put_passes;
+use crate::plan::Plan;
+use fws_net::{Cond, Outcome};
+use fws_num::{Items, Memory};
+use fws_pf::{PfRule, Way};
+use fws_sight::{
+    cut_nodes_part_values, leaf_nodes_are_leaves, seen_fields_agree, unseen_fields_are_open,
+};
+use std::alloc::Global;
+
+// A rule that blocks every packet, unless a later one matches.
+fn blocking(alloc: Global) -> PfRule
+    ensures { result ≡ block_all }
+{
+    PfRule {
+        pass: false,
+        way: Way::Both,
+        quick: false,
+        cond: Cond::new(alloc),
+        tag: None,
+        keep: false,
+    }
+}
+
+// So many sums of 0.
+fn zeros(alloc: Global, n: usize) -> Result<Vec<usize>, Memory>
+    ensures { IfOk result (λ sums. length sums.items ≡ n) }
+{
+    let mut sums = Vec::new(alloc);
+    for _i in 0..n {
+        sums.push(0)?;
+    }
+    Ok(sums)
+}
+
+// For each node, from the last one to the first, appends its rules.
+fn put_moves(alloc: Global, rules: &mut Items<PfRule>, plan: &Plan<'_>) -> Result<(), Memory>
+    requires { IsPlanned plan.now.site.now plan.now.tree.now.0 plan.now.tree.now.1 plan.now.leaves.now plan.now.nodes.now plan.now.states.now }
+    ensures { OnOk result ((block : List PfRule) × (rules.new ≡ rules.old ++ block) × AreMoves plan.now.site.now plan.now.tree.now.0 plan.now.leaves.now plan.now.nodes.now plan.now.states.now 0 block) }
+{
+    cut_nodes_part_values::<Outcome>();
+    leaf_nodes_are_leaves::<Outcome>();
+    seen_fields_agree();
+    unseen_fields_are_open();
+    let mut sums = zeros(alloc, plan.nodes.len())?;
+    let mut k = plan.nodes.len();
+    while k > 0 {
+        k -= 1;
+        put_node(alloc, rules, plan, &mut sums, k)?;
+    }
+    Ok(())
+}
+
+/// Appends filter rules that decide what the nodes of the tree decide, for packets that have the tag of a
+/// node's state. An error is want of memory; rules may then stand behind the others.
+pub fn put_filter(alloc: Global, rules: &mut Items<PfRule>, plan: &Plan<'_>) -> Result<(), Memory>
+    requires { IsPlanned plan.now.site.now plan.now.tree.now.0 plan.now.tree.now.1 plan.now.leaves.now plan.now.nodes.now plan.now.states.now }
+    ensures { OnOk result ((block : List PfRule) × (rules.new ≡ rules.old ++ block) × IsFilter plan.now.site.now plan.now.tree.now.0 plan.now.leaves.now plan.now.nodes.now plan.now.states.now block) }
+{
+    cut_nodes_part_values::<Outcome>();
+    leaf_nodes_are_leaves::<Outcome>();
+    seen_fields_agree();
+    unseen_fields_are_open();
+    rules.put(blocking(alloc))?;
+    put_moves(alloc, rules, plan)?;
+    put_passes(alloc, rules, plan)?;
+    Ok(())
+}
