@@ -1,0 +1,16 @@
+pub mod Coming
+pub mod Conditions
+pub mod Ending
+pub mod Fields
+pub mod Joining
+pub mod Kids
+pub mod Laws
+pub mod Leading
+pub mod Leaves
+pub mod Listing
+pub mod Narrowed
+pub mod Pathing
+pub mod Points
+pub mod Starting
+pub mod Turning
+pub mod Written

@@ -1,0 +1,182 @@
+//! The translations of nodes.
+
+ghost use Rattle.std.specs.Prelude.{◌≡◌, ◌≤◌, ◌<◌, ◌++◌, ◌∷◌, [], ℕ, true, Some, List, length, IfOk, OnOk, slice_get, slice_index, MatchOption, IsTrue};
+ghost use Rattle.fws_net.specs.declared.site.Site.{Site};
+ghost use Rattle.fws_pf.specs.declared.config.PfNat.{PfNat};
+ghost use Rattle.fws_tree.specs.declared.node.Node.{Node};
+ghost use Rattle.fws_tree.specs.declared.node.Kid.{Kid};
+ghost use Rattle.fws_pf_list.specs.Blocks.{scene, AreNodeRules, root_nats, CutsFrom, IsPathTo, IsPlanned};
+ghost use Rattle.fws_pf_list.specs.Ends.{IsRoot, IsSettledAt};
+ghost use Rattle.fws_pf_list.specs.Paths.{number_of};
+ghost use Rattle.fws_pf_list.specs.Writings.{nats_of, IsPrintedPath, AreEndPaths, EndHasRoom};
+ghost use Rattle.fws_pf_list.specs.declared.ends.Ends.{Ends};
+ghost use Rattle.fws_pf_list.specs.declared.path.Path.{Path};
+
+use crate::ends::Ends;
+use crate::path::Path;
+use crate::rules::{put_rule, put_rules};
+use crate::sheet::Sheet;
+use crate::side::{Side, side_at};
+use crate::turns::cut_turns;
+use crate::writings::end_paths;
+use fws_net::{End, Outcome};
+use fws_num::{Items, Memory};
+use fws_pf::PfNat;
+use fws_sight::{cut_nodes_part_values, leaf_nodes_are_leaves, reached_values_are_told};
+use fws_tree::Node;
+use std::alloc::Global;
+
+// Whether the ends at a cut of this field are settled: there are none, there is one and what it is written over isn't cut,
+// or translations don't test the field, with which no end changes.
+fn is_settled(outward: bool, f: u8, ends: Ends) -> bool
+    ensures yes { IsTrue result → IsSettledAt outward f ends }
+    ensures root { IsRoot ends → IsTrue result }
+{
+    match ends {
+        Ends::Nothing => true,
+        Ends::One(None) => true,
+        Ends::One(Some(_)) => f >= if outward { 5 } else { 4 },
+        Ends::Many => f >= 6,
+    }
+}
+
+// The field by whose values packets go on at a cut, unless the ends are settled there.
+fn open_side(outward: bool, f: u8, ends: Ends) -> Option<Side>
+    ensures { MatchOption result (IsSettledAt outward f ends) (λ side. (number_of side ≡ f) × (IsRoot ends → ⊥)) }
+{
+    if is_settled(outward, f, ends) {
+        return None;
+    }
+    side_at(f)
+}
+
+// Appends the translations that write an end over packets on a path.
+fn put_end(
+    alloc: Global,
+    rules: &mut Items<PfNat>,
+    outward: bool,
+    path: Path,
+    end: End,
+    tag: u32,
+) -> Result<(), Memory>
+    requires { (site : Site) × IsPrintedPath site path }
+    ensures ok { OnOk result ((paths : List Path) × (rules.new ≡ rules.old ++ nats_of paths end tag) × ((site : Site) → IsPrintedPath site path → AreEndPaths site outward end path paths)) }
+    ensures room { EndHasRoom end }
+{
+    let paths = end_paths(alloc, outward, path, end)?;
+    put_rules(alloc, rules, paths.as_slice(), end, tag)?;
+    Ok(())
+}
+
+// Appends the translations of a node at which all accepted packets get this end, or none, for packets on a path.
+fn put_one(
+    alloc: Global,
+    rules: &mut Items<PfNat>,
+    sheet: &Sheet<'_>,
+    at: usize,
+    one: Option<End>,
+    path: Path,
+    falls: bool,
+) -> Result<(), Memory>
+    requires planned { IsPlanned (scene sheet.now.site.now sheet.now.tree.now.0 sheet.now.tree.now.1 sheet.now.leaves.now sheet.now.nodes.now sheet.now.states.now sheet.now.outward sheet.now.ends.now sheet.now.start) }
+    requires inside { at < length sheet.now.nodes.now }
+    requires good { IsPathTo (scene sheet.now.site.now sheet.now.tree.now.0 sheet.now.tree.now.1 sheet.now.leaves.now sheet.now.nodes.now sheet.now.states.now sheet.now.outward sheet.now.ends.now sheet.now.start) at path }
+    requires settled { (f : ℕ) (kids : List Kid) (e : Ends) → slice_get sheet.now.nodes.now at ≡ Some (Node.Cut f kids) → slice_get sheet.now.ends.now at ≡ Some e → IsSettledAt sheet.now.outward f e }
+    requires there { slice_get sheet.now.ends.now at ≡ Some (Ends.One one) }
+    ensures { OnOk result ((block : List PfNat) × (rules.new ≡ rules.old ++ block) × AreNodeRules (scene sheet.now.site.now sheet.now.tree.now.0 sheet.now.tree.now.1 sheet.now.leaves.now sheet.now.nodes.now sheet.now.states.now sheet.now.outward sheet.now.ends.now sheet.now.start) at path falls block) }
+{
+    cut_nodes_part_values::<Outcome>();
+    leaf_nodes_are_leaves::<Outcome>();
+    reached_values_are_told::<Outcome>();
+    match one {
+        Some(end) => put_end(alloc, rules, sheet.outward, path, end, sheet.states[at])?,
+        None => put_root(alloc, rules, sheet, path, falls)?,
+    }
+    Ok(())
+}
+
+// Appends the translations of a node whose ends are settled, for packets on a path.
+fn put_settled(
+    alloc: Global,
+    rules: &mut Items<PfNat>,
+    sheet: &Sheet<'_>,
+    at: usize,
+    path: Path,
+    falls: bool,
+) -> Result<(), Memory>
+    requires planned { IsPlanned (scene sheet.now.site.now sheet.now.tree.now.0 sheet.now.tree.now.1 sheet.now.leaves.now sheet.now.nodes.now sheet.now.states.now sheet.now.outward sheet.now.ends.now sheet.now.start) }
+    requires inside { at < length sheet.now.nodes.now }
+    requires good { IsPathTo (scene sheet.now.site.now sheet.now.tree.now.0 sheet.now.tree.now.1 sheet.now.leaves.now sheet.now.nodes.now sheet.now.states.now sheet.now.outward sheet.now.ends.now sheet.now.start) at path }
+    requires settled { (f : ℕ) (kids : List Kid) (e : Ends) → slice_get sheet.now.nodes.now at ≡ Some (Node.Cut f kids) → slice_get sheet.now.ends.now at ≡ Some e → IsSettledAt sheet.now.outward f e }
+    ensures { OnOk result ((block : List PfNat) × (rules.new ≡ rules.old ++ block) × AreNodeRules (scene sheet.now.site.now sheet.now.tree.now.0 sheet.now.tree.now.1 sheet.now.leaves.now sheet.now.nodes.now sheet.now.states.now sheet.now.outward sheet.now.ends.now sheet.now.start) at path falls block) }
+{
+    cut_nodes_part_values::<Outcome>();
+    leaf_nodes_are_leaves::<Outcome>();
+    reached_values_are_told::<Outcome>();
+    let ends = sheet.ends[at];
+    match ends {
+        Ends::One(one) => put_one(alloc, rules, sheet, at, one, path, falls)?,
+        Ends::Nothing => put_root(alloc, rules, sheet, path, falls)?,
+        Ends::Many => put_root(alloc, rules, sheet, path, falls)?,
+    }
+    Ok(())
+}
+
+// Appends the translation of packets on a path that get no end, unless they may pass.
+fn put_root(
+    alloc: Global,
+    rules: &mut Items<PfNat>,
+    sheet: &Sheet<'_>,
+    path: Path,
+    falls: bool,
+) -> Result<(), Memory>
+    requires planned { IsPlanned (scene sheet.now.site.now sheet.now.tree.now.0 sheet.now.tree.now.1 sheet.now.leaves.now sheet.now.nodes.now sheet.now.states.now sheet.now.outward sheet.now.ends.now sheet.now.start) }
+    requires good { IsPrintedPath sheet.now.site.now path }
+    ensures { OnOk result (rules.new ≡ rules.old ++ root_nats path falls (slice_index sheet.now.states.now sheet.now.start)) }
+{
+    if falls {
+        return Ok(());
+    }
+    put_rule(alloc, rules, path, None, sheet.states[sheet.start])?;
+    Ok(())
+}
+
+/// Appends the translations of a node for packets on the path. Those that get no end need none where they may fall
+/// to what stands behind. An error is want of memory.
+pub(crate) fn put_node(
+    alloc: Global,
+    rules: &mut Items<PfNat>,
+    sheet: &Sheet<'_>,
+    at: usize,
+    path: Path,
+    falls: bool,
+) -> Result<(), Memory>
+    requires planned { IsPlanned (scene sheet.now.site.now sheet.now.tree.now.0 sheet.now.tree.now.1 sheet.now.leaves.now sheet.now.nodes.now sheet.now.states.now sheet.now.outward sheet.now.ends.now sheet.now.start) }
+    requires few { length sheet.now.site.now.faces ≤ 62 }
+    requires inside { at < length sheet.now.nodes.now }
+    requires good { IsPathTo (scene sheet.now.site.now sheet.now.tree.now.0 sheet.now.tree.now.1 sheet.now.leaves.now sheet.now.nodes.now sheet.now.states.now sheet.now.outward sheet.now.ends.now sheet.now.start) at path }
+    requires inward { sheet.now.outward ≡ true → CutsFrom (scene sheet.now.site.now sheet.now.tree.now.0 sheet.now.tree.now.1 sheet.now.leaves.now sheet.now.nodes.now sheet.now.states.now sheet.now.outward sheet.now.ends.now sheet.now.start) at 1 }
+    ensures { OnOk result ((block : List PfNat) × (rules.new ≡ rules.old ++ block) × AreNodeRules (scene sheet.now.site.now sheet.now.tree.now.0 sheet.now.tree.now.1 sheet.now.leaves.now sheet.now.nodes.now sheet.now.states.now sheet.now.outward sheet.now.ends.now sheet.now.start) at path falls block) }
+{
+    cut_nodes_part_values::<Outcome>();
+    match &sheet.nodes[at] {
+        Node::Leaf(_) => put_settled(alloc, rules, sheet, at, path, falls)?,
+        Node::Cut(f, kids) => match open_side(sheet.outward, *f, sheet.ends[at]) {
+            None => put_settled(alloc, rules, sheet, at, path, falls)?,
+            Some(side) => {
+                let turns = cut_turns(alloc, sheet, at, side, kids.as_slice(), path, falls)?;
+                for turn in turns.as_slice() {
+                    put_node(
+                        alloc,
+                        rules,
+                        sheet,
+                        turn.node as usize,
+                        turn.path,
+                        turn.falls,
+                    )?;
+                }
+            }
+        },
+    }
+    Ok(())
+}
