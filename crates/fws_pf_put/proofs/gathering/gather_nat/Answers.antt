@@ -1,0 +1,15 @@
+use Rattle.std.proofs.Common.{List, option_map, subst}
+use Rattle.fws_net.specs.declared.condition.Lit.{Lit}
+use Rattle.fws_pf_print.specs.Printable.{behind_cond, behind_put}
+use Rattle.fws_pf_put.specs.Renumbered.{Gathers, renamed_cond}
+use Rattle.fws_pf_put.proofs.Numbering.{both_gathered}
+use Rattle.fws_pf_put.proofs.gathering.gather_nat.Goals as goal
+
+pub returns : goal.returns
+returns c =
+    let nat = c.args.nat.now in
+    both_gathered c.args.tags.now.keys c.gather_put.new.tags.keys c.gather_cond.new.tags.keys
+    (λ f known. behind_put (option_map f nat.tag) known) (λ f known. behind_cond (renamed_cond f nat.cond) known)
+    c.in_ok-gather_put.ensures
+    (subst (λ (lits : List Lit). Gathers c.gather_put.new.tags.keys c.gather_cond.new.tags.keys (λ f known. behind_cond (renamed_cond f lits) known))
+    c.lits.ensures c.in_ok-gather_cond.ensures)

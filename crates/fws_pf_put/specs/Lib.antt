@@ -1,0 +1,6 @@
+pub mod Blocks
+pub mod Drafted
+pub mod Gathered
+pub mod Placed
+pub mod Renumbered
+pub mod Sources

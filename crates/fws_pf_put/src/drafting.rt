@@ -1,0 +1,170 @@
+//! Configurations whose tags are the numbers of states.
+
+ghost use Rattle.std.specs.Prelude.{◌≡◌, ◌++◌, true, false, length, List, IfOk, OnOk};
+ghost use Rattle.fws_net.specs.Points.{tops_of};
+ghost use Rattle.fws_net.specs.Routes.{IsSound};
+ghost use Rattle.fws_net.specs.declared.packet.Lang.TheVariants as langs;
+ghost use Rattle.fws_pf.specs.declared.config.PfNat.{PfNat};
+ghost use Rattle.fws_pf.specs.declared.config.PfRule.{PfRule};
+ghost use Rattle.fws_pf_list.specs.Translations.{IsTranslations};
+ghost use Rattle.fws_pf_tree.specs.Filters.{IsFilter};
+ghost use Rattle.fws_place.specs.Fits.{Fits};
+ghost use Rattle.fws_tree.specs.Regular.{AreRegular};
+ghost use Rattle.fws_pf_put.specs.Drafted.{IsDrafted, IsFitting};
+ghost use Rattle.fws_pf_put.specs.Gathered.{TellSources, rewrite_at};
+ghost use Rattle.fws_pf_put.specs.Sources.{AreSources};
+
+use crate::ends::Sources;
+use crate::gathered::sources_of;
+use crate::states::put_sources;
+use fws_iv::Ivs;
+use fws_net::{Outcome, Site};
+use fws_num::{Items, Memory};
+use fws_pf::{PfConfig, PfNat, PfRule};
+use fws_pf_tree::{put_filter, states_of};
+use fws_place::{
+    lost_pairs_are_dropped, pf_destinations_agree, pf_host_sources_agree, pf_keeps_new_packets,
+    pf_pairs_pass, points_are_of_pairs, points_are_seen, views_are_told,
+};
+use fws_sight::{leaf_nodes_are_leaves, reached_values_are_told, seen_points_are_topped};
+use fws_tree::{Node, Tables};
+use std::alloc::Global;
+
+/// What a configuration is made of.
+#[derive(Clone, Copy)]
+pub struct Ground<'a> {
+    /// The site.
+    pub site: &'a Site,
+    /// The tables.
+    pub tables: &'a Tables,
+    /// The leaves of the tree of new packets.
+    pub leaves: &'a [Outcome],
+    /// Its nodes.
+    pub nodes: &'a [Node],
+    /// Their states.
+    pub states: &'a [u32],
+}
+
+/// Puts the translations of a pass. An error is want of memory.
+fn put_pass(
+    alloc: Global,
+    nats: &mut Items<PfNat>,
+    ground: &Ground<'_>,
+    outward: bool,
+) -> Result<(), Memory>
+    requires { IsFitting ground.now.site.now ground.now.tables.now ground.now.leaves.now ground.now.nodes.now ground.now.states.now }
+    ensures { OnOk result ((block : List PfNat) × (nats.new ≡ nats.old ++ block) × IsTranslations ground.now.site.now (tops_of ground.now.site.now) ground.now.tables.now.fresh.1 ground.now.leaves.now ground.now.nodes.now ground.now.states.now outward block) }
+{
+    views_are_told();
+    points_are_of_pairs();
+    pf_destinations_agree();
+    pf_host_sources_agree();
+    pf_keeps_new_packets();
+    let plan = fws_pf_list::Plan {
+        site: ground.site,
+        tree: &ground.tables.fresh,
+        leaves: ground.leaves,
+        nodes: ground.nodes,
+        states: ground.states,
+        outward,
+    };
+    fws_pf_list::put_list(alloc, nats, &plan)?;
+    Ok(())
+}
+
+/// The translations of packets that go out: those of sources by the tags of states, and behind them those of the host. An
+/// error is want of memory.
+fn outward_nats(
+    alloc: Global,
+    ground: &Ground<'_>,
+    sources: &Sources,
+) -> Result<Items<PfNat>, Memory>
+    requires { IsFitting ground.now.site.now ground.now.tables.now ground.now.leaves.now ground.now.nodes.now ground.now.states.now }
+    ensures { IfOk result (λ nats. (first : List PfNat) × (host : List PfNat) × (nats ≡ first ++ host) × AreSources (rewrite_at ground.now.leaves.now ground.now.nodes.now ground.now.states.now) sources.now.ends.keys sources.now.sets.items (length ground.now.nodes.now) first × IsTranslations ground.now.site.now (tops_of ground.now.site.now) ground.now.tables.now.fresh.1 ground.now.leaves.now ground.now.nodes.now ground.now.states.now true host) }
+{
+    let mut nats = Items::new(alloc);
+    put_sources(
+        alloc,
+        &mut nats,
+        ground.leaves,
+        ground.nodes,
+        ground.states,
+        sources,
+    )?;
+    put_pass(alloc, &mut nats, ground, true)?;
+    Ok(nats)
+}
+
+/// The translations of packets that come in. An error is want of memory.
+fn inward_nats(alloc: Global, ground: &Ground<'_>) -> Result<Items<PfNat>, Memory>
+    requires { IsFitting ground.now.site.now ground.now.tables.now ground.now.leaves.now ground.now.nodes.now ground.now.states.now }
+    ensures { IfOk result (IsTranslations ground.now.site.now (tops_of ground.now.site.now) ground.now.tables.now.fresh.1 ground.now.leaves.now ground.now.nodes.now ground.now.states.now false) }
+{
+    let mut nats = Items::new(alloc);
+    put_pass(alloc, &mut nats, ground, false)?;
+    Ok(nats)
+}
+
+/// The filter rules. An error is want of memory.
+fn filter_rules(alloc: Global, ground: &Ground<'_>) -> Result<Items<PfRule>, Memory>
+    requires { IsFitting ground.now.site.now ground.now.tables.now ground.now.leaves.now ground.now.nodes.now ground.now.states.now }
+    ensures { IfOk result (IsFilter ground.now.site.now (tops_of ground.now.site.now) ground.now.leaves.now ground.now.nodes.now ground.now.states.now) }
+{
+    views_are_told();
+    let plan = fws_pf_tree::Plan {
+        site: ground.site,
+        tree: &ground.tables.fresh,
+        leaves: ground.leaves,
+        nodes: ground.nodes,
+        states: ground.states,
+    };
+    let mut rules = Items::new(alloc);
+    put_filter(alloc, &mut rules, &plan)?;
+    Ok(rules)
+}
+
+/// The configuration of tables that fit, for the states of the nodes. An error is want of memory.
+fn draft_of(alloc: Global, ground: &Ground<'_>) -> Result<PfConfig, Memory>
+    requires { IsFitting ground.now.site.now ground.now.tables.now ground.now.leaves.now ground.now.nodes.now ground.now.states.now }
+    ensures { IfOk result (IsDrafted ground.now.site.now ground.now.tables.now) }
+{
+    views_are_told();
+    points_are_seen();
+    pf_keeps_new_packets();
+    pf_pairs_pass();
+    lost_pairs_are_dropped();
+    reached_values_are_told::<Outcome>();
+    seen_points_are_topped();
+    leaf_nodes_are_leaves::<Outcome>();
+    let _tops = ground.tables.fresh.tops();
+    let sources = sources_of(alloc, &ground.tables.fresh)?;
+    let nat = outward_nats(alloc, ground, &sources)?;
+    let rdr = inward_nats(alloc, ground)?;
+    let filter = filter_rules(alloc, ground)?;
+    Ok(PfConfig {
+        skip: Ivs::none(alloc),
+        rdr,
+        nat,
+        filter,
+        tags: Items::new(alloc),
+    })
+}
+
+/// The configuration of tables that fit, whose tags are the numbers of states. An error is want of memory.
+pub(crate) fn drafted(alloc: Global, site: &Site, tables: &Tables) -> Result<PfConfig, Memory>
+    requires sound { IsSound site.now }
+    requires regular { AreRegular site.now tables.now }
+    requires fits { Fits langs.Pf site.now tables.now }
+    ensures { IfOk result (IsDrafted site.now tables.now) }
+{
+    let shared = tables.fresh.shared();
+    let states = states_of(alloc, shared.leaves, shared.nodes)?;
+    let ground = Ground {
+        site,
+        tables,
+        leaves: shared.leaves,
+        nodes: shared.nodes,
+        states: states.as_slice(),
+    };
+    draft_of(alloc, &ground)
+}
