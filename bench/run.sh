@@ -59,6 +59,12 @@ echo 'family sources seconds megabytes rows'
 rules_in pf expanded 10 400
 python3 "$top/bench/ratio.py" pf decided 4000 4 "$program" "$site" || status=1
 
+echo 'family uses seconds megabytes'
+for family in repeated joined defined typed; do
+    python3 "$top/bench/refused.py" pf "$family" 100000 2 1024 'line 2 expand' "$program" "$site" || status=1
+done
+python3 "$top/bench/refused.py" pf passed 100000 2 1024 'line 2 syntax' "$program" "$site" || status=1
+
 python3 "$top/bench/ratio.py" ios applied 4000 2 "$program" "$site" || status=1
 python3 "$top/bench/make_site.py" 256 >"$work/site" || exit 1
 python3 "$top/bench/ratio.py" ios bordered 64 2 "$program" "$work/site" || status=1
@@ -92,6 +98,10 @@ translated applied 1000 ios iptables /300
 translated router 13 iptables ipfw 5736 "$top/examples/router.saved"
 translated loaded 400 iptables ipfw 136000
 translated loaded 4000 iptables ipfw 1154000
+translated router 13 iptables pf 5518 "$top/examples/router.saved"
+translated loaded 400 iptables pf 120000
+translated loaded 4000 iptables pf /70
+translated decided 1000 pf pf /150
 
 echo 'family mebibytes seconds megabytes'
 for size in 0.5 1 2 4; do

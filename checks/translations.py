@@ -1,12 +1,16 @@
 """python3 checks/translations.py, at the top of the repository; checks/translations.sh says how it is called
 
-Translates to iptables and ipfw the configurations of examples/ and those of which crates/fws_rows/args knows a table, from the
+Translates to iptables, ipfw and pf the configurations of examples/ and those of which crates/fws_rows/args knows a table, from the
 language that each has, with the built program. What is checked of each:
 
 - The status is 0; or it is 1 with a line that names packets, where the target, the site and the configuration stand in UNPLACED.
+  Any other configuration is placed on pf exactly where its table of established packets drops none but lost ones: else a packet is
+  named that this table drops.
   The rules of checks/placing have the status and the line of LINES.
 - The text, read back, has the two tables of the configuration that it was made of.
 - A text of ipfw keeps what its tool asks for: at most 31 networks and 30 ranges of ports in a list, and lines of at most 4,095 bytes.
+- A text of pf keeps what pf.conf(5) asks for: options of a line in their order, translations ahead of filter rules, names of tags of at most 63 bytes,
+  `static-port` behind each end of `nat`, and `flags` and `keep state` on each rule that passes packets.
 - A text of iptables keeps what iptables-restore asks for: no blank behind COMMIT; at most 15 ports in a list, where a range counts as two,
   and none of port 0 alone; no -i in OUTPUT and POSTROUTING, no -o in PREROUTING and INPUT; names of chains of at most 28 bytes.
 - Where iptables-restore or iptables-nft-restore is installed and may be tried, it takes the text with --test; unless an interface
@@ -16,6 +20,7 @@ And that a trace of the router's translation says of packets what one of the rou
 goes wrong, and last how many went right. Exit status 1 where one went wrong.
 """
 
+import ipaddress
 import os
 import re
 import shutil
@@ -58,6 +63,16 @@ UNPLACED = {
     ('ipfw', 'S', 'mapped-drop.rules'): ('not placeable on ipfw clause 17: ', {}),
     ('ipfw', 'S', 'mapped.pf'): ('not placeable on ipfw clause 17: ', {}),
     ('ipfw', 'S', 'mapped-source.pf'): ('not placeable on ipfw clause 17: ', {}),
+    # the same redirects of ports, and the host's own packets to port 80, on pf
+    ('pf', 'office.site', 'office.ipfw'): ('not placeable on pf clause 2: ', {1: '6', 4: '10.0.0.5', 5: '8080'}),
+    ('pf', 'site.txt', 'office.ipfw'): ('not placeable on pf clause 2: ', {1: '6', 4: '10.0.0.5', 5: '8080'}),
+    ('pf', 'branch.site', 'branch.ios'): ('not placeable on pf clause 2: ', {1: '6', 4: '10.0.0.5', 5: '8080'}),
+    ('pf', 'branch', 'branch.ios'): ('not placeable on pf clause 2: ', {1: '6', 4: '10.0.0.5', 5: '8080'}),
+    ('pf', 'S', 'router.ios'): ('not placeable on pf clause 2: ', {1: '6', 4: '10.0.0.5', 5: '8080'}),
+    ('pf', 'S', 'static-port.ios'): ('not placeable on pf clause 2: ', {1: '6', 4: '10.0.0.5', 5: '8080'}),
+    ('pf', 'S', 'static-filtered.ios'): ('not placeable on pf clause 2: ', {1: '6', 4: '10.0.0.5', 5: '8080'}),
+    ('pf', 'S', 'static-first.ios'): ('not placeable on pf clause 2: ', {4: '10.0.0.5', 5: '53'}),
+    ('pf', 'S', 'redirect.rules'): ('not placeable on pf clause 3: ', {0: 'host', 3: '80'}),
 }
 
 # Rules of checks/placing at the site S of the worked tables: the target, and what the line of status 1 is; none where they are placed.
@@ -69,12 +84,17 @@ LINES = [
     ('ipfw', 'left-late.rules', None),
     ('ipfw', 'every-server.rules', r'clause 6: (lo|lan|wan) 6 \S+ 80( \S+){4}'),
     ('ipfw', 'closed.rules', None),
+    ('pf', 'closed.rules', r'clause 8: \S+( \S+){11}'),
+    ('pf', 'forgotten.rules', r'clause 8: \S+( \S+){11}'),
+    ('pf', 'begun.rules', r'clause 9: (lo|lan|wan) 6 203\.0\.113\.2 80( \S+){4} with (lo|lan|wan) 6 203\.0\.113\.2 80( \S+){4}'),
+    ('pf', 'handed-out.rules', r'clause 3: host \d+ 198\.51\.100\.9( \S+){5}'),
+    ('pf', 'left-late.rules', r'clause 8: host( \S+){11}'),
 ]
 
 # How many words name what breaks a clause, beside those on packets of connections.
-PACKET_WORDS = {'2': 8, '3': 8, '6': 8, '17': 8}
+PACKET_WORDS = {'2': 8, '3': 8, '4': 8, '6': 8, '17': 8}
 
-TARGETS = ('iptables', 'ipfw')
+TARGETS = ('iptables', 'ipfw', 'pf')
 
 # The examples: language, site and configuration.
 EXAMPLE_FILES = [
@@ -146,6 +166,37 @@ def ipfw_faults(text):
                 yield 'a long list: ' + line[:80]
 
 
+# The forms of pf.conf(5), with the options of a line in their order: one of these ahead of the hosts, and behind them for each kind of rule.
+PF_HOST = r'(?:any|\d+(?:\.\d+){3}(?:/\d+)?|\d+(?:\.\d+){3} - \d+(?:\.\d+){3})'
+PF_PORT = r'(?: port (?:= )?\w+(?::\w+)?)?'
+PF_HEAD = r'(?: on (?:"[^"]+"|\S+))?(?: inet)?(?: proto \S+)?(?: all| from %s%s to %s%s| from %s%s| to %s%s)?' % ((PF_HOST, PF_PORT) * 4)
+PF_TAG = r'(?:"[^"]+"|[A-Za-z_]\w{0,62})'
+PF_FORMS = [
+    ('rdr', r'no rdr%s(?: tag %s)?(?: tagged %s)?' % (PF_HEAD, PF_TAG, PF_TAG)),
+    ('rdr', r'rdr%s(?: tag %s)?(?: tagged %s)? -> \S+(?: bitmask| port \S+)?' % (PF_HEAD, PF_TAG, PF_TAG)),
+    ('nat', r'no nat%s(?: tag %s)?(?: tagged %s)?' % (PF_HEAD, PF_TAG, PF_TAG)),
+    ('nat', r'nat%s(?: tag %s)?(?: tagged %s)? -> \S+(?: bitmask)? static-port' % (PF_HEAD, PF_TAG, PF_TAG)),
+    ('filter', r'block(?: drop)?(?: in| out)?%s(?: flags [FSRPAU]*/[FSRPAU]+| icmp-type \w+)?(?: tagged %s)?(?: tag %s)?' % (PF_HEAD, PF_TAG, PF_TAG)),
+    ('filter', r'pass(?: in| out)?%s(?: tagged %s)? flags (?:any|[FSRPAU]*/[FSRPAU]+) keep state' % (PF_HEAD, PF_TAG)),
+]
+
+
+def pf_faults(text):
+    """What pf's tool would not take of the text."""
+    sections = []
+    for line in text.splitlines():
+        if line and not line.startswith('#'):
+            found = [section for section, form in PF_FORMS if re.fullmatch(form, line)]
+            if not found:
+                yield 'a line of no form: ' + line[:80]
+            sections += found
+    if sections != sorted(sections, key=('rdr', 'nat', 'filter').index):
+        yield 'sections that are out of order'
+
+
+FAULTS = {'iptables': faults, 'ipfw': ipfw_faults, 'pf': pf_faults}
+
+
 def long_names(site):
     with open(site, encoding='utf-8') as file:
         return any(len(name) > 15 for name in re.findall(r' ipt=(\S+)', file.read()))
@@ -181,6 +232,49 @@ def unplaced(tally, job, status, text):
     tally.check(len(named) == wanted and all(named[place] == word for place, word in words.items()), name, 'names', *named)
 
 
+def numbers(side):
+    """The ranges of a side of addresses."""
+    for part in side.split(','):
+        first, _, last = part.partition('-')
+        yield tuple(int(ipaddress.IPv4Address(word)) for word in (first, last or first))
+
+
+def local(site):
+    """The ranges of the addresses of a site, and whether it forwards packets."""
+    with open(site, encoding='utf-8') as file:
+        text = file.read()
+    named = re.findall(r'^(?:interface \S+|address \S+) (\d+\.\d+\.\d+\.\d+)/', text, re.MULTILINE)
+    own = [(int(ipaddress.IPv4Address(word)),) * 2 for word in named]
+    return own + list(numbers('127.0.0.0-127.255.255.255')), 'forwarding yes' in text
+
+
+def drops_established(job):
+    """Whether the table of established packets drops one that isn't lost: on a host that doesn't forward, one of the host or to it."""
+    language, site, name = job
+    own, forwards = local(site)
+    for line in run('synth', language, site, name, 'est')[1].splitlines()[1:]:
+        sides, outcome = line.split(' : ')
+        words = sides.split(' ')
+        to_it = words[8] == '*' or any(low <= last and first <= high for first, last in numbers(words[8]) for low, high in own)
+        if outcome == 'drop' and (forwards or to_it or 'host' in words[0].split(',')):
+            return True
+    return False
+
+
+def dropped(tally, job, status, text):
+    """The line names an established packet that is dropped and isn't lost."""
+    language, site, name = job
+    begins = 'not placeable on pf clause 8: '
+    tally.check(status == 1 and text.startswith(begins), name, 'has status', status, text[:80])
+    words = text[len(begins):].split()
+    fields = ('entry', 'proto', 'dst', 'dport', 'src', 'sport', 'flags', 'icmp', 'rdst', 'rdport', 'rsrc', 'rsport')
+    asked = run('query', language, site, name, 'est', *('%s=%s' % pair for pair in zip(fields, words)))[1]
+    tally.check(len(words) == 12 and asked == 'query est 1\n%s : drop\n' % ' '.join(words), name, 'names', *words)
+    own, forwards = local(site)
+    arrives_here = words[8:] and any(low <= int(ipaddress.IPv4Address(words[8])) <= high for low, high in own)
+    tally.check(forwards or arrives_here or words[:1] == ['host'], name, 'names a lost packet', *words)
+
+
 def placed(tally, tools, work, target, job, text):
     language, site, name = job
     again = os.path.join(work, 'again')
@@ -189,7 +283,7 @@ def placed(tally, tools, work, target, job, text):
     for state in ('new', 'est'):
         same = run('synth', language, site, name, state) == run('synth', target, site, again, state)
         tally.check(same, name, 'has another table of', state, 'packets when it is translated')
-    found = list(faults(text) if target == 'iptables' else ipfw_faults(text))
+    found = list(FAULTS[target](text))
     tally.check(not found, name, *found[:1])
     for tool in () if target != 'iptables' or long_names(site) else tools:
         ended = subprocess.run([tool, '--test'], input=text.encode(), capture_output=True, check=False)
@@ -229,6 +323,8 @@ def main():
             bare = target, os.path.basename(site), os.path.basename(name)
             if bare in UNPLACED:
                 unplaced(tally, bare, status, text)
+            elif target == 'pf' and drops_established(job):
+                dropped(tally, job, status, text)
             else:
                 tally.check(status == 0, name, 'has status', status, text[:80])
                 placed(tally, tools, work, target, job, text)

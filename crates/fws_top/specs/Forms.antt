@@ -39,7 +39,10 @@ lang_of word =
 -- a language in which policies are written
 abbrev pub target_of : List ℕ → Option TargetLang
 target_of word =
-    if bytes_eq word (codes "iptables") then Some targets.Iptables else if bytes_eq word (codes "ipfw") then Some targets.Ipfw else None
+    if bytes_eq word (codes "iptables") then Some targets.Iptables
+    else if bytes_eq word (codes "ipfw") then Some targets.Ipfw
+    else if bytes_eq word (codes "pf") then Some targets.Pf
+    else None
 
 -- which packets a table is about
 abbrev pub state_of : List ℕ → Option State

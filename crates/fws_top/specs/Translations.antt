@@ -22,13 +22,16 @@ use Rattle.fws_net.specs.declared.site.Site.{Site}
 use Rattle.fws_net.specs.Connections.{fate_in}
 use Rattle.fws_net.specs.Reading.{Refusal}
 use Rattle.fws_num.specs.Numbers.{dotted}
+use Rattle.fws_pf.specs.FileText.{spelled as pf_spelled}
+use Rattle.fws_pf.specs.Walk.{walk as pf_walk}
+use Rattle.fws_pf_put.specs.Placed.{tracks as pf_tracks}
 use Rattle.fws_place.specs.declared.breach.Breach.{Breach}
 use Rattle.fws_place.specs.declared.breach.Pair.{Pair}
 use Rattle.fws_place.specs.Fits.{Fits, IsBreach, number_of}
 use Rattle.fws_place.specs.Meaning.{IsPacketOf, IsPairOf, new_of, est_of}
 use Rattle.fws_table.specs.TableText.{entry_name}
 use Rattle.fws_top.specs.declared.lang.TargetLang.{TargetLang}
-use Rattle.fws_top.specs.declared.lang.TargetLang.TheVariants.{Iptables, Ipfw}
+use Rattle.fws_top.specs.declared.lang.TargetLang.TheVariants.{Iptables, Ipfw, Pf}
 use Rattle.fws_top.specs.declared.status.Status.{Status}
 use Rattle.fws_top.specs.declared.status.Status.TheVariants as status
 use Rattle.fws_top.specs.Walked.{AreTablesOf}
@@ -52,17 +55,20 @@ pub record EmitsBy {C : Type 0} (spelled : List ℕ → Result C (Refusal Cause)
 abbrev pub Emits : TargetLang → Site → Tables → List ℕ → Type 0
 Emits Iptables site tables t = EmitsBy (ipt_spelled site) (ipt_tracks site) (λ config. ipt_walk config site) site tables t
 Emits Ipfw site tables t = EmitsBy (ipfw_spelled site) (ipfw_tracks site) (λ config. ipfw_walk config site) site tables t
+Emits Pf site tables t = EmitsBy (pf_spelled site) (pf_tracks site) (λ config. pf_walk config site) site tables t
 
 -- the system whose placement condition is asked for
 abbrev pub system_of : TargetLang → Lang
 system_of Iptables = langs.Iptables
 system_of Ipfw = langs.Ipfw
+system_of Pf = langs.Pf
 
 -- The line that names packets
 
 abbrev pub target_word : TargetLang → List ℕ
 target_word Iptables = codes "iptables"
 target_word Ipfw = codes "ipfw"
+target_word Pf = codes "pf"
 
 -- the words of a packet, as a trace reads them
 abbrev pub packet_words : Site → Packet → List (List ℕ)

@@ -68,6 +68,8 @@ fn read_target(word: &[u8]) -> Option<TargetLang>
         Some(TargetLang::Iptables)
     } else if are(word, b"ipfw") {
         Some(TargetLang::Ipfw)
+    } else if are(word, b"pf") {
+        Some(TargetLang::Pf)
     } else {
         None
     }

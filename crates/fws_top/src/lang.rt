@@ -20,4 +20,6 @@ pub enum TargetLang {
     Iptables,
     /// ipfw, as ipfw(8) takes its rules line by line.
     Ipfw,
+    /// pf of FreeBSD, as pfctl(8) loads its rules.
+    Pf,
 }

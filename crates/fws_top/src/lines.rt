@@ -173,6 +173,7 @@ pub(crate) fn target_word(target: TargetLang) -> &'static [u8]
     match target {
         TargetLang::Iptables => b"iptables",
         TargetLang::Ipfw => b"ipfw",
+        TargetLang::Pf => b"pf",
     }
 }
 

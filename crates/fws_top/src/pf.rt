@@ -1,10 +1,13 @@
-//! pf of FreeBSD as a source of policies.
+//! pf of FreeBSD as a source and a target of policies.
 
+use crate::language::Language;
 use crate::source::Source;
 use fws_ifcl::Ifcl;
 use fws_net::{ReadAnswer, Site};
-use fws_num::Memory;
+use fws_num::{Memory, Text};
 use fws_pf::PfConfig;
+use fws_place::PlaceAnswer;
+use fws_tree::Tables;
 use std::alloc::Global;
 
 /// pf of FreeBSD, as pf.conf(5) writes its rules.
@@ -34,5 +37,25 @@ impl Source for Pf {
 
     fn spelled_walks_are_regular() {
         fws_pf::spelled_walks_are_regular();
+    }
+}
+
+impl Language for Pf {
+    ghost use Rattle.fws_net.specs.declared.packet.Lang.TheVariants as langs;
+    ghost use Rattle.fws_pf_print.specs.Printable.{is_printable};
+    ghost use Rattle.fws_pf_put.specs.Placed.{tracks};
+
+    ghost system = { langs.Pf };
+
+    ghost printable = { λ site config. is_printable site config };
+
+    ghost tracks = { λ site config. tracks site config };
+
+    fn place(alloc: Global, t: &Tables, site: &Site) -> Result<PfConfig, PlaceAnswer> {
+        fws_pf_put::place(alloc, t, site)
+    }
+
+    fn print(alloc: Global, c: &PfConfig, site: &Site) -> Result<Text, Memory> {
+        fws_pf_print::print(alloc, c, site)
     }
 }

@@ -44,6 +44,14 @@ const HANDED_OUT: &[u8] =
 const UNANSWERED: &[u8] =
     b"*filter\n:INPUT ACCEPT [0:0]\n:FORWARD ACCEPT [0:0]\n:OUTPUT ACCEPT [0:0]\n-A INPUT -m state --state ESTABLISHED -j DROP\nCOMMIT\n";
 
+/// Packets that begin a connection to the router's port 80 go to an inner host, others to that port don't.
+const BEGUN: &[u8] =
+    b"*nat\n:PREROUTING ACCEPT [0:0]\n:INPUT ACCEPT [0:0]\n:OUTPUT ACCEPT [0:0]\n:POSTROUTING ACCEPT [0:0]\n-A PREROUTING -d 203.0.113.2/32 -p tcp -m tcp --dport 80 --tcp-flags FIN,SYN,RST,ACK SYN -j DNAT --to-destination 10.0.0.5\nCOMMIT\n*filter\n:INPUT ACCEPT [0:0]\n:FORWARD ACCEPT [0:0]\n:OUTPUT ACCEPT [0:0]\nCOMMIT\n";
+
+/// A network that is mapped to another one.
+const MAPPED: &[u8] =
+    b"*nat\n:PREROUTING ACCEPT [0:0]\n:INPUT ACCEPT [0:0]\n:OUTPUT ACCEPT [0:0]\n:POSTROUTING ACCEPT [0:0]\n-A PREROUTING -i eth1 -d 198.51.100.0/24 -j NETMAP --to 10.0.0.0/24\nCOMMIT\n";
+
 /// An ipfw rule that passes everything.
 const PASSING: &[u8] = b"add 100 allow ip from any to any\n";
 
@@ -205,7 +213,7 @@ fn answers(rt: HostRuntime) -> Result<(), Fail> {
         ),
         ("trace iptables S F C", Status::Usage, USAGE_LINE),
         ("translate iptables S F", Status::Usage, USAGE_LINE),
-        ("translate iptables pf S F", Status::Usage, USAGE_LINE),
+        ("translate iptables ios S F", Status::Usage, USAGE_LINE),
         (
             "translate iptables iptables S L",
             Status::Refused,
@@ -268,11 +276,12 @@ fn translations(rt: HostRuntime) -> Result<(), Fail> {
 
 /// The system of a target.
 fn system_of(target: TargetLang) -> Lang
-    ensures { (result ≡ langs.Iptables) ⊎ (result ≡ langs.Ipfw) }
+    ensures { (result ≡ langs.Iptables) ⊎ (result ≡ langs.Ipfw) ⊎ (result ≡ langs.Pf) }
 {
     match target {
         TargetLang::Iptables => Lang::Iptables,
         TargetLang::Ipfw => Lang::Ipfw,
+        TargetLang::Pf => Lang::Pf,
     }
 }
 
@@ -294,7 +303,7 @@ fn unmet(alloc: Global, target: TargetLang, bytes: &[u8]) -> Result<Option<Claus
 
 #[test]
 fn clauses(rt: HostRuntime) -> Result<(), Fail> {
-    let table: [(TargetLang, &[u8], Option<Clause>); 4] = [
+    let table: [(TargetLang, &[u8], Option<Clause>); 8] = [
         (TargetLang::Iptables, CLOSED, None),
         (TargetLang::Iptables, MARKED, Some(Clause::DropsByOneView)),
         (
@@ -307,6 +316,10 @@ fn clauses(rt: HostRuntime) -> Result<(), Fail> {
             UNANSWERED,
             Some(Clause::DropsAheadOfLookup),
         ),
+        (TargetLang::Pf, OPEN, None),
+        (TargetLang::Pf, CLOSED, Some(Clause::DropsNoEstablished)),
+        (TargetLang::Pf, BEGUN, Some(Clause::OneDestination)),
+        (TargetLang::Pf, MAPPED, None),
     ];
     for (target, bytes, expected) in table {
         assert_eq!(rt; unmet(rt.alloc(), target, bytes)?, expected);

@@ -17,6 +17,7 @@ use crate::iptables::Iptables;
 use crate::lang::TargetLang;
 use crate::language::Language;
 use crate::lines::breach_line;
+use crate::pf::Pf;
 use crate::status::Status;
 use crate::tables::tables;
 use fws_flat::Flat;
@@ -66,6 +67,7 @@ fn placed_in(
     match target {
         TargetLang::Iptables => placed::<Iptables>(alloc, target, site, tables),
         TargetLang::Ipfw => placed::<Ipfw>(alloc, target, site, tables),
+        TargetLang::Pf => placed::<Pf>(alloc, target, site, tables),
     }
 }
 
