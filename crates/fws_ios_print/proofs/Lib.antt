@@ -1,0 +1,14 @@
+pub mod Basics
+pub mod EntriesRead
+pub mod FacesRead
+pub mod Laws
+pub mod LinesPut
+pub mod LinesTaken
+pub mod ListsRead
+pub mod NamesDiffer
+pub mod NamesRead
+pub mod NatsRead
+pub mod ReadBack
+pub mod Shapes
+pub mod Sides
+pub mod ValuesRead

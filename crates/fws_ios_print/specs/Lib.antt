@@ -1,0 +1,4 @@
+pub mod Order
+pub mod Printable
+pub mod PrintedText
+pub mod ReadBack
