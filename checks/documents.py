@@ -2,11 +2,12 @@
 
 Checks README.md and docs/*.md; checks/documents.sh says how it is called and what it prints. What is checked:
 
-- In a fenced block that has a line beginning `$ ./fws`, each line beginning `$ ` is a command, and the lines behind it,
-  up to the next command or the end of the block, are exactly what it writes to standard output. Other blocks are left
-  aside.
+- In a fenced block that has a line beginning `$ ./fws` or `$ tools/`, each line beginning `$ ` is a command, and the lines
+  behind it, up to the next command or the end of the block, are exactly what it writes to standard output. Other blocks are
+  left aside.
 - A text in backquotes that begins `usage: ` is what the program writes without words; and each form that `--help` lists
-  stands in the README in backquotes, with `./fws` and without brackets.
+  stands in the page of the commands in backquotes, with `./fws` and without brackets.
+- The manual page and the completions say what `--help` says; checks/spoken.py has the particulars.
 - The map: each file crates/*/specs/*.antt but Lib.antt is named in the table below "Where the definitions are" of
   docs/ARCHITECTURE.md.
 - Each path that is named in backquotes is there, in the map and elsewhere. `path_of` says which words are paths, and
@@ -24,6 +25,12 @@ import shlex
 import subprocess
 import sys
 
+sys.dont_write_bytecode = True  # of the next line, into the checkout
+
+from spoken import check_spoken  # noqa: E402
+
+COMMANDS = 'docs/COMMANDS.md'
+CLAIMS = 'docs/CLAIMS.md'
 ARCHITECTURE = 'docs/ARCHITECTURE.md'
 MAP = '## Where the definitions are'
 CRATE_LIST = '## The crates'
@@ -31,7 +38,7 @@ PROGRAM = 'crates/fws/out/fws'
 SECONDS = 120  # that a command may take
 
 # What begins a path from the top, and a path within a crate.
-FOLDERS = ('crates/', 'docs/', 'bench/', 'checks/', 'examples/', '.ci/')
+FOLDERS = ('crates/', 'docs/', 'bench/', 'checks/', 'examples/', 'share/', 'tools/', '.ci/')
 CRATE_FOLDERS = ('src/', 'specs/', 'proofs/', 'must-fail/', 'data/')
 
 IN_CODE = re.compile(r'`([^`]+)`')
@@ -148,8 +155,9 @@ def output_of(command, program):
     """The lines that the command writes to standard output, with the program in place of ./fws where one is named."""
     if program:
         command = re.sub(r'(?<![\w./-])\./fws(?![\w./-])', lambda _: shlex.quote(program), command)
+    surroundings = {name: value for name, value in os.environ.items() if name != 'COLUMNS'}
     ended = subprocess.run(['timeout', str(SECONDS), 'bash', '-c', command], stdin=subprocess.DEVNULL,
-                           stdout=subprocess.PIPE, stderr=subprocess.DEVNULL, check=False)
+                           stdout=subprocess.PIPE, stderr=subprocess.DEVNULL, check=False, env=surroundings)
     if ended.returncode == 124:
         return ['more than %d seconds' % SECONDS]
     lines = ended.stdout.decode('utf-8', 'replace').split('\n')
@@ -186,7 +194,7 @@ def check_command(tally, name, number, command, shown, program):
 
 
 def check_forms(tally, documents, program):
-    """The usage text wherever it is named, and the forms of the commands in the README."""
+    """The usage text wherever it is named, and the forms of the commands in their page and elsewhere."""
     usage = output_of('./fws', program)
     named = set()
     for document in documents:
@@ -194,13 +202,15 @@ def check_forms(tally, documents, program):
             for code, line in passage.codes():
                 if code.startswith('usage: '):
                     tally.check([code] == usage, document.name, line, '`%s`, but `./fws` writes %r' % (code, usage))
-                if document.name == 'README.md':
+                if document.name == COMMANDS:
                     named.add(code)
-    forms = [line for line in output_of('./fws --help', program) if line.startswith('fws ')]
-    tally.check(forms, 'README.md', 1, '`./fws --help` lists no forms')
+    told = output_of('./fws --help', program)
+    forms = [line for line in told if line.startswith('fws ')]
+    tally.check(forms, COMMANDS, 1, '`./fws --help` lists no forms')
     for line in forms:
         form = './' + re.split(r'\s{2,}', line)[0].replace('[', '').replace(']', '')
-        tally.check(form in named, 'README.md', 1, '`%s` is not named, which --help lists' % form)
+        tally.check(form in named, COMMANDS, 1, '`%s` is not named, which --help lists' % form)
+    check_spoken(tally, documents, COMMANDS, told)
 
 
 def check_commands(tally, documents):
@@ -209,8 +219,8 @@ def check_commands(tally, documents):
         return
     check_forms(tally, documents, program)
     for document in documents:
-        blocks = [block for block in document.blocks if any(line.startswith('$ ./fws') for line in block.lines)]
-        if document.name == 'README.md':
+        blocks = [block for block in document.blocks if any(line.startswith(('$ ./fws', '$ tools/')) for line in block.lines)]
+        if document.name in ('README.md', COMMANDS):
             tally.check(blocks, document.name, 1, 'no block shows a command')
         for block in blocks:
             tally.check(block.lines[0].startswith('$ '), document.name, block.line, 'no command stands above this line')
@@ -371,7 +381,7 @@ COUNTED = (
     (r'\breads\s+(\d[\d,]*)\s+lines\s+and\s+texts\b', read_count),
 )
 
-# `rattle-kit-1 logic 0123`: the toolchain's line, as `rt version` writes it; the README has it
+# `rattle-kit-1 logic 0123`: the toolchain's line, as `rt version` writes it; the page of what is trusted has it
 TOOLCHAIN = re.compile(r'rattle-kit-[^`\n]*')
 
 
@@ -395,7 +405,7 @@ def check_toolchain(tally, documents):
         version = ''
     for document in documents:
         found = list(TOOLCHAIN.finditer(document.prose))
-        if document.name == 'README.md':
+        if document.name == CLAIMS:
             tally.check(found, document.name, 1, 'the line of the toolchain is not there')
         for line in found:
             tally.check(line[0] == version, document.name, line_of(document, line.start()), '%s: rt version says %s' % (

@@ -1,0 +1,168 @@
+"""Tries ./fws --install and --uninstall on a copy of what they need, below folders that may and may not be written to."""
+
+import os
+import shutil
+import stat
+import tempfile
+
+from common import PROGRAM, TOP, run, write
+
+NOBODY = 65534
+
+# What is put, and which of it can be run.
+PLACES = {
+    'bin/fws': 0o755, 'bin/fws-site-of-host': 0o755, 'bin/fws-view': 0o755, 'share/man/man1/fws.1': 0o644,
+    'share/bash-completion/completions/fws': 0o644, 'share/zsh/site-functions/_fws': 0o644,
+}
+
+
+def files_below(folder):
+    """Each file below a folder by its path from there, with its mode."""
+    found = {}
+    for place, _, names in os.walk(folder):
+        for name in names:
+            path = os.path.join(place, name)
+            found[os.path.relpath(path, folder)] = stat.S_IMODE(os.stat(path).st_mode)
+    return found
+
+
+def copy_checkout(folder):
+    """A checkout with a program that is newer than its one source."""
+    for name in ('fws', 'tools', 'share', 'crates.txt'):
+        source = os.path.join(TOP, name)
+        (shutil.copytree if os.path.isdir(source) else shutil.copy2)(source, os.path.join(folder, name))
+    os.makedirs(os.path.join(folder, 'crates/fws/out'))
+    shutil.copy(PROGRAM, os.path.join(folder, 'crates/fws/out/fws'))
+    for name in ('fws', 'tools/install.sh', 'tools/view', 'tools/site-of-host', 'crates/fws/out/fws'):
+        os.chmod(os.path.join(folder, name), 0o755)
+    os.utime(os.path.join(folder, 'crates.txt'), (0, 0))
+
+
+def said_lines(verb, prefix, places=PLACES):
+    return ''.join('fws: %s\n' % (verb % os.path.join(prefix, place)) for place in places)
+
+
+def check_put_and_take(tally, script, folder):
+    prefix = os.path.join(folder, 'a prefix/below')
+    status, _, said = run(script, '--install', prefix)
+    tally.check('install: status and lines', (0, said_lines('put %s', prefix)), (status, said))
+    tally.check('install: files', PLACES, files_below(prefix))
+    for name, source in (('bin/fws', PROGRAM), ('share/man/man1/fws.1', os.path.join(TOP, 'share/man/man1/fws.1'))):
+        with open(os.path.join(prefix, name), 'rb') as one, open(source, 'rb') as other:
+            tally.holds('install: %s' % name, one.read() == other.read(), 'differs')
+    tally.check('the installed program', (0, 'fws 0.1.0\n'), run(os.path.join(prefix, 'bin/fws'), '--version')[:2])
+    tally.holds('the installed view', run(os.path.join(prefix, 'bin/fws-view'), '--help')[1].startswith('usage: fws-view'))
+    tally.holds('the installed site-of-host',
+                run(os.path.join(prefix, 'bin/fws-site-of-host'), '--help')[1].startswith('usage: fws-site-of-host'))
+    write(os.path.join(prefix, 'bin/other'), 'another file\n')
+    tally.check('install once more', (0, said_lines('put %s', prefix)), run(script, '--install', prefix)[::2])
+    status, _, said = run(script, '--uninstall', prefix)
+    tally.check('uninstall: status and lines', (0, said_lines('took %s away', prefix)), (status, said))
+    tally.check('uninstall: files', ['bin/other'], list(files_below(prefix)))
+    tally.check('uninstall once more', (0, 'fws: nothing of fws is in %s\n' % prefix), run(script, '--uninstall', prefix)[::2])
+    tally.check('a relative prefix', (0, said_lines('put %s', folder + '/near')), run(script, '--install', 'near', cwd=folder)[::2])
+    tally.check('a relative prefix: files', PLACES, files_below(folder + '/near'))
+
+
+def check_refused(tally, script, folder):
+    """Where a place can't be written to nothing is left, and what was there stays."""
+    for words in (('--install', ''), ('--install', '-x'), ('--uninstall', '')):
+        tally.check('words %r' % (words,), (2, "fws: no folder to which anything could be put: '%s'\n" % words[1]), run(script, *words)[::2])
+    prefix = os.path.join(folder, 'blocked')
+    os.makedirs(os.path.join(prefix, 'share/man/man1/fws.1'))
+    tally.check('a folder in the way', (5, 'fws: cannot write %s/share/man/man1/fws.1: it is a folder\n' % prefix),
+                run(script, '--install', prefix)[::2])
+    tally.check('a folder in the way: files', {}, files_below(prefix))
+    tally.holds('a folder in the way: folders', not os.path.exists(prefix + '/bin'), 'bin was made')
+    prefix = os.path.join(folder, 'file')
+    write(prefix, '')
+    tally.check('a file in the way', (5, 'fws: cannot write to %s/bin: %s is no folder\n' % (prefix, prefix)),
+                run(script, '--install', prefix)[::2])
+
+
+def check_unwritable(tally, script, folder):
+    """One of the folders may not be written to by the user: root is made another one for that."""
+    prefix = os.path.join(folder, 'partly')
+    os.makedirs(prefix + '/share/zsh/site-functions')
+    user = {} if os.getuid() else {'user': NOBODY, 'group': NOBODY, 'extra_groups': []}
+    if user:
+        for place in ('', '/share', '/share/zsh'):
+            os.chown(prefix + place, NOBODY, NOBODY)
+    os.chmod(prefix + '/share/zsh/site-functions', 0o555)
+    why = 'fws: cannot write to %s/share/zsh/site-functions: %s/share/zsh/site-functions may not be written to\n' % (prefix, prefix)
+    tally.check('one folder may not be written to', (5, why), run(script, '--install', prefix, **user)[::2])
+    tally.check('one folder may not be written to: folders', ['share'], os.listdir(prefix))
+    os.chmod(prefix + '/share/zsh/site-functions', 0o755)
+    if user:
+        os.chown(prefix + '/share/zsh/site-functions', NOBODY, NOBODY)
+    tally.check('it may be written to', 0, run(script, '--install', prefix, **user)[0])
+    os.chmod(prefix + '/share/zsh/site-functions', 0o555)
+    tally.check('uninstall where one folder may not be written to', (5, why), run(script, '--uninstall', prefix, **user)[::2])
+    tally.check('uninstall where one folder may not be written to: files', PLACES, files_below(prefix))
+    os.chmod(prefix + '/share/zsh/site-functions', 0o755)
+
+
+def check_undone(tally, script, checkout, folder):
+    """What was put is taken away again, and what stood there is put back, where the last step fails."""
+    prefix = os.path.join(folder, 'undone')
+    tally.check('before a failure', 0, run(script, '--install', prefix)[0])
+    write(prefix + '/bin/fws-view', 'what stood there\n')
+    os.unlink(prefix + '/share/man/man1/fws.1')
+    before = files_below(prefix)
+    # a command mv that fails at the last of six files
+    write(checkout + '/mv', '#!/bin/sh\ncase "$*" in *site-functions*) exit 1 ;; esac\nexec /bin/mv "$@"\n')
+    os.chmod(checkout + '/mv', 0o755)
+    surroundings = dict(os.environ, PATH=checkout + ':' + os.environ['PATH'])
+    status, _, said = run(script, '--install', prefix, env=surroundings)
+    tally.check('a failure at the end', (5, 'fws: cannot write %s/share/zsh/site-functions/_fws\n' % prefix), (status, said))
+    after = files_below(prefix)
+    tally.check('a failure at the end: files', before, after)
+    with open(prefix + '/bin/fws-view', encoding='utf-8') as file:
+        tally.check('a failure at the end: what stood there', 'what stood there\n', file.read())
+    write(checkout + '/cp', '#!/bin/sh\ncase "$*" in *_fws*) exit 1 ;; esac\nexec /bin/cp "$@"\n')
+    os.chmod(checkout + '/cp', 0o755)
+    fresh = os.path.join(folder, 'never')
+    tally.check('a failure of a copy', 5, run(script, '--install', fresh, env=surroundings)[0])
+    tally.holds('a failure of a copy: nothing is left', not os.path.exists(fresh), '%s is there' % fresh)
+
+
+def check_built_first(tally, script, checkout, folder):
+    """A program that is older than the sources is built first, by rt; but not where nothing could be put anyway."""
+    os.utime(os.path.join(checkout, 'crates.txt'))
+    os.utime(os.path.join(checkout, 'crates/fws/out/fws'), (0, 0))
+    os.makedirs(checkout + '/bin')
+    surroundings = dict(os.environ, PATH=checkout + '/bin:' + os.environ['PATH'])
+    write(checkout + '/bin/rt', '#!/bin/sh\necho "$*" >>../../called\necho why it went wrong >&2\nexit 1\n')
+    os.chmod(checkout + '/bin/rt', 0o755)
+    prefix = os.path.join(folder, 'file/below')
+    tally.check('nothing is built in vain: status', 5, run(script, '--install', prefix, env=surroundings)[0])
+    tally.holds('nothing is built in vain', not os.path.exists(checkout + '/called'), 'rt was called')
+    prefix = os.path.join(folder, 'built')
+    status, _, said = run(script, '--install', prefix, env=surroundings)
+    tally.check('a build that goes wrong', (6, True), (status, 'why it went wrong\nfws: the program could not be built\n' in said))
+    tally.holds('a build that goes wrong: nothing is left', not os.path.exists(prefix), '%s is there' % prefix)
+    write(checkout + '/bin/rt', '#!/bin/sh\ntouch out/fws\n')
+    status, _, said = run(script, '--install', prefix, env=surroundings)
+    tally.check('a build that goes well', (0, True), (status, said.endswith(said_lines('put %s', prefix))))
+    tally.check('a build that goes well: files', PLACES, files_below(prefix))
+
+
+def check(tally):
+    with tempfile.TemporaryDirectory() as folder:
+        os.chmod(folder, 0o755)
+        checkout = os.path.join(folder, 'a checkout')
+        os.makedirs(checkout)
+        copy_checkout(checkout)
+        script = os.path.join(checkout, 'fws')
+        check_put_and_take(tally, script, folder)
+        check_refused(tally, script, folder)
+        check_unwritable(tally, script, folder)
+        check_undone(tally, script, checkout, folder)
+        check_built_first(tally, script, checkout, folder)
+
+
+if __name__ == '__main__':
+    from common import Tally
+    TALLY = Tally()
+    check(TALLY)
+    print(TALLY.right, TALLY.wrong, TALLY.skipped)
