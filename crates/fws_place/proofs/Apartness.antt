@@ -1,4 +1,4 @@
--- Leaves at points that agree in all but flags and ICMP types.
+-- Leaves at points that agree in all fields but some.
 use Rattle.std.proofs.Common.{◌≡◌, ◌≢◌, ℕ, zero, suc, ◌+◌, ◌-◌, ◌*◌, ◌/◌, ◌%◌, ◌<◌, ◌≤◌, Bool, true, false, ◌&&◌, ◌||◌, not, cond, Option, Some, None, List, [], ◌∷◌, refl, sym, ◌∙◌, ap, subst, arith, length, get_or, position, All}
 use Rattle.std.proofs.lemmas.Bool.{and_parts, and_from, both_ways, false_from_ne_true, lt-ltb, not-true, not_from_false}
 use Rattle.std.proofs.lemmas.List.Elements.{All-contains}
@@ -16,7 +16,7 @@ use Rattle.fws_tree.specs.declared.node.Node.{Node}
 use Rattle.fws_tree.specs.Nodes.{named_leaf, relabel, relabel_kids, tree_of}
 use Rattle.fws_tree.specs.Plain.{Plain, leaf, cut, Kids, none, kid, branch, kid_at, leaf_of, value, value_from}
 use Rattle.fws_tree.specs.Shared.{IsShared}
-use Rattle.fws_place.specs.Apart.{has_bit, is_marked, place_in, AreAlikeBy, AreApart, AreTrueNear, HasValuesAmong, HaveNear, NoneTrueNear}
+use Rattle.fws_place.specs.Apart.{has_bit, is_marked, place_in, AreAlikeBy, AreApart, AreTrueNear, HasValuesAmong, NoneTrueNear}
 use Rattle.fws_place.proofs.Counting.{get_or_any}
 use Rattle.fws_place.proofs.NearPoints.{near_back}
 use Rattle.fws_place.proofs.Viewing.{some_once}
@@ -60,6 +60,10 @@ named leaves f u (x ∷ p) a e = named leaves (suc f) (branch f u x) p a (ap (λ
 pub leaves_among : {L : Type 0} (tops : List ℕ) (t : Plain L) (leaves keys : List L) (nodes : List Node) → IsShared tops t leaves nodes → All (Contains keys) leaves → HasValuesAmong t keys
 leaves_among tops t leaves keys nodes shared all p a e =
     All-contains (Contains keys) leaves a all (named leaves 0 (tree_of nodes (length nodes - 1)) p a (ap (λ u. value u p) (sym shared.last) ∙ e))
+
+-- and among its own leaves
+pub own_leaves : {L : Type 0} (tops : List ℕ) (t : Plain L) (leaves : List L) (nodes : List Node) → IsShared tops t leaves nodes → HasValuesAmong t leaves
+own_leaves tops t leaves nodes shared p a e = named leaves 0 (tree_of nodes (length nodes - 1)) p a (ap (λ u. value u p) (sym shared.last) ∙ e)
 
 -- Places
 
@@ -132,7 +136,7 @@ counts eq exact off x b n e = and_from (not (eq x off)) b (not_from_false (eq x 
 abbrev pub AreMarked : {L : Type 0} → (L → L → Bool) → L → List L → ℕ → Bool → List ℕ → Plain L → Plain Bool → Type 0
 AreMarked {L} eq off keys size set tops t u = (p : List ℕ) → IsWithin tops p → (a : L) × (value t p ≡ Some a) × (value u p ≡ Some (is_marked eq off keys size set a))
 
-module _ {L : Type 0} (eq : L → L → Bool) (laws : IsEquivalence eq) (exact : (x y : L) → eq x y ≡ true → x ≡ y) (off : L) (keys : List L) (size : ℕ) (tops : List ℕ) (t : Plain L)
+module _ {L : Type 0} (eq : L → L → Bool) (laws : IsEquivalence eq) (exact : (x y : L) → eq x y ≡ true → x ≡ y) (off : L) (keys : List L) (size fields : ℕ) (tops : List ℕ) (t : Plain L)
     (u v : Plain Bool) (set : AreMarked eq off keys size true tops t u) (clear : AreMarked eq off keys size false tops t v) where
   -- the bit of a leaf's place
   abbrev bit : L → Bool
@@ -150,7 +154,7 @@ module _ {L : Type 0} (eq : L → L → Bool) (laws : IsEquivalence eq) (exact :
       let m = counted eq laws off here.0 (not (bit here.0)) (some_once _ _ (sym here.2 ∙ e)) in
       (here.0, here.1, m.0, not-true (bit here.0) m.1)
 
-  pub bits_apart : (p q : List ℕ) → AreTrueNear tops u v p q → AreApart tops t off p q
+  pub bits_apart : (p q : List ℕ) → AreTrueNear fields tops u v p q → AreApart fields tops t off p q
   bits_apart p q h =
       let a = at_set p h.first.0 h.first.1 in
       let b = at_clear q h.second.0 h.second.1 in
@@ -173,7 +177,7 @@ module _ {L : Type 0} (eq : L → L → Bool) (laws : IsEquivalence eq) (exact :
       let same : here.0 ≡ a = some_once here.0 a (sym here.1 ∙ e) in
       here.2 ∙ ap (λ x. Some (is_marked eq off keys size false x)) same ∙ ap Some (counts eq exact off a (not (bit a)) n (not_from_false (bit a) is))
 
-  pub bits_alike : NoneTrueNear tops u v → AreAlikeBy (λ x. has_bit size (place_in eq keys x)) tops t off
+  pub bits_alike : NoneTrueNear fields tops u v → AreAlikeBy (λ x. has_bit size (place_in eq keys x)) fields tops t off
   bits_alike nowhere p q a b h = by (bit a) (bit b) refl refl
     where
       by : (c d : Bool) → bit a ≡ c → bit b ≡ d → bit a ≡ bit b
@@ -187,32 +191,32 @@ module _ {L : Type 0} (eq : L → L → Bool) (laws : IsEquivalence eq) (exact :
       by false true e f = absurd (nowhere q p (record {
         first = (h.other_within, true_set q b h.other_within h.there h.other_counts f);
         second = (h.within, true_clear p a h.within h.here h.counts e);
-        near = near_back p q h.near;
+        near = near_back fields p q h.near;
       }))
 
   -- what was found in the trees of marks
   pub apart_found : (others : List ℕ) → others ≡ tops → (found : Option (List ℕ × List ℕ))
-      → MatchOption found (NoneTrueNear others u v) (λ pair. AreTrueNear others u v pair.0 pair.1)
-      → MatchOption found (AreAlikeBy (λ x. has_bit size (place_in eq keys x)) tops t off) (λ pair. AreApart tops t off pair.0 pair.1)
-  apart_found others e None h = bits_alike (subst (λ ts. NoneTrueNear ts u v) e h)
-  apart_found others e (Some pair) h = bits_apart pair.0 pair.1 (subst (λ ts. AreTrueNear ts u v pair.0 pair.1) e h)
+      → MatchOption found (NoneTrueNear fields others u v) (λ pair. AreTrueNear fields others u v pair.0 pair.1)
+      → MatchOption found (AreAlikeBy (λ x. has_bit size (place_in eq keys x)) fields tops t off) (λ pair. AreApart fields tops t off pair.0 pair.1)
+  apart_found others e None h = bits_alike (subst (λ ts. NoneTrueNear fields ts u v) e h)
+  apart_found others e (Some pair) h = bits_apart pair.0 pair.1 (subst (λ ts. AreTrueNear fields ts u v pair.0 pair.1) e h)
 
 -- Powers of 2, one after another
 
-pub alike_first : {L : Type 0} (place : L → ℕ) (tops : List ℕ) (t : Plain L) (off : L) → AreAlikeBy (λ x. place x % 1) tops t off
-alike_first place tops t off p q a b h =
+pub alike_first : {L : Type 0} (place : L → ℕ) (fields : ℕ) (tops : List ℕ) (t : Plain L) (off : L) → AreAlikeBy (λ x. place x % 1) fields tops t off
+alike_first place fields tops t off p q a b h =
     let m : place a % 1 < 1 = mod-lt (place a) (omega arith) in
     let n : place b % 1 < 1 = mod-lt (place b) (omega arith) in
     omega (arith, m, n)
 
-pub alike_next : {L : Type 0} (place : L → ℕ) (tops : List ℕ) (t : Plain L) (off : L) (size next : ℕ) → 0 < size → next ≡ size * 2
-    → AreAlikeBy (λ x. place x % size) tops t off → AreAlikeBy (λ x. has_bit size (place x)) tops t off → AreAlikeBy (λ x. place x % next) tops t off
-alike_next place tops t off size next some is rest bit p q a b h =
+pub alike_next : {L : Type 0} (place : L → ℕ) (fields : ℕ) (tops : List ℕ) (t : Plain L) (off : L) (size next : ℕ) → 0 < size → next ≡ size * 2
+    → AreAlikeBy (λ x. place x % size) fields tops t off → AreAlikeBy (λ x. has_bit size (place x)) fields tops t off → AreAlikeBy (λ x. place x % next) fields tops t off
+alike_next place fields tops t off size next some is rest bit p q a b h =
     ap (λ k. place a % k) is ∙ more_bits size (place a) (place b) some (rest p q a b h) (bit p q a b h) ∙ ap (λ k. place b % k) (sym is)
 
-pub alike_all : {L : Type 0} (eq : L → L → Bool) → IsEquivalence eq → ((x y : L) → eq x y ≡ true → x ≡ y) → (tops : List ℕ) (t : Plain L) (off : L) (keys : List L) (size : ℕ)
-    → HasValuesAmong t keys → length keys ≤ size → AreAlikeBy (λ x. place_in eq keys x % size) tops t off → AreAlikeBy (λ x. x) tops t off
-alike_all eq laws exact tops t off keys size among few alike p q a b h =
+pub alike_all : {L : Type 0} (eq : L → L → Bool) → IsEquivalence eq → ((x y : L) → eq x y ≡ true → x ≡ y) → (fields : ℕ) (tops : List ℕ) (t : Plain L) (off : L) (keys : List L) (size : ℕ)
+    → HasValuesAmong t keys → length keys ≤ size → AreAlikeBy (λ x. place_in eq keys x % size) fields tops t off → AreAlikeBy (λ x. x) fields tops t off
+alike_all eq laws exact fields tops t off keys size among few alike p q a b h =
     let first : Contains keys a = among p a h.here in
     let second : Contains keys b = among q b h.there in
     let m = (place_there eq laws exact keys a first).0 in

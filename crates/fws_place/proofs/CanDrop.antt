@@ -70,7 +70,7 @@ refuted site tables p r arriving forwarded host (inr (inl f)) = forwarded f.0 f.
 refuted site tables p r arriving forwarded host (inr (inr h)) = host h.0 h.1 h.2
 
 -- the packet of the pair isn't dropped always
-packet_kept : (site : Site) (tables : Tables) → AreRegular site tables → (p : Packet) → IsAcceptedSomewhere site tables p ⊎ IsAcceptedNew tables p
+pub packet_kept : (site : Site) (tables : Tables) → AreRegular site tables → (p : Packet) → IsAcceptedSomewhere site tables p ⊎ IsAcceptedNew tables p
     → AllOfPacketDropped site tables p → new_of tables p ≡ Drop → ⊥
 packet_kept site tables regular p (inl s) all new = s.accepted (all s.ends s.of_site (found site tables regular p s.ends s.of_site s.accepted))
 packet_kept site tables regular p (inr n) all new = n new
@@ -125,7 +125,7 @@ passing_breaks site tables regular p r w kept here d s =
 -- What can be dropped
 
 -- what is tested and doesn't fail holds
-stable : (D : Type 0) (x : Bool) → ((x ≡ true) ↔ D) → ((D → ⊥) → ⊥) → D
+pub stable : (D : Type 0) (x : Bool) → ((x ≡ true) ↔ D) → ((D → ⊥) → ⊥) → D
 stable D x both n = both.0 (true_from_ne_false x (λ off. n (λ d. both_ways x off (both.1 d))))
 
 -- where a pair of the host breaks the clause, one that looks like it is accepted or the new packet

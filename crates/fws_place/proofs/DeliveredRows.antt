@@ -25,7 +25,7 @@ use Rattle.fws_place.specs.declared.clause.Clause.TheVariants.{KeepsDeliveredSou
 use Rattle.fws_place.specs.Clauses.{Breaks}
 use Rattle.fws_place.specs.Delivered.{IsDeliveredIn, NoneDelivered, with_source}
 use Rattle.fws_place.specs.Fits.{Meets}
-use Rattle.fws_place.specs.Meaning.{IsPairOf, new_of, no_ends, point_of, rec_of, widest}
+use Rattle.fws_place.specs.Meaning.{IsPacketOf, IsPairOf, new_of, no_ends, point_of, rec_of, widest}
 use Rattle.fws_place.specs.Rewritings.{is_accepted_with, is_delivered, new_exit, writes_source}
 use Rattle.fws_place.specs.Sides.{AreSidesOf, leasts}
 use Rattle.fws_place.proofs.Finding.{hit}
@@ -81,9 +81,11 @@ is_arriving site entry dst d = by (nat_eq entry 0) (is_local site dst) refl refl
 
 -- Trees
 
--- a tree of the outcomes that write a source
-abbrev pub AreSources : Site → Tables → Plain Outcome → Type 0
-AreSources site tables t = (q : List ℕ) → IsWithin (tops_of site) q → (o : Outcome) × (value tables.fresh.1 q ≡ Some o) × (value t q ≡ Some (with_source o))
+-- a tree of the outcomes that write a source, at some entries
+abbrev pub AreSources : Site → Tables → (ℕ → Bool) → Plain Outcome → Type 0
+AreSources site tables keeps t =
+    (q : List ℕ) → IsWithin (tops_of site) q
+    → (o : Outcome) × (value tables.fresh.1 q ≡ Some o) × (value t q ≡ Some (if keeps (slice_index q 0) then with_source o else Drop))
 
 -- what is known of the tree's rows
 pub record AreItsRows (site : Site) (t : Plain Outcome) (rows : List (Row Outcome)) : Type 0 where
@@ -103,13 +105,23 @@ its_rows site tree rows tops reduced e once right = record {
 some_same : {X : Type 0} (x y : X) → Some x ≡ Some y → x ≡ y
 some_same x y e = cc
 
+-- what is accepted at an entry, if anything, is kept
+kept_at : (b : Bool) (o : Outcome) (w : Rewrite) → (if b then with_source o else Drop) ≡ Accept w → (b ≡ true) × (with_source o ≡ Accept w)
+kept_at true o w e = (refl, e)
+kept_at false o w e = absurd (cc)
+
 -- what the tree keeps at a point
-at_point : (site : Site) (tables : Tables) (t : Plain Outcome) (p : Packet) → AreRegular site tables → AreSources site tables t → (q : List ℕ) (w : Rewrite) → IsWithin (tops_of site) q
-    → point_of (packet_of q) (rec_of q) ≡ q → value t q ≡ Some (Accept w) → (new_of tables (packet_of q) ≡ Accept w) × (writes_source w ≡ true)
-at_point site tables t p regular sources q w within back there =
+at_point : (site : Site) (tables : Tables) (keeps : ℕ → Bool) (t : Plain Outcome) → AreRegular site tables → AreSources site tables keeps t → (q : List ℕ) (w : Rewrite)
+    → IsWithin (tops_of site) q → point_of (packet_of q) (rec_of q) ≡ q → value t q ≡ Some (Accept w)
+    → (new_of tables (packet_of q) ≡ Accept w) × (writes_source w ≡ true) × (keeps (slice_index q 0) ≡ true)
+at_point site tables keeps t regular sources q w within back there =
     let o = sources q within in
-    let kept = kept_source o.0 w (some_same (with_source o.0) (Accept w) (sym o.2 ∙ there)) in
-    (new_is site tables regular (packet_of q) (rec_of q) o.0 (subst (λ l. IsWithin (tops_of site) l) (sym back) within) (ap (λ l. value tables.fresh.1 l) back ∙ o.1) ∙ kept.0, kept.1)
+    let at = kept_at (keeps (slice_index q 0)) o.0 w (some_same (if keeps (slice_index q 0) then with_source o.0 else Drop) (Accept w) (sym o.2 ∙ there)) in
+    let kept = kept_source o.0 w at.1 in (
+      new_is site tables regular (packet_of q) (rec_of q) o.0 (subst (λ l. IsWithin (tops_of site) l) (sym back) within) (ap (λ l. value tables.fresh.1 l) back ∙ o.1) ∙ kept.0,
+      kept.1,
+      at.0,
+    )
 
 pub twelve_sides : (site : Site) (t : Plain Outcome) (rows : List (Row Outcome)) → AreItsRows site t rows → All (λ row. length row.sides ≡ 12) rows
 twelve_sides site t rows its = λ k d lt. sides_length (tops_of site) (get_or rows k d).sides (its.sides k d lt)
@@ -118,7 +130,10 @@ twelve_sides site t rows its = λ k d lt. sides_length (tops_of site) (get_or ro
 
 -- a row that drops
 pub none_dropped : (local : List Iv) (top : ℕ) (row : Row Outcome) → row.leaf ≡ Drop → NoneDelivered local top row
-none_dropped local top row drops entry dst le lt is = (let never : Drop ≡ Accept is.rewriting = sym drops ∙ is.accepted in cc)
+none_dropped local top row drops = record {
+  none = λ entry dst le lt is. (let never : Drop ≡ Accept is.rewriting = sym drops ∙ is.accepted in cc);
+  addresses = λ w accepted. (let never : Drop ≡ Accept w = sym drops ∙ accepted in absurd (cc));
+}
 
 -- Naming
 
@@ -148,11 +163,20 @@ pub found_roomy : (site : Site) (t : Plain Outcome) (rows : List (Row Outcome)) 
     → IsDeliveredIn local (length site.faces + 1) rows q → IsWithin widest q
 found_roomy site t rows local q sound its found = roomy site sound q (found_point site t rows local q its found).0
 
--- its packet breaks the clause
-pub found_breaks : (site : Site) (tables : Tables) (t : Plain Outcome) (rows : List (Row Outcome)) (local : List Iv) (q : List ℕ) → AreRegular site tables → AreSources site tables t
-    → AreItsRows site t rows → ((a : ℕ) → has local a ≡ is_local site a) → IsDeliveredIn local (length site.faces + 1) rows q
-    → Breaks site tables KeepsDeliveredSources (record { packet = packet_of q; rec = None }) None
-found_breaks site tables t rows local q regular sources its own found =
+-- a packet has a source written, comes by an entry that is kept, arrives and is sent to one of the addresses
+pub record IsFound (site : Site) (tables : Tables) (keeps : ℕ → Bool) (local : List Iv) (p : Packet) : Type 0 where
+  pub of_site : IsPacketOf site p
+  pub rewriting : Rewrite
+  pub accepted : new_of tables p ≡ Accept rewriting
+  pub writes : writes_source rewriting ≡ true
+  pub kept : keeps p.entry ≡ true
+  pub arrives : 1 ≤ p.entry
+  pub here : has local (written_addr rewriting.dst p.dst) ≡ true
+
+-- such is the packet of the point
+pub found_packet : (site : Site) (tables : Tables) (keeps : ℕ → Bool) (t : Plain Outcome) (rows : List (Row Outcome)) (local : List Iv) (q : List ℕ) → AreRegular site tables
+    → AreSources site tables keeps t → AreItsRows site t rows → IsDeliveredIn local (length site.faces + 1) rows q → IsFound site tables keeps local (packet_of q)
+found_packet site tables keeps t rows local q regular sources its found =
     let point = found_point site t rows local q its found in
     let row : Row Outcome = found.row in
     let back : point_of (packet_of q) (rec_of q) ≡ q = point_back site q point.0 in
@@ -160,39 +184,50 @@ found_breaks site tables t rows local q regular sources its own found =
     let w : Rewrite = found.delivered.rewriting in
     let there : value t q ≡ Some (Accept w)
     = All-contains (λ r. IsTrue (sides_have r.sides q) → value t q ≡ Some r.leaf) rows row (its.right q point.0) found.there point.1 ∙ ap Some found.delivered.accepted in
-    let kept = at_point site tables t (packet_of q) regular sources q w point.0 back there in
-    let arrives : 1 ≤ slice_index q 0 = subst (λ n. 1 ≤ n) (sym point.2) found.delivered.arrives in
-    let here : is_local site (written_addr w.dst (slice_index q 2)) ≡ true
-    = sym (own (written_addr w.dst (slice_index q 2))) ∙ ap (λ a. has local (written_addr w.dst a)) point.3 ∙ found.delivered.here in
-    let test : Rewrite → Bool = λ v. is_delivered (new_exit site (packet_of q) v) && writes_source v in
+    let kept = at_point site tables keeps t regular sources q w point.0 back there in
     record {
       of_site = packet_within site (packet_of q) (rec_of q) inside;
+      rewriting = w;
+      accepted = kept.0;
+      writes = kept.1;
+      kept = kept.2;
+      arrives = subst (λ n. 1 ≤ n) (sym point.2) found.delivered.arrives;
+      here = ap (λ a. has local (written_addr w.dst a)) point.3 ∙ found.delivered.here;
+    }
+
+-- it breaks the clause where the addresses are local
+pub found_breaks : (site : Site) (tables : Tables) (local : List Iv) (p : Packet) → ((a : ℕ) → has local a ≡ is_local site a) → IsFound site tables (λ entry. true) local p
+    → Breaks site tables KeepsDeliveredSources (record { packet = p; rec = None }) None
+found_breaks site tables local p own found =
+    let w : Rewrite = found.rewriting in
+    let here : is_local site (written_addr w.dst p.dst) ≡ true = sym (own (written_addr w.dst p.dst)) ∙ found.here in
+    let test : Rewrite → Bool = λ v. is_delivered (new_exit site p v) && writes_source v in
+    record {
+      of_site = found.of_site;
       new = refl;
       alone = refl;
-      such = ap (is_accepted_with test) kept.0 ∙ and_from (is_delivered (new_exit site (packet_of q) w)) (writes_source w) (delivers site (slice_index q 0) (written_addr w.dst (slice_index q 2)) arrives here) kept.1;
+      such = ap (is_accepted_with test) found.accepted
+          ∙ and_from (is_delivered (new_exit site p w)) (writes_source w) (delivers site p.entry (written_addr w.dst p.dst) found.arrives here) found.writes;
     }
 
 -- None
 
 -- an accepted outcome whose rewriting passes
-passing : (o : Outcome) (test : Rewrite → Bool) → is_accepted_with test o ≡ true → (w : Rewrite) × (o ≡ Accept w) × (test w ≡ true)
+pub passing : (o : Outcome) (test : Rewrite → Bool) → is_accepted_with test o ≡ true → (w : Rewrite) × (o ≡ Accept w) × (test w ≡ true)
 passing Drop test e = absurd (false≢true e)
 passing (Accept w) test e = (w, refl, e)
 
--- where no row has packets that are delivered the clause is met
-pub none_meet : (site : Site) (tables : Tables) (t : Plain Outcome) (rows : List (Row Outcome)) (local : List Iv) → AreRegular site tables → AreSources site tables t
-    → AreItsRows site t rows → ((a : ℕ) → has local a ≡ is_local site a) → All (NoneDelivered local (length site.faces + 1)) rows → Meets site tables KeepsDeliveredSources
-none_meet site tables t rows local regular sources its own none first second named =
-    let p : Packet = first.packet in
+-- where no row has packets that are sent to one of the addresses, no packet is such
+pub none_such : (site : Site) (tables : Tables) (keeps : ℕ → Bool) (t : Plain Outcome) (rows : List (Row Outcome)) (local : List Iv) → AreSources site tables keeps t
+    → AreItsRows site t rows → All (NoneDelivered local (length site.faces + 1)) rows → (p : Packet) (v : Rewrite) → IsPacketOf site p → new_of tables p ≡ Accept v
+    → writes_source v ≡ true → keeps p.entry ≡ true → 1 ≤ p.entry → (written_addr v.dst p.dst < 2 ^ 32) × (has local (written_addr v.dst p.dst) ≡ true → ⊥)
+none_such site tables keeps t rows local sources its none p v w accepted writes kept arrives =
     let q : List ℕ = point_of p no_ends in
-    let w = named.of_site in
-    let accepted = passing (new_of tables p) (λ v. is_delivered (new_exit site p v) && writes_source v) named.such in
-    let v : Rewrite = accepted.0 in
-    let both = and_parts (is_delivered (new_exit site p v)) (writes_source v) accepted.2 in
-    let arriving = is_arriving site p.entry (written_addr v.dst p.dst) both.0 in
     let o = sources q w in
-    let same : o.0 ≡ Accept v = sym (ap (λ x. unwrap_or x Drop) o.1) ∙ accepted.1 in
-    let there : value t q ≡ Some (Accept v) = o.2 ∙ ap (λ x. Some (with_source x)) same ∙ ap Some (source_kept v both.1) in
+    let same : o.0 ≡ Accept v = sym (ap (λ x. unwrap_or x Drop) o.1) ∙ accepted in
+    let there : value t q ≡ Some (Accept v)
+    = o.2 ∙ ap (λ x. Some (if keeps p.entry then with_source x else Drop)) same
+    ∙ ap Some (cond-true (keeps p.entry) (with_source (Accept v)) Drop kept ∙ source_kept v writes) in
     let one : row_hits rows q ≡ 1 = its.once q w in
     let at = hit rows q (omega arith) in
     let row : Row Outcome = at.0 in
@@ -200,11 +235,26 @@ none_meet site tables t rows local regular sources its own none first second nam
     let sides : AreSidesOf (tops_of site) row.sides = All-contains (λ r. AreSidesOf (tops_of site) r.sides) rows row its.sides at.1 in
     let many : length row.sides ≡ 12 = sides_length (tops_of site) row.sides sides in
     let low : p.dst < 2 ^ 32 = (let le : p.dst ≤ 2 ^ 32 - 1 = w.1.1.0 in omega arith) in
-    All-contains (NoneDelivered local (length site.faces + 1)) rows row none at.1 p.entry p.dst w.0 low (record {
-      entry_there = side_has row.sides q 0 at.2 (omega arith);
-      arrives = arriving.0;
-      dst_there = side_has row.sides q 2 at.2 (omega arith);
-      rewriting = v;
-      accepted = some_same row.leaf (Accept v) (sym leaf ∙ there);
-      here = own (written_addr v.dst p.dst) ∙ arriving.1;
-    })
+    let here : NoneDelivered local (length site.faces + 1) row = All-contains (NoneDelivered local (length site.faces + 1)) rows row none at.1 in
+    let its_leaf : row.leaf ≡ Accept v = some_same row.leaf (Accept v) (sym leaf ∙ there) in (
+      here.addresses v its_leaf p.dst low,
+      λ is. here.none p.entry p.dst w.0 low (record {
+        entry_there = side_has row.sides q 0 at.2 (omega arith);
+        arrives = arrives;
+        dst_there = side_has row.sides q 2 at.2 (omega arith);
+        rewriting = v;
+        accepted = its_leaf;
+        here = is;
+      }),
+    )
+
+-- where no row has packets that are delivered the clause is met
+pub none_meet : (site : Site) (tables : Tables) (t : Plain Outcome) (rows : List (Row Outcome)) (local : List Iv) → AreSources site tables (λ entry. true) t
+    → AreItsRows site t rows → ((a : ℕ) → has local a ≡ is_local site a) → All (NoneDelivered local (length site.faces + 1)) rows → Meets site tables KeepsDeliveredSources
+none_meet site tables t rows local sources its own none first second named =
+    let p : Packet = first.packet in
+    let accepted = passing (new_of tables p) (λ v. is_delivered (new_exit site p v) && writes_source v) named.such in
+    let v : Rewrite = accepted.0 in
+    let both = and_parts (is_delivered (new_exit site p v)) (writes_source v) accepted.2 in
+    let arriving = is_arriving site p.entry (written_addr v.dst p.dst) both.0 in
+    (none_such site tables (λ entry. true) t rows local sources its none p v named.of_site accepted.1 both.1 refl arriving.0).1 (own (written_addr v.dst p.dst) ∙ arriving.1)

@@ -65,7 +65,7 @@ abbrev pub IsUpTo : ℕ → ℕ → Option ℕ → Type 0
 IsUpTo d bound o = MatchOption o (bound < d) (λ x. (x ≡ d) × (d ≤ bound) × (x < 2 ^ 32))
 
 abbrev pub IsIn : (ℕ → Bool) → ℕ → ℕ → Option ℕ → Type 0
-IsIn test lo hi o = MatchOption o (NoneIn test lo (hi + 1)) (λ x. (lo ≤ x) × (x ≤ hi) × (test x ≡ true) × (x < 2 ^ 32))
+IsIn test lo hi o = MatchOption o (NoneIn test lo (hi + 1)) (λ x. (lo ≤ x) × (x ≤ hi) × (test x ≡ true) × (x < 2 ^ 32) × NoneIn test lo x)
 
 -- a first one behind numbers that don't pass
 pub first_up_to : (test : ℕ → Bool) (lo from end d hi : ℕ) (o : Option ℕ) → lo ≤ from → NoneIn test lo from → IsFirstIn test from end d → IsUpTo d hi o → IsIn test lo hi o
@@ -76,8 +76,17 @@ first_up_to test lo from end d hi None begin before first past = λ y le lt. by 
     by y le lt (inr late) = first.first y late (omega arith)
 first_up_to test lo from end d hi (Some x) begin before first is =
     let begun : from ≤ d = first.begun in
-    let same : x ≡ d = is.0 in
-    (omega arith, (let low : d ≤ hi = is.1 in omega arith), ap test same ∙ first.there, is.2)
+    let same : x ≡ d = is.0 in (
+      omega arith,
+      (let low : d ≤ hi = is.1 in omega arith),
+      ap test same ∙ first.there,
+      is.2,
+      λ y le lt. early y le (omega arith) (cases_lt y from),
+    )
+  where
+    early : (y : ℕ) → lo ≤ y → y < d → (y < from) ⊎ (from ≤ y) → test y ≡ false
+    early y le lt (inl sooner) = before y le sooner
+    early y le lt (inr late) = first.first y late lt
 
 -- none in a block from a place on, and none in the next one
 pub none_in_two : (local : List Iv) (addr size block lo hi : ℕ) → 0 < size → block % size ≡ 0 → block ≤ lo → NoneIn (is_kept_local local addr size) lo (block + size)

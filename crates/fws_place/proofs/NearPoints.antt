@@ -1,80 +1,98 @@
--- Points that agree in all but flags and ICMP types, and trees that are true at them.
-use Rattle.std.proofs.Common.{◌≡◌, ◌≢◌, ℕ, ◌<◌, ◌≤◌, Bool, true, ◌&&◌, Some, List, [], ◌∷◌, inl, inr, refl, sym, ◌∙◌, ap, arith, length, get_or, slice_set, IsTrue}
-use Rattle.std.proofs.lemmas.Bool.{and_parts, and_from, cases_Bool, false≢true, ltb-false, ltb-true}
-use Rattle.std.proofs.lemmas.List.{get_or-set_other}
-use Rattle.std.specs.Prelude.{◌↔◌, nat_lt}
-use Rattle.fws_box.specs.Sides.{IsWithin}
-use Rattle.fws_net.specs.Points.{packet_of}
-use Rattle.fws_tree.specs.Changed.{is_free, IsTrueSomewhere}
+-- Points that agree in all fields but some, and trees that are true at them.
+use Rattle.std.proofs.Common.{◌≡◌, ℕ, zero, suc, ◌^◌, ◌<◌, ◌≤◌, Bool, true, false, ◌&&◌, not, Some, List, [], ◌∷◌, inl, inr, refl, sym, ◌∙◌, ap, arith, length, get_or, IsTrue}
+use Rattle.std.proofs.lemmas.Bool.{and_left, and_parts, and_from, cases_lt, false≢true, le-leb, le-ltb, leb-true, or_cases, or_left}
+use Rattle.std.proofs.lemmas.List.{get_or_past}
+use Rattle.std.specs.Prelude.{◌↔◌, bit_and, nat_eq, nat_le, nat_lt}
+use Rattle.fws_iv.specs.declared.iv.Iv.{Iv}
+use Rattle.fws_iv.specs.Ivs.{has}
+use Rattle.fws_box.specs.Sides.{IsWithin, sides_have}
+use Rattle.fws_tree.specs.Changed.{is_free, Agree, IsTrueSomewhere}
 use Rattle.fws_tree.specs.Plain.{Plain, value}
-use Rattle.fws_place.specs.Apart.{AreNear, AreTrueNear, NoneTrueNear}
+use Rattle.fws_place.specs.Apart.{near_side, NoneTrueNear}
 use Rattle.fws_place.specs.Found.{IsTrueAt, IsTrueNowhere}
-use Rattle.fws_place.specs.Meaning.{point_of, rec_of}
-use Rattle.fws_place.proofs.PairPoints.{twelve_values, within_length, within_top}
+use Rattle.fws_place.proofs.PairPoints.{within_length, within_top}
 use Rattle.fws_place.proofs.Viewing.{same_told}
 
 -- Points
 
-pub near_back : (p q : List ℕ) → AreNear p q → AreNear q p
-near_back p q near = λ f fixed. sym (near f fixed)
+pub near_back : (fields : ℕ) (p q : List ℕ) → Agree fields p q → Agree fields q p
+near_back fields p q near = λ f fixed. sym (near f fixed)
 
--- a point with other flags and another type
-pub near_set : (p : List ℕ) (x y : ℕ) → AreNear p (slice_set (slice_set p 6 x) 7 y)
-near_set p x y f fixed =
-    sym (get_or-set_other (slice_set p 6 x) 7 f y 0 (other 7 refl) ∙ get_or-set_other p 6 f x 0 (other 6 refl))
-  where
-    other : (k : ℕ) → is_free 192 k ≡ true → f ≢ k
-    other k free same = false≢true (sym fixed ∙ ap (is_free 192) same ∙ free)
+-- Sides
 
--- each such point has its flags and type in place of the other's
-pub near_is : (p q : List ℕ) → length p ≡ 12 → length q ≡ 12 → AreNear p q → slice_set (slice_set p 6 (get_or q 6 0)) 7 (get_or q 7 0) ≡ q
-near_is p q np nq near =
-    let e0 : get_or p 0 0 ≡ get_or q 0 0 = near 0 refl in
-    let e1 : get_or p 1 0 ≡ get_or q 1 0 = near 1 refl in
-    let e2 : get_or p 2 0 ≡ get_or q 2 0 = near 2 refl in
-    let e3 : get_or p 3 0 ≡ get_or q 3 0 = near 3 refl in
-    let e4 : get_or p 4 0 ≡ get_or q 4 0 = near 4 refl in
-    let e5 : get_or p 5 0 ≡ get_or q 5 0 = near 5 refl in
-    let e8 : get_or p 8 0 ≡ get_or q 8 0 = near 8 refl in
-    let e9 : get_or p 9 0 ≡ get_or q 9 0 = near 9 refl in
-    let e10 : get_or p 10 0 ≡ get_or q 10 0 = near 10 refl in
-    let e11 : get_or p 11 0 ≡ get_or q 11 0 = near 11 refl in
-    let at : List ℕ → List ℕ = λ l. slice_set (slice_set l 6 (get_or q 6 0)) 7 (get_or q 7 0) in
-    let same : at (point_of (packet_of p) (rec_of p)) ≡ point_of (packet_of q) (rec_of q)
-    = λ i. e0 i ∷ e1 i ∷ e2 i ∷ e3 i ∷ e4 i ∷ e5 i ∷ get_or q 6 0 ∷ get_or q 7 0 ∷ e8 i ∷ e9 i ∷ e10 i ∷ e11 i ∷ [] in
-    ap at (sym (twelve_values p np)) ∙ same ∙ twelve_values q nq
+-- all sides have the point where each has its value
+sides_all : (sides : List (List Iv)) (q : List ℕ) → length sides ≡ length q → ((j : ℕ) → j < length q → has (get_or sides j []) (get_or q j 0) ≡ true) → sides_have sides q ≡ true
+sides_all [] q e each = refl
+sides_all (s ∷ sides) [] e each = absurd (omega arith)
+sides_all (s ∷ sides) (x ∷ q) e each =
+    and_from (has s x) (sides_have sides q) (each 0 (omega arith)) (sides_all sides q (omega arith) (λ j lt. each (suc j) (omega arith)))
 
--- where the tree is false whatever flags and type stand in a point, it is so at each point that agrees with it
-pub none_near : (tops : List ℕ) (t : Plain Bool) (p : List ℕ) → length tops ≡ 12 → IsWithin tops p
-    → ((x y : ℕ) → x ≤ get_or tops 6 0 → y ≤ get_or tops 7 0 → value t (slice_set (slice_set p 6 x) 7 y) ≡ Some true → ⊥)
-    → (q : List ℕ) → IsTrueAt tops t q → AreNear p q → ⊥
-none_near tops t p twelve w none q at near =
-    none (get_or q 6 0) (get_or q 7 0) (within_top tops q 6 at.0 (omega arith)) (within_top tops q 7 at.0 (omega arith))
-    (ap (value t) (near_is p q (within_length tops p w ∙ twelve) (within_length tops q at.0 ∙ twelve) near) ∙ at.1)
+sides_each : (sides : List (List Iv)) (q : List ℕ) → length sides ≡ length q → sides_have sides q ≡ true → (j : ℕ) → j < length q → has (get_or sides j []) (get_or q j 0) ≡ true
+sides_each [] [] e all j lt = absurd (omega arith)
+sides_each [] (x ∷ q) e all j lt = absurd (omega arith)
+sides_each (s ∷ sides) [] e all j lt = absurd (omega arith)
+sides_each (s ∷ sides) (x ∷ q) e all zero lt = (and_parts (has s x) (sides_have sides q) all).0
+sides_each (s ∷ sides) (x ∷ q) e all (suc j) lt = sides_each sides q (omega arith) (and_parts (has s x) (sides_have sides q) all).1 j (omega arith)
 
--- one more value of the flags
-pub none_more : (t : Plain Bool) (p : List ℕ) (top n : ℕ) → ((x y : ℕ) → x < n → y ≤ top → value t (slice_set (slice_set p 6 x) 7 y) ≡ Some true → ⊥)
-    → ((y : ℕ) → y ≤ top → value t (slice_set (slice_set p 6 n) 7 y) ≡ Some true → ⊥)
-    → (x y : ℕ) → x ≤ n → y ≤ top → value t (slice_set (slice_set p 6 x) 7 y) ≡ Some true → ⊥
-none_more t p top n before here x y low le e = elim (cases_Bool (nat_lt x n)) [
-  | inl less ↦ before x y (ltb-true x n less) le e
-  | inr more ↦ let least : n ≤ x = ltb-false x n more in
-      let same : x ≡ n = omega arith in here y le (ap (λ k. value t (slice_set (slice_set p 6 k) 7 y)) (sym same) ∙ e)
+-- a side that keeps a point near has the values up to the top, or the point's alone
+side_has : (free : Bool) (top x v : ℕ) → v ≤ top → (free ≡ false → x ≡ v) → has (near_side free top x) v ≡ true
+side_has true top x v le same = or_left _ _ (and_from (nat_le 0 v) (nat_le v top) (le-leb 0 v (omega arith)) (le-leb v top le))
+side_has false top x v le same =
+    let e : x ≡ v = same refl in
+    or_left _ _ (and_from (nat_le x v) (nat_le v x) (le-leb x v (omega arith)) (le-leb v x (omega arith)))
+
+side_gives : (top x v : ℕ) → has (near_side false top x) v ≡ true → x ≡ v
+side_gives top x v e = elim (or_cases (nat_le x v && nat_le v x) false e) [
+  | inl both ↦
+      let parts = and_parts (nat_le x v) (nat_le v x) both in
+      let low : x ≤ v = leb-true x v parts.0 in
+      let high : v ≤ x = leb-true v x parts.1 in
+      omega (arith, low, high)
+  | inr never ↦ absurd (false≢true never)
 ]
+
+-- the sides of the points that agree with one
+abbrev pub AreNearSides : ℕ → List ℕ → List ℕ → ℕ → List (List Iv) → Type 0
+AreNearSides fields tops p k sides = (j : ℕ) → j < k → get_or sides j [] ≡ near_side (is_free fields j) (get_or tops j 0) (get_or p j 0)
+
+not_free : (fields f : ℕ) → 12 ≤ f → is_free fields f ≡ false
+not_free fields f le = and_left (nat_lt f 12) (not (nat_eq (bit_and fields (2 ^ f)) 0)) (le-ltb f 12 le)
+
+pub near_have : (fields : ℕ) (tops p : List ℕ) (sides : List (List Iv)) → length tops ≡ 12 → length sides ≡ 12 → AreNearSides fields tops p 12 sides → IsWithin tops p
+    → (q : List ℕ) → IsWithin tops q → (sides_have sides q ≡ true) ↔ Agree fields p q
+near_have fields tops p sides twelve many made wp q wq = (
+  λ all f fixed. elim (cases_lt f 12) [
+    | inl lt ↦
+        let here : has (get_or sides f []) (get_or q f 0) ≡ true = sides_each sides q (many ∙ sym (within_length tops q wq ∙ twelve)) all f (omega (arith, lq)) in
+        side_gives (get_or tops f 0) (get_or p f 0) (get_or q f 0)
+        (ap (λ b. has (near_side b (get_or tops f 0) (get_or p f 0)) (get_or q f 0)) (sym fixed) ∙ ap (λ s. has s (get_or q f 0)) (sym (made f lt)) ∙ here)
+    | inr ge ↦ get_or_past p f 0 (omega (arith, lp, ge)) ∙ sym (get_or_past q f 0 (omega (arith, lq, ge)))
+  ],
+  λ near. sides_all sides q (many ∙ sym lq) (λ j lt.
+      let low : j < 12 = omega (arith, lq, lt) in
+      ap (λ s. has s (get_or q j 0)) (made j low)
+      ∙ side_has (is_free fields j) (get_or tops j 0) (get_or p j 0) (get_or q j 0) (within_top tops q j wq (omega (arith, twelve, low))) (near j)),
+)
+  where
+    lp : length p ≡ 12
+    lp = within_length tops p wp ∙ twelve
+
+    lq : length q ≡ 12
+    lq = within_length tops q wq ∙ twelve
 
 -- Trees
 
 -- what a projection says
-abbrev pub TellsNear : List ℕ → Plain Bool → Plain Bool → Type 0
-TellsNear tops u s = (p : List ℕ) → IsWithin tops p → (b : Bool) × (value s p ≡ Some b) × (IsTrue b ↔ IsTrueSomewhere tops 192 u p)
+abbrev pub TellsNear : ℕ → List ℕ → Plain Bool → Plain Bool → Type 0
+TellsNear fields tops u s = (p : List ℕ) → IsWithin tops p → (b : Bool) × (value s p ≡ Some b) × (IsTrue b ↔ IsTrueSomewhere tops fields u p)
 
 -- and a tree that is true where two are
 abbrev pub IsBoth : List ℕ → Plain Bool → Plain Bool → Plain Bool → Type 0
 IsBoth tops t s both = (p : List ℕ) → IsWithin tops p → (a : Bool) × (b : Bool) × (value t p ≡ Some a) × (value s p ≡ Some b) × (value both p ≡ Some (a && b))
 
-pub true_somewhere : (tops : List ℕ) (t u s both : Plain Bool) (p : List ℕ) → TellsNear tops u s → IsBoth tops t s both → IsTrueAt tops both p
-    → IsTrueAt tops t p × IsTrueSomewhere tops 192 u p
-true_somewhere tops t u s both p near at here =
+pub true_somewhere : (fields : ℕ) (tops : List ℕ) (t u s both : Plain Bool) (p : List ℕ) → TellsNear fields tops u s → IsBoth tops t s both → IsTrueAt tops both p
+    → IsTrueAt tops t p × IsTrueSomewhere tops fields u p
+true_somewhere fields tops t u s both p near at here =
     let two = at p here.0 in
     let parts = and_parts two.0 two.1 (same_told (value both p) (two.0 && two.1) true two.4 here.1) in
     let told = near p here.0 in (
@@ -82,8 +100,8 @@ true_somewhere tops t u s both p near at here =
       told.2.0 (same_told (value s p) told.0 two.1 told.1 two.3 ∙ parts.1),
     )
 
-pub none_together : (tops : List ℕ) (t u s both : Plain Bool) → TellsNear tops u s → IsBoth tops t s both → IsTrueNowhere tops both → NoneTrueNear tops t u
-none_together tops t u s both near at none p q h =
+pub none_together : (fields : ℕ) (tops : List ℕ) (t u s both : Plain Bool) → TellsNear fields tops u s → IsBoth tops t s both → IsTrueNowhere tops both → NoneTrueNear fields tops t u
+none_together fields tops t u s both near at none p q h =
     let two = at p h.first.0 in
     let told = near p h.first.0 in
     let a : two.0 ≡ true = same_told (value t p) two.0 true two.2 h.first.1 in

@@ -1,12 +1,8 @@
 -- Trees that tell of new packets.
-use Rattle.std.proofs.Common.{◌≡◌, ℕ, ◌+◌, ◌-◌, ◌^◌, Bool, true, false, Option, Some, None, List, [], ◌∷◌, refl, sym, ◌∙◌, ap, subst, arith, length, MatchOption}
+use Rattle.std.proofs.Common.{◌≡◌, ℕ, Bool, true, false, Option, Some, None, List, refl, sym, ◌∙◌, ap, subst, arith, MatchOption}
 use Rattle.std.proofs.lemmas.Bool.{false≢true}
-use Rattle.std.proofs.lemmas.Bool.Decides.{nat_tests}
-use Rattle.std.proofs.Math.Bool.{and-true}
-use Rattle.std.specs.Prelude.{◌↔◌, ◌&&◌, nat_eq, slice_index, slice_set, unwrap_or, if◌then◌else◌}
-use Rattle.fws_iv.specs.declared.iv.Iv.{Iv}
-use Rattle.fws_iv.specs.Ivs.{has}
-use Rattle.fws_box.specs.Sides.{IsWithin, sides_have, whole_sides}
+use Rattle.std.specs.Prelude.{◌↔◌, nat_eq, slice_index, unwrap_or, if◌then◌else◌}
+use Rattle.fws_box.specs.Sides.{IsWithin}
 use Rattle.fws_net.specs.declared.connection.Rec.{Rec}
 use Rattle.fws_net.specs.declared.outcome.Outcome.{Outcome}
 use Rattle.fws_net.specs.declared.outcome.Outcome.TheVariants.{Drop}
@@ -27,7 +23,6 @@ use Rattle.fws_place.specs.Rewritings.{is_accepted_with}
 use Rattle.fws_place.specs.Seen.{Tells}
 use Rattle.fws_place.proofs.NewRows.{other_ends}
 use Rattle.fws_place.proofs.PairPoints.{point_back}
-use Rattle.fws_place.proofs.Passing.{whole_have}
 
 -- Packets
 

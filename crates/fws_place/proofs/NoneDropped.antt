@@ -18,15 +18,15 @@ use Rattle.fws_place.specs.Rewritings.{is_accepted}
 use Rattle.fws_place.specs.Seen.{Tells}
 use Rattle.fws_place.proofs.Viewing.{accepts, est_at, is_lost, lost_is, not_accepted, same_told}
 
-unlost : (l x : Bool) → (if l then false else x) ≡ true → (l ≡ false) × (x ≡ true)
+pub unlost : (l x : Bool) → (if l then false else x) ≡ true → (l ≡ false) × (x ≡ true)
 unlost true x e = absurd (cc)
 unlost false x e = (refl, e)
 
-lostless : (l x : Bool) → l ≡ false → x ≡ true → (if l then false else x) ≡ true
+pub lostless : (l x : Bool) → l ≡ false → x ≡ true → (if l then false else x) ≡ true
 lostless true x e f = absurd (cc)
 lostless false x e f = f
 
-inside : (l x : Bool) → (if l then Some false else Some x) ≡ Some (if l then false else x)
+pub inside : (l x : Bool) → (if l then Some false else Some x) ≡ Some (if l then false else x)
 inside true x = refl
 inside false x = refl
 

@@ -1,5 +1,5 @@
 -- Ends that depend on flags or ICMP types.
-use Rattle.std.proofs.Common.{◌≡◌, ◌≢◌, ℕ, zero, suc, Bool, true, false, not, Option, Some, None, List, refl, sym, ◌∙◌, ap, subst, MatchOption}
+use Rattle.std.proofs.Common.{◌≡◌, ◌≢◌, ℕ, zero, suc, Bool, true, false, not, Option, Some, None, List, refl, sym, ◌∙◌, ap, subst}
 use Rattle.std.proofs.lemmas.Bool.{not-true, not_from_false}
 use Rattle.std.specs.Prelude.{nat_eq, slice_index, if◌then◌else◌}
 use Rattle.fws_box.specs.Sides.{IsWithin}
@@ -11,13 +11,14 @@ use Rattle.fws_net.specs.declared.packet.Packet.{Packet}
 use Rattle.fws_net.specs.declared.site.Site.{Site}
 use Rattle.fws_net.specs.Points.{tops_of, packet_of}
 use Rattle.fws_tree.specs.declared.tables.Tables.{Tables}
+use Rattle.fws_tree.specs.Changed.{Agree}
 use Rattle.fws_tree.specs.Plain.{Plain, value}
 use Rattle.fws_tree.specs.Regular.{AreRegular}
 use Rattle.fws_place.specs.declared.breach.Pair.{Pair}
 use Rattle.fws_place.specs.declared.clause.Clause.TheVariants.{OneDestination, OneHostSource}
 use Rattle.fws_place.specs.declared.one_end.Compared.{Compared}
 use Rattle.fws_place.specs.declared.one_end.Compared.TheVariants.{Destinations, HostSources}
-use Rattle.fws_place.specs.Apart.{AreAlikeBy, AreApart, AreNear, HaveNear}
+use Rattle.fws_place.specs.Apart.{flags_and_icmp, AreAlikeBy, AreApart, HaveNear}
 use Rattle.fws_place.specs.Clauses.{AgreeButFlagsAndType, NamesPackets}
 use Rattle.fws_place.specs.Found.{IsSought}
 use Rattle.fws_place.specs.Meaning.{IsPacketOf, IsPairOf, new_of, no_ends, point_of, rec_of}
@@ -74,7 +75,7 @@ such_leaf compared true (Accept v) a e n = (refl, (v, refl, e))
 -- Points
 
 -- the packets of points that agree
-packets_agree : (p q : List ℕ) → AreNear p q → AgreeButFlagsAndType (packet_of p) (packet_of q)
+packets_agree : (p q : List ℕ) → Agree flags_and_icmp p q → AgreeButFlagsAndType (packet_of p) (packet_of q)
 packets_agree p q near = record {
   entry = near 0 refl;
   proto = near 1 refl;
@@ -85,7 +86,7 @@ packets_agree p q near = record {
 }
 
 -- and points of packets that agree
-points_near : (p q : Packet) → AgreeButFlagsAndType p q → AreNear (point_of p no_ends) (point_of q no_ends)
+points_near : (p q : Packet) → AgreeButFlagsAndType p q → Agree flags_and_icmp (point_of p no_ends) (point_of q no_ends)
 points_near p q agree zero n = agree.entry
 points_near p q agree (suc zero) n = agree.proto
 points_near p q agree (suc (suc zero)) n = agree.dst
@@ -122,7 +123,7 @@ accepted_at site tables compared t regular ends q a w e n =
 
 -- two points with different values are those of packets that get different ends
 pub ends_named : (site : Site) (tables : Tables) (compared : Compared) (t : Plain Outcome) → AreRegular site tables → HasEnds site tables compared t
-    → (p q : List ℕ) → AreApart (tops_of site) t Drop p q
+    → (p q : List ℕ) → AreApart flags_and_icmp (tops_of site) t Drop p q
     → NamesPackets site (GetDifferentEnds compared tables) (record { packet = packet_of p; rec = None }) (Some (record { packet = packet_of q; rec = None }))
 ends_named site tables compared t regular ends p q apart =
     let have = apart.have in
@@ -163,7 +164,7 @@ same_accept v w e = cc
 
 -- where equal fields give equal values, there are no such packets
 pub no_ends_named : (site : Site) (tables : Tables) (compared : Compared) (t : Plain Outcome) → AreRegular site tables → HasEnds site tables compared t
-    → AreAlikeBy (λ x. x) (tops_of site) t Drop → (first : Pair) (second : Option Pair) → NamesPackets site (GetDifferentEnds compared tables) first second → ⊥
+    → AreAlikeBy (λ x. x) flags_and_icmp (tops_of site) t Drop → (first : Pair) (second : Option Pair) → NamesPackets site (GetDifferentEnds compared tables) first second → ⊥
 no_ends_named site tables compared t regular ends alike first second named =
     let p : Packet = first.packet in
     let q : Packet = named.other in
@@ -171,7 +172,7 @@ no_ends_named site tables compared t regular ends alike first second named =
     let v : Rewrite = such.differ.rewriting in
     let w : Rewrite = such.differ.other in
     let also : compares compared q.entry ≡ true = ap (compares compared) (sym such.agree.entry) ∙ such.such in
-    let have : HaveNear (tops_of site) t Drop (point_of p no_ends) (point_of q no_ends) (Accept (end_alone compared v)) (Accept (end_alone compared w)) = record {
+    let have : HaveNear flags_and_icmp (tops_of site) t Drop (point_of p no_ends) (point_of q no_ends) (Accept (end_alone compared v)) (Accept (end_alone compared w)) = record {
       within = named.of_site;
       other_within = named.other_of_site;
       near = points_near p q such.agree;

@@ -50,7 +50,7 @@ clauses_met site tables fits = record {
 -- Established pairs
 
 -- an outcome that a table doesn't have is a drop
-got : (v : Option Outcome) (w : Rewrite) → unwrap_or v Drop ≡ Accept w → v ≡ Some (Accept w)
+pub got : (v : Option Outcome) (w : Rewrite) → unwrap_or v Drop ≡ Accept w → v ≡ Some (Accept w)
 got None w e = absurd (cc)
 got (Some o) w e = ap Some e
 
@@ -92,7 +92,7 @@ itself (Some e) =
     port (Some n) = eq-eqb n n refl
 
 -- ends that don't differ are equal
-not_different : (x y : Option End) → (x ≢ y → ⊥) → x ≡ y
+pub not_different : (x y : Option End) → (x ≢ y → ⊥) → x ≡ y
 not_different x y h = elim (cases_Bool (option_eq same_end x y)) [
   | inl same ↦ option_exact same_end end_exact x y same
   | inr other ↦ absurd (h (λ e. both_ways (option_eq same_end x y) other (ap (option_eq same_end x) (sym e) ∙ itself x)))
@@ -131,15 +131,15 @@ host_sources_agree site tables fits p q v w first second host agree accepted oth
 -- New packets
 
 -- what no packet is named for doesn't hold of a packet of the site
-unnamed : (site : Site) (Such : Packet → Type 0) → ((first : Pair) (second : Option Pair) → NamesPacket site Such first second → ⊥) → (p : Packet) → IsPacketOf site p → Such p → ⊥
+pub unnamed : (site : Site) (Such : Packet → Type 0) → ((first : Pair) (second : Option Pair) → NamesPacket site Such first second → ⊥) → (p : Packet) → IsPacketOf site p → Such p → ⊥
 unnamed site Such none p of_site such =
     none (record { packet = p; rec = None }) None (record { of_site = of_site; new = refl; alone = refl; such = such })
 
-no_truth : (b : Bool) → (b ≡ true → ⊥) → b ≡ false
+pub no_truth : (b : Bool) → (b ≡ true → ⊥) → b ≡ false
 no_truth true h = absurd (h refl)
 no_truth false h = refl
 
-nothing_there : (end : Option End) → is_some end ≡ false → end ≡ None
+pub nothing_there : (end : Option End) → is_some end ≡ false → end ≡ None
 nothing_there None h = refl
 nothing_there (Some e) h = absurd (false≢true (sym h))
 

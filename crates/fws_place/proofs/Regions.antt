@@ -1,4 +1,4 @@
--- The sides of the host's pairs, and of those that are delivered.
+-- The sides of the host's pairs, of those that are delivered, and of what comes from the inside.
 use Rattle.std.proofs.Common.{◌≡◌, ℕ, ◌+◌, ◌-◌, ◌^◌, ◌&&◌, not, List, [], ◌∷◌, ◌++◌, refl, sym, ◌∙◌, ap, subst, arith, length, get_or}
 use Rattle.std.proofs.lemmas.Bool.Decides.{nat_tests}
 use Rattle.std.proofs.Math.Bool.{and-true}
@@ -10,6 +10,7 @@ use Rattle.fws_net.specs.declared.site.Site.{Site}
 use Rattle.fws_net.specs.Points.{tops_of, packet_of}
 use Rattle.fws_net.specs.Routes.{is_local}
 use Rattle.fws_place.specs.Meaning.{point_of, rec_of}
+use Rattle.fws_place.specs.Rewritings.{is_inside, side_of}
 use Rattle.fws_place.proofs.Passing.{from_one, two_sides, whole_have, within_split}
 use Rattle.fws_place.proofs.PairPoints.{point_back}
 
@@ -24,10 +25,10 @@ middle = 255 ∷ (2 ^ 32 - 1) ∷ 65535 ∷ (2 ^ 32 - 1) ∷ 65535 ∷ 63 ∷ 25
 abbrev others : List ℕ
 others = 65535 ∷ (2 ^ 32 - 1) ∷ 65535 ∷ []
 
--- the sides of the host's pairs
-pub hosting : (site : Site) (sides : List (List Iv)) (s : List Iv) → sides ≡ whole_sides (tops_of site) → s ≡ record { lo = 0; hi = 0 } ∷ []
-    → (p : List ℕ) → IsWithin (tops_of site) p → sides_have (slice_set sides 0 s) p ≡ nat_eq (slice_index p 0) 0
-hosting site sides s wide none p w =
+-- with another side for the entry
+pub first_side : (site : Site) (sides : List (List Iv)) (s : List Iv) → sides ≡ whole_sides (tops_of site) → (p : List ℕ) → IsWithin (tops_of site) p
+    → sides_have (slice_set sides 0 s) p ≡ has s (slice_index p 0)
+first_side site sides s wide p w =
     let at : ℕ → ℕ = λ k. get_or p k 0 in
     let q : List ℕ = at 1 ∷ at 2 ∷ at 3 ∷ at 4 ∷ at 5 ∷ at 6 ∷ at 7 ∷ at 8 ∷ at 9 ∷ at 10 ∷ at 11 ∷ [] in
     let back : point_of (packet_of p) (rec_of p) ≡ p = point_back site p w in
@@ -35,7 +36,12 @@ hosting site sides s wide none p w =
     ap (λ ws. sides_have (slice_set ws 0 s) p) wide
     ∙ ap (λ k. sides_have (slice_set (whole_sides (tops_of site)) 0 s) k) (sym back)
     ∙ ap (λ b. has s (at 0) && b) (whole_have (middle ++ (2 ^ 32 - 1) ∷ others) q v.1) ∙ and-true (has s (at 0))
-    ∙ ap (λ t. has t (at 0)) none ∙ zero_alone (at 0)
+
+-- the sides of the host's pairs
+pub hosting : (site : Site) (sides : List (List Iv)) (s : List Iv) → sides ≡ whole_sides (tops_of site) → s ≡ record { lo = 0; hi = 0 } ∷ []
+    → (p : List ℕ) → IsWithin (tops_of site) p → sides_have (slice_set sides 0 s) p ≡ nat_eq (slice_index p 0) 0
+hosting site sides s wide none p w =
+    first_side site sides s wide p w ∙ ap (λ t. has t (slice_index p 0)) none ∙ zero_alone (slice_index p 0)
 
 -- the sides of pairs that are delivered
 pub staying : (site : Site) (sides : List (List Iv)) (s r : List Iv) → sides ≡ whole_sides (tops_of site) → s ≡ record { lo = 1; hi = length site.faces + 1 } ∷ []
@@ -53,3 +59,8 @@ staying site sides s r wide one own p w =
     ∙ two_sides s r middle others (at 0) (at 8) q l refl parts.0 parts.1.1
     ∙ ap (λ t. has t (at 0) && has r (at 8)) one ∙ ap (λ b. b && has r (at 8)) (from_one (at 0) (length site.faces + 1) v.0)
     ∙ ap (λ b. not (nat_eq (at 0) 0) && b) (own (at 8))
+
+-- the sides of what comes from the inside
+pub from_inside : (site : Site) (sides : List (List Iv)) (s : List Iv) → sides ≡ whole_sides (tops_of site) → ((e : ℕ) → has s e ≡ is_inside (side_of site e))
+    → (p : List ℕ) → IsWithin (tops_of site) p → sides_have (slice_set sides 0 s) p ≡ is_inside (side_of site (slice_index p 0))
+from_inside site sides s wide entries p w = first_side site sides s wide p w ∙ entries (slice_index p 0)

@@ -278,7 +278,7 @@ drops_seen site tables regular meets p r w lasting = (
     itself = record { entry = refl; proto = refl; src = refl; sport = refl; flags = refl; icmp = refl; rdst = refl; rdport = refl }
 
 -- a rewriting that writes nothing
-bare : (v : Rewrite) → v.src ≡ None → v.dst ≡ None → v ≡ nothing_written
+pub bare : (v : Rewrite) → v.src ≡ None → v.dst ≡ None → v ≡ nothing_written
 bare v src dst = λ i. record { src = src i; dst = dst i }
 
 -- what is accepted isn't rewritten

@@ -1,48 +1,61 @@
--- Points that agree in all but flags and ICMP types, and what a tree has there.
-use Rattle.std.specs.Prelude.{◌≡◌, ◌≢◌, ℕ, ◌/◌, ◌%◌, Bool, ◌&&◌, not, nat_eq, Some, List, unwrap_or, position, Contains, if◌then◌else◌}
+-- Points that agree in all fields but some, and what a tree has there.
+use Rattle.std.specs.Prelude.{◌≡◌, ◌≢◌, ℕ, ◌/◌, ◌%◌, Bool, ◌&&◌, not, nat_eq, Some, List, [], ◌∷◌, unwrap_or, position, Contains, if◌then◌else◌}
+use Rattle.fws_iv.specs.declared.iv.Iv.{Iv}
 use Rattle.fws_box.specs.Sides.{IsWithin}
 use Rattle.fws_tree.specs.Changed.{Agree}
 use Rattle.fws_tree.specs.Plain.{Plain, value}
 use Rattle.fws_place.specs.Found.{IsTrueAt}
 
--- the points agree in all but flags and ICMP types, the fields 6 and 7
-abbrev pub AreNear : List ℕ → List ℕ → Type 0
-AreNear p q = Agree 192 p q
+-- the fields of flags and of ICMP types, by their bits
+abbrev pub flags_and_icmp : ℕ
+flags_and_icmp = 192
+
+-- the field of flags
+abbrev pub flags_alone : ℕ
+flags_alone = 64
+
+-- the fields of the entry and of flags
+abbrev pub entry_and_flags : ℕ
+entry_and_flags = 65
+
+-- the values of a field that keep a point near: all of them where the field's bit is set, else the point's alone
+abbrev pub near_side : Bool → ℕ → ℕ → List Iv
+near_side free top x = record { lo = if free then 0 else x; hi = if free then top else x } ∷ []
 
 -- Trees of truth values
 
--- of two such points the one tree is true at the first, and the other at the second
-pub record AreTrueNear (tops : List ℕ) (t u : Plain Bool) (p q : List ℕ) : Type 0 where
+-- of two points that agree in all fields whose bits aren't set the one tree is true at the first, and the other at the second
+pub record AreTrueNear (fields : ℕ) (tops : List ℕ) (t u : Plain Bool) (p q : List ℕ) : Type 0 where
   pub first : IsTrueAt tops t p
   pub second : IsTrueAt tops u q
-  pub near : AreNear p q
+  pub near : Agree fields p q
 
 -- there are no two points that are such
-abbrev pub NoneTrueNear : List ℕ → Plain Bool → Plain Bool → Type 0
-NoneTrueNear tops t u = (p q : List ℕ) → AreTrueNear tops t u p q → ⊥
+abbrev pub NoneTrueNear : ℕ → List ℕ → Plain Bool → Plain Bool → Type 0
+NoneTrueNear fields tops t u = (p q : List ℕ) → AreTrueNear fields tops t u p q → ⊥
 
 -- Trees of leaves, of which one doesn't count
 
 -- two such points have values that count
-pub record HaveNear {L : Type 0} (tops : List ℕ) (t : Plain L) (off : L) (p q : List ℕ) (a b : L) : Type 0 where
+pub record HaveNear {L : Type 0} (fields : ℕ) (tops : List ℕ) (t : Plain L) (off : L) (p q : List ℕ) (a b : L) : Type 0 where
   pub within : IsWithin tops p
   pub other_within : IsWithin tops q
-  pub near : AreNear p q
+  pub near : Agree fields p q
   pub here : value t p ≡ Some a
   pub there : value t q ≡ Some b
   pub counts : a ≢ off
   pub other_counts : b ≢ off
 
 -- and they are different
-pub record AreApart {L : Type 0} (tops : List ℕ) (t : Plain L) (off : L) (p q : List ℕ) : Type 0 where
+pub record AreApart {L : Type 0} (fields : ℕ) (tops : List ℕ) (t : Plain L) (off : L) (p q : List ℕ) : Type 0 where
   pub leaf : L
   pub other : L
-  pub have : HaveNear tops t off p q leaf other
+  pub have : HaveNear fields tops t off p q leaf other
   pub differ : leaf ≢ other
 
 -- at any two such points a function gives the same
-abbrev pub AreAlikeBy : {L X : Type 0} → (L → X) → List ℕ → Plain L → L → Type 0
-AreAlikeBy {L} f tops t off = (p q : List ℕ) (a b : L) → HaveNear tops t off p q a b → f a ≡ f b
+abbrev pub AreAlikeBy : {L X : Type 0} → (L → X) → ℕ → List ℕ → Plain L → L → Type 0
+AreAlikeBy {L} f fields tops t off = (p q : List ℕ) (a b : L) → HaveNear fields tops t off p q a b → f a ≡ f b
 
 -- each value of the tree is among these
 abbrev pub HasValuesAmong : {L : Type 0} → Plain L → List L → Type 0

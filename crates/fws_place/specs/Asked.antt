@@ -6,14 +6,15 @@ use Rattle.fws_net.specs.declared.connection.Rec.{Rec}
 use Rattle.fws_net.specs.declared.site.Site.{Site}
 use Rattle.fws_tree.specs.Plain.{Plain, value}
 use Rattle.fws_place.specs.declared.asking.Asked.{Asked}
-use Rattle.fws_place.specs.declared.asking.Asked.TheVariants.{SourcePort, Destination, Network}
+use Rattle.fws_place.specs.declared.asking.Asked.TheVariants.{Source, SourcePort, Destination, Network}
 use Rattle.fws_place.specs.declared.breach.Pair.{Pair}
 use Rattle.fws_place.specs.Clauses.{NamesPacket}
 use Rattle.fws_place.specs.Meaning.{IsPairOf, point_of}
-use Rattle.fws_place.specs.Rewritings.{is_network, writes_destination, writes_source_port}
+use Rattle.fws_place.specs.Rewritings.{is_network, writes_destination, writes_source, writes_source_port}
 
 -- the rewriting has what is asked
 abbrev pub passes : Asked → Rewrite → Bool
+passes Source w = writes_source w
 passes SourcePort w = writes_source_port w
 passes Destination w = writes_destination w
 passes Network w = is_network w.src || is_network w.dst

@@ -1,4 +1,4 @@
--- How packets are found that are delivered with a source written.
+-- How packets are found that have a source written and are sent to one of some addresses, as those that are delivered.
 use Rattle.std.specs.Prelude.{◌≡◌, ℕ, ◌+◌, ◌%◌, ◌^◌, ◌<◌, ◌≤◌, Bool, true, false, List, [], slice_index_or, slice_set, Contains, if◌then◌else◌}
 use Rattle.fws_iv.specs.declared.iv.Iv.{Iv}
 use Rattle.fws_iv.specs.Ivs.{has}
@@ -34,7 +34,7 @@ abbrev pub with_source : Outcome → Outcome
 with_source Drop = Drop
 with_source (Accept w) = if writes_source w then Accept w else Drop
 
--- a packet of the row with this entry and destination is accepted and delivered
+-- a packet of the row with this entry and destination is accepted and sent to one of the addresses
 pub record IsDelivered (local : List Iv) (row : Row Outcome) (entry dst : ℕ) : Type 0 where
   pub entry_there : has (slice_index_or row.sides 0 []) entry ≡ true
   pub arrives : 1 ≤ entry
@@ -43,11 +43,12 @@ pub record IsDelivered (local : List Iv) (row : Row Outcome) (entry dst : ℕ) :
   pub accepted : row.leaf ≡ Accept rewriting
   pub here : has local (written_addr rewriting.dst dst) ≡ true
 
--- none is, up to the greatest entry
-abbrev pub NoneDelivered : List Iv → ℕ → Row Outcome → Type 0
-NoneDelivered local top row = (entry dst : ℕ) → entry ≤ top → dst < 2 ^ 32 → IsDelivered local row entry dst → ⊥
+-- none is, up to the greatest entry, and what is written over its destinations are addresses
+pub record NoneDelivered (local : List Iv) (top : ℕ) (row : Row Outcome) : Type 0 where
+  pub none : (entry dst : ℕ) → entry ≤ top → dst < 2 ^ 32 → IsDelivered local row entry dst → ⊥
+  pub addresses : (w : Rewrite) → row.leaf ≡ Accept w → (d : ℕ) → d < 2 ^ 32 → written_addr w.dst d < 2 ^ 32
 
--- the point is the least one of a row but for its entry and destination, with which packets are delivered
+-- the point is the least one of a row but for its entry and destination, with which packets are sent to one of the addresses
 pub record IsDeliveredIn (local : List Iv) (top : ℕ) (rows : List (Row Outcome)) (q : List ℕ) : Type 0 where
   pub row : Row Outcome
   pub there : Contains rows row

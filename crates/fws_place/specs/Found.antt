@@ -9,7 +9,6 @@ use Rattle.fws_tree.specs.declared.tables.Tables.{Tables}
 use Rattle.fws_tree.specs.Plain.{Plain, value}
 use Rattle.fws_place.specs.declared.breach.Pair.{Pair}
 use Rattle.fws_place.specs.declared.clause.Clause.{Clause}
-use Rattle.fws_place.specs.declared.clause.Clause.TheVariants.{FewOutcomes, KeepsSourcePorts, KeepsHostDestinations, KeepsDeliveredSources, DropsByOneView, FewRedirects, DropsAheadOfLookup, DropsNoEstablished, OneDestination, OneHostSource, PassesHost, KeepsDestinations, WritesInsideOut, TellsByAckAlone, OneSource, DropsAlways, WritesWholeAddresses}
 use Rattle.fws_place.specs.Clauses.{Breaks, NamesPair}
 use Rattle.fws_place.specs.Fits.{Meets}
 use Rattle.fws_place.specs.Meaning.{IsPairOf, point_of}
@@ -38,23 +37,3 @@ IsTrueAtNoPair site t = (p : Packet) (r : Rec) → IsPairOf site p r → value t
 -- what was looked for: packets that break the clause, or that there are none
 abbrev pub IsSought : Site → Tables → Clause → Option (Pair × Option Pair) → Type 0
 IsSought site tables clause found = MatchOption found (Meets site tables clause) (λ named. Breaks site tables clause named.0 named.1)
-
--- it is decided whether tables meet the clause
-abbrev pub IsDecided : Clause → Type 0
-IsDecided FewOutcomes = Unit {0}
-IsDecided KeepsSourcePorts = Unit {0}
-IsDecided KeepsHostDestinations = Unit {0}
-IsDecided KeepsDeliveredSources = Unit {0}
-IsDecided DropsByOneView = Unit {0}
-IsDecided FewRedirects = Unit {0}
-IsDecided DropsAheadOfLookup = Unit {0}
-IsDecided DropsNoEstablished = Unit {0}
-IsDecided OneDestination = Unit {0}
-IsDecided OneHostSource = Unit {0}
-IsDecided PassesHost = ⊥
-IsDecided KeepsDestinations = ⊥
-IsDecided WritesInsideOut = ⊥
-IsDecided TellsByAckAlone = ⊥
-IsDecided OneSource = ⊥
-IsDecided DropsAlways = ⊥
-IsDecided WritesWholeAddresses = Unit {0}

@@ -1,4 +1,4 @@
-//! Points that agree in all but flags and ICMP types and have different leaves.
+//! Points that agree in all fields but some and have different leaves.
 
 ghost use Rattle.std.specs.Prelude.{◌≡◌, ◌<◌, List, IfOk, MatchOption, All, Contains};
 ghost use Rattle.fws_place.specs.Apart.{has_bit, is_marked, place_in, AreAlikeBy, AreApart, HasValuesAmong};
@@ -74,7 +74,7 @@ impl<L: Leaf> Relabelling<L, bool> for ByBit<'_, L> {
     }
 }
 
-// Two points that agree in all but flags and ICMP types and have leaves that count, of whose places the bit for this power
+// Two points that agree in all fields whose bits aren't set and have leaves that count, of whose places the bit for this power
 // of 2 differs. An error is want of memory.
 fn apart_by<L: Leaf>(
     alloc: Global,
@@ -82,9 +82,10 @@ fn apart_by<L: Leaf>(
     off: &L,
     kept: &IndexSet<L>,
     size: u64,
+    fields: u16,
 ) -> Result<Option<(Point, Point)>, Memory>
     requires { 0 < size }
-    ensures { IfOk result (λ found. MatchOption found (AreAlikeBy (λ x. has_bit size (place_in L.PartialEq.eq kept.now.keys x)) tree.now.0 tree.now.1 off.now) (λ pair. AreApart tree.now.0 tree.now.1 off.now pair.0 pair.1)) }
+    ensures { IfOk result (λ found. MatchOption found (AreAlikeBy (λ x. has_bit size (place_in L.PartialEq.eq kept.now.keys x)) fields tree.now.0 tree.now.1 off.now) (λ pair. AreApart fields tree.now.0 tree.now.1 off.now pair.0 pair.1)) }
 {
     let set = ByBit {
         off,
@@ -100,24 +101,25 @@ fn apart_by<L: Leaf>(
     };
     let first = tree.relabel(alloc, &set)?;
     let second = tree.relabel(alloc, &clear)?;
-    true_together(alloc, &first, &second)
+    true_together(alloc, &first, &second, fields)
 }
 
-// Two points that agree in all but flags and ICMP types and have different leaves that count, where those that are kept are
+// Two points that agree in all fields whose bits aren't set and have different leaves that count, where those that are kept are
 // all of the tree's. An error is want of memory.
 fn apart_among<L: Leaf>(
     alloc: Global,
     tree: &Tree<L>,
     off: &L,
     kept: &IndexSet<L>,
+    fields: u16,
 ) -> Result<Option<(Point, Point)>, Memory>
     requires { HasValuesAmong tree.now.1 kept.now.keys }
-    ensures { IfOk result (λ found. MatchOption found (AreAlikeBy (λ x. x) tree.now.0 tree.now.1 off.now) (λ pair. AreApart tree.now.0 tree.now.1 off.now pair.0 pair.1)) }
+    ensures { IfOk result (λ found. MatchOption found (AreAlikeBy (λ x. x) fields tree.now.0 tree.now.1 off.now) (λ pair. AreApart fields tree.now.0 tree.now.1 off.now pair.0 pair.1)) }
 {
     let count = kept.len() as u64;
     let mut size: u64 = 1;
     while size < count {
-        if let Some(found) = apart_by(alloc, tree, off, kept, size)? {
+        if let Some(found) = apart_by(alloc, tree, off, kept, size, fields)? {
             return Ok(Some(found));
         }
         size *= 2;
@@ -125,16 +127,17 @@ fn apart_among<L: Leaf>(
     Ok(None)
 }
 
-/// Two points that agree in all but flags and ICMP types and have different leaves, neither of which is the one that
+/// Two points that agree in all fields whose bits aren't set and have different leaves, neither of which is the one that
 /// doesn't count, if there are any. An error is want of memory. The work is that of a few changes of the tree for each
 /// binary digit of the number of leaves.
 pub(crate) fn apart<L: Leaf>(
     alloc: Global,
     tree: &Tree<L>,
     off: &L,
+    fields: u16,
 ) -> Result<Option<(Point, Point)>, Memory>
-    ensures { IfOk result (λ found. MatchOption found (AreAlikeBy (λ x. x) tree.now.0 tree.now.1 off.now) (λ pair. AreApart tree.now.0 tree.now.1 off.now pair.0 pair.1)) }
+    ensures { IfOk result (λ found. MatchOption found (AreAlikeBy (λ x. x) fields tree.now.0 tree.now.1 off.now) (λ pair. AreApart fields tree.now.0 tree.now.1 off.now pair.0 pair.1)) }
 {
     let kept = once(alloc, tree.shared().leaves)?;
-    apart_among(alloc, tree, off, &kept)
+    apart_among(alloc, tree, off, &kept, fields)
 }

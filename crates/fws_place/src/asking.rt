@@ -20,6 +20,8 @@ use std::alloc::Global;
 /// What is asked of the rewriting of a packet that is accepted.
 #[derive(Clone, Copy)]
 pub(crate) enum Asked {
+    /// A source is written.
+    Source,
     /// The port of a source is written.
     SourcePort,
     /// A destination is written.
@@ -53,6 +55,7 @@ fn passes(asked: Asked, rewrite: &Rewrite) -> bool
     ensures { result ≡ passes asked rewrite.now }
 {
     match asked {
+        Asked::Source => rewrite.src.is_some(),
         Asked::SourcePort => writes_port(rewrite),
         Asked::Destination => rewrite.dst.is_some(),
         Asked::Network => is_network(&rewrite.src) || is_network(&rewrite.dst),

@@ -36,11 +36,11 @@ fn up_to(d: u64, bound: u32) -> Option<u32>
     None
 }
 
-// A destination of the range that is local once its rest stands behind the address.
-fn kept_local(local: &Ivs, addr: u32, size: u64, lo: u32, hi: u32) -> Option<u32>
+/// The first destination of the range that is local once its rest stands behind the address.
+pub(crate) fn kept_local(local: &Ivs, addr: u32, size: u64, lo: u32, hi: u32) -> Option<u32>
     requires some { 0 < size }
     requires fits { addr + size ≤ 2 ^ 32 }
-    ensures { MatchOption result (NoneIn (is_kept_local local.now addr size) lo (hi + 1)) (λ d. (lo ≤ d) × (d ≤ hi) × (is_kept_local local.now addr size d ≡ true) × (d < 2 ^ 32)) }
+    ensures { MatchOption result (NoneIn (is_kept_local local.now addr size) lo (hi + 1)) (λ d. (lo ≤ d) × (d ≤ hi) × (is_kept_local local.now addr size d ≡ true) × (d < 2 ^ 32) × NoneIn (is_kept_local local.now addr size) lo d) }
 {
     let from = lo as u64 % size;
     let block = lo as u64 - from;
@@ -67,14 +67,23 @@ fn kept_local_of(local: &Ivs, addr: u32, size: u64, side: &Ivs) -> Option<u32>
     None
 }
 
-// How many addresses have the bits that an end writes.
-fn size_of(addr: u32, len: u8) -> u64
+/// How many addresses have the bits that an end writes.
+pub(crate) fn size_of(addr: u32, len: u8) -> u64
     requires low { len ≤ 32 }
     requires clear { addr % 2 ^ (32 - len) ≡ 0 }
     ensures size { result ≡ 2 ^ (32 - len) }
     ensures fits { addr + result ≤ 2 ^ 32 }
 {
     2u64.pow((32 - len) as u32)
+}
+
+/// Does nothing: the clause is that an end writes an address over an address.
+pub(crate) fn writes_addresses(end: Option<End>)
+    ensures { (d : ℕ) → d < 2 ^ 32 → written_addr end d < 2 ^ 32 }
+{
+    if let Some(end) = end {
+        let _size = size_of(end.addr, end.len);
+    }
 }
 
 /// A destination of the side that is local once the end is written over it. The work is that of the side's ranges.

@@ -46,8 +46,12 @@ fn staying_sides(alloc: Global, site: &Site) -> Result<[Ivs; 12], Memory>
     Ok(sides)
 }
 
-// The tree that tells of each pair whether its packet is accepted when it is new.
-fn accepted_new(alloc: Global, site: &Site, tables: &Tables) -> Result<Tree<bool>, Memory>
+/// The tree that tells of each pair whether its packet is accepted when it is new. An error is want of memory.
+pub(crate) fn accepted_new(
+    alloc: Global,
+    site: &Site,
+    tables: &Tables,
+) -> Result<Tree<bool>, Memory>
     requires { AreRegular site.now tables.now }
     ensures tops { IfOk result (λ t. t.0 ≡ tops_of site.now) }
     ensures tells { IfOk result (λ t. Tells site.now (λ p r. IsAcceptedNew tables.now p) t.1) }
@@ -186,9 +190,9 @@ fn among_host(
     named_pair(alloc, site, &breaking)
 }
 
-// The tree that tells of each pair whether it is dropped though its packet is accepted, in some connection or when it
-// is new.
-fn dropped_of_packet(
+/// The tree that tells of each pair whether it is dropped though its packet is accepted, in some connection or when it
+/// is new. An error is want of memory.
+pub(crate) fn dropped_of_packet(
     alloc: Global,
     site: &Site,
     tables: &Tables,

@@ -34,8 +34,8 @@ impl Relabelling<Outcome, bool> for Dropping {
     }
 }
 
-// The tree that tells of each pair whether it is dropped and isn't lost.
-fn dropped(alloc: Global, site: &Site, tables: &Tables) -> Result<Tree<bool>, Memory>
+/// The tree that tells of each pair whether it is dropped and isn't lost. An error is want of memory.
+pub(crate) fn dropped(alloc: Global, site: &Site, tables: &Tables) -> Result<Tree<bool>, Memory>
     requires sound { IsSound site.now }
     requires regular { AreRegular site.now tables.now }
     ensures tops { IfOk result (λ t. t.0 ≡ tops_of site.now) }

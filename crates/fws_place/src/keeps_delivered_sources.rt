@@ -8,7 +8,7 @@ ghost use Rattle.fws_place.specs.Found.{IsSought};
 ghost use Rattle.fws_tree.specs.Regular.{AreRegular};
 
 use crate::breach::Pair;
-use crate::delivering::local_of;
+use crate::delivering::{local_of, writes_addresses};
 use crate::first_true::leasts;
 use crate::point::packet_at;
 use crate::values::next_value;
@@ -20,7 +20,7 @@ use fws_tree::{Relabelling, Row, Tables};
 use std::alloc::Global;
 
 /// The outcomes that write a source, and drops for the others.
-struct WithSource;
+pub(crate) struct WithSource;
 
 impl Relabelling<Outcome, Outcome> for WithSource {
     ghost use Rattle.fws_place.specs.Delivered.{with_source};
@@ -40,25 +40,28 @@ impl Relabelling<Outcome, Outcome> for WithSource {
     }
 }
 
-// An entry and a destination with which packets of the row are delivered. Entries go up to the top.
+// An entry and a destination with which packets of the row are sent to one of the addresses. Entries go up to the top.
 fn delivered(local: &Ivs, top: u32, row: &Row<Outcome>) -> Option<(u32, u32)>
     requires { length row.now.sides ≡ 12 }
     ensures { MatchOption result (NoneDelivered local.now top row.now) (λ r. IsDelivered local.now row.now r.0 r.1 × (r.0 ≤ top) × (r.1 < 2 ^ 32)) }
 {
     match row.leaf {
         Outcome::Drop => None,
-        Outcome::Accept(rewrite) => match next_value(&row.sides[0], 1, top) {
-            None => None,
-            Some(entry) => match local_of(local, rewrite.dst, &row.sides[2]) {
+        Outcome::Accept(rewrite) => {
+            writes_addresses(rewrite.dst);
+            match next_value(&row.sides[0], 1, top) {
                 None => None,
-                Some(dst) => Some((entry, dst)),
-            },
-        },
+                Some(entry) => match local_of(local, rewrite.dst, &row.sides[2]) {
+                    None => None,
+                    Some(dst) => Some((entry, dst)),
+                },
+            }
+        }
     }
 }
 
-// A point of a row whose packets are delivered with its entry and destination.
-fn first_delivered(local: &Ivs, top: u32, rows: &[Row<Outcome>]) -> Option<Point>
+/// A point of a row whose packets are sent to one of the addresses with its entry and destination.
+pub(crate) fn first_delivered(local: &Ivs, top: u32, rows: &[Row<Outcome>]) -> Option<Point>
     requires { All (λ row. length row.sides ≡ 12) rows.now }
     ensures { MatchOption result (All (NoneDelivered local.now top) rows.now) (IsDeliveredIn local.now top rows.now) }
 {

@@ -18,6 +18,9 @@ use fws_num::Memory;
 use fws_tree::{Relabelling, Tables, Tree};
 use std::alloc::Global;
 
+// The fields of flags and ICMP types, by their bits.
+const FLAGS_AND_ICMP: u16 = 0xc0;
+
 /// Which ends of which packets are compared.
 #[derive(Clone, Copy)]
 pub(crate) enum Compared {
@@ -27,8 +30,8 @@ pub(crate) enum Compared {
     HostSources,
 }
 
-// The rewriting with the end that is compared alone.
-fn end_alone(compared: Compared, rewrite: Rewrite) -> Rewrite
+/// The rewriting with the end that is compared alone.
+pub(crate) fn end_alone(compared: Compared, rewrite: Rewrite) -> Rewrite
     ensures { result ≡ end_alone compared rewrite }
 {
     match compared {
@@ -45,7 +48,7 @@ fn end_alone(compared: Compared, rewrite: Rewrite) -> Rewrite
 
 /// Outcomes with the end that is compared alone.
 #[derive(Drop)]
-struct Alone(Compared);
+pub(crate) struct Alone(pub(crate) Compared);
 
 impl Relabelling<Outcome, Outcome> for Alone {
     ghost use Rattle.fws_place.specs.OneEnd.{alone};
@@ -94,7 +97,7 @@ pub(crate) fn different_ends(
     ensures { IfOk result (AreSoughtEnds site.now tables.now compared) }
 {
     let tree = ends_alone(alloc, site, tables, compared)?;
-    match apart(alloc, &tree, &Outcome::Drop)? {
+    match apart(alloc, &tree, &Outcome::Drop, FLAGS_AND_ICMP)? {
         None => Ok(None),
         Some(points) => {
             let first = packet_at(&points.0);

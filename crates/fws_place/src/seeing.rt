@@ -48,6 +48,19 @@ pub(crate) fn accepted(alloc: Global, site: &Site, tables: &Tables) -> Result<Tr
 // The fields from rdst on: with them alone free, a point stands for its packet.
 const ENDS: u16 = 0xf00;
 
+/// The tree that tells of each pair whether its packet is accepted in some connection: what rules that see packets
+/// as they enter can tell. An error is want of memory.
+pub fn accepted_somewhere(alloc: Global, site: &Site, tables: &Tables) -> Result<Tree<bool>, Memory>
+    requires { tables.now.est.0 ≡ tops_of site.now }
+    ensures tops { IfOk result (λ t. t.0 ≡ tops_of site.now) }
+    ensures reduced { IfOk result (λ t. IsReduced t.0 t.1) }
+    ensures tells { IfOk result (λ t. Tells site.now (λ p r. IsAcceptedSomewhere site.now tables.now p) t.1) }
+{
+    let accepted = accepted(alloc, site, tables)?;
+    let packet = accepted.exists(alloc, ENDS)?;
+    Ok(packet)
+}
+
 // The fields that a rule behind routing doesn't see: the destination and its port as the packet entered, and the
 // source and its port of the connection.
 const UNSEEN_BEHIND: u16 = 0xc0c;

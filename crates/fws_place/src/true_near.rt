@@ -1,73 +1,85 @@
-//! Points that agree in all but flags and ICMP types, at which trees are true.
+//! Points that agree in all fields but some, at which trees are true.
 
-ghost use Rattle.std.specs.Prelude.{◌≡◌, ◌<◌, ◌≤◌, ℕ, true, List, Some, slice_index, slice_set, IfOk, MatchOption};
-ghost use Rattle.fws_box.specs.Sides.{IsWithin};
-ghost use Rattle.fws_place.specs.Apart.{AreNear, AreTrueNear, NoneTrueNear};
+ghost use Rattle.std.specs.Prelude.{◌≡◌, ◌<◌, ◌≤◌, ◌↔◌, ℕ, true, IsTrue, List, IfOk, MatchOption};
+ghost use Rattle.fws_box.specs.Sides.{IsWithin, sides_have};
+ghost use Rattle.fws_place.specs.Apart.{near_side, AreTrueNear, NoneTrueNear};
 ghost use Rattle.fws_place.specs.Found.{IsTrueAt};
-ghost use Rattle.fws_tree.specs.Plain.{value};
+ghost use Rattle.fws_tree.specs.Changed.{is_free, Agree};
 
 use crate::drops_ahead_of_lookup::true_in_both;
 use crate::first_true::first_true;
-use fws_box::Point;
+use fws_box::{Point, no_sides};
+use fws_iv::{Ivs, one};
 use fws_num::Memory;
 use fws_tree::Tree;
 use std::alloc::Global;
 
-// The fields of flags and ICMP types.
-const FLAGS: usize = 6;
-
-const ICMP: usize = 7;
-
-const FLAGS_AND_ICMP: u16 = 0xc0;
-
-// The point with another value of a field at which the tree is true, if there is one.
-fn true_with(tree: &Tree<bool>, point: &Point, field: usize) -> Option<Point>
-    requires within { IsWithin tree.now.0 point.now }
-    requires field { field < 12 }
-    ensures { MatchOption result ((x : ℕ) → x ≤ slice_index tree.now.0 field → value tree.now.1 (slice_set point.now field x) ≡ Some true → ⊥) (λ q. IsTrueAt tree.now.0 tree.now.1 q × ((x : ℕ) × (q ≡ slice_set point.now field x))) }
+// Whether the bit of one of the twelve fields is set.
+fn is_free(fields: u16, field: u32) -> bool
+    requires { field < 12 }
+    ensures { result ≡ is_free fields field }
 {
-    let top = tree.tops()[field];
-    for x in 0..=top {
-        let mut other = *point;
-        other[field] = x;
-        if *tree.lookup(&other) {
-            return Some(other);
-        }
-    }
-    None
+    fields & 2u16.pow(field) != 0
 }
 
-// The point with other flags and another ICMP type at which the tree is true, if there is one.
-fn true_near(tree: &Tree<bool>, point: &Point) -> Option<Point>
+// The values of a field that keep a point near: all of them where its bit is set, else the point's alone.
+fn near_side(alloc: Global, free: bool, top: u32, value: u32) -> Result<Ivs, Memory>
+    ensures { IfOk result (λ side. side ≡ near_side free top value) }
+{
+    if free {
+        return one(alloc, 0, top);
+    }
+    one(alloc, value, value)
+}
+
+// The sides of the points that agree with this one in all fields whose bits aren't set.
+fn near_sides(
+    alloc: Global,
+    tops: &[u32; 12],
+    point: &Point,
+    fields: u16,
+) -> Result<[Ivs; 12], Memory>
+    requires { IsWithin tops.now point.now }
+    ensures { IfOk result (λ sides. (q : List ℕ) → IsWithin tops.now q → (sides_have sides q ≡ true) ↔ Agree fields point.now q) }
+{
+    let mut sides = no_sides(alloc);
+    for k in 0..12 {
+        sides[k] = near_side(alloc, is_free(fields, k as u32), tops[k], point[k])?;
+    }
+    Ok(sides)
+}
+
+// A point that agrees with this one in all fields whose bits aren't set, at which the tree is true, if there is one.
+fn true_near(
+    alloc: Global,
+    tree: &Tree<bool>,
+    point: &Point,
+    fields: u16,
+) -> Result<Option<Point>, Memory>
     requires { IsWithin tree.now.0 point.now }
-    ensures { MatchOption result ((q : List ℕ) → IsTrueAt tree.now.0 tree.now.1 q → AreNear point.now q → ⊥) (λ q. IsTrueAt tree.now.0 tree.now.1 q × AreNear point.now q) }
+    ensures { IfOk result (λ found. MatchOption found ((q : List ℕ) → IsTrueAt tree.now.0 tree.now.1 q → Agree fields point.now q → ⊥) (λ q. IsTrueAt tree.now.0 tree.now.1 q × Agree fields point.now q)) }
 {
-    let top = tree.tops()[FLAGS];
-    for flags in 0..=top {
-        let mut other = *point;
-        other[FLAGS] = flags;
-        if let Some(found) = true_with(tree, &other, ICMP) {
-            return Some(found);
-        }
-    }
-    None
+    let sides = near_sides(alloc, tree.tops(), point, fields)?;
+    let near = tree.restrict(alloc, &sides, false)?;
+    first_true(alloc, &near)
 }
 
-/// Two points that agree in all but flags and ICMP types, at the first of which the one tree is true, and at the second
+/// Two points that agree in all fields whose bits aren't set, at the first of which the one tree is true, and at the second
 /// the other, if there are any. An error is want of memory.
 pub(crate) fn true_together(
     alloc: Global,
     first: &Tree<bool>,
     second: &Tree<bool>,
+    fields: u16,
 ) -> Result<Option<(Point, Point)>, Memory>
     requires { second.now.0 ≡ first.now.0 }
-    ensures { IfOk result (λ found. MatchOption found (NoneTrueNear first.now.0 first.now.1 second.now.1) (λ pair. AreTrueNear first.now.0 first.now.1 second.now.1 pair.0 pair.1)) }
+    ensures { IfOk result (λ found. MatchOption found (NoneTrueNear fields first.now.0 first.now.1 second.now.1) (λ pair. AreTrueNear fields first.now.0 first.now.1 second.now.1 pair.0 pair.1)) }
 {
-    let somewhere = second.exists(alloc, FLAGS_AND_ICMP)?;
+    let somewhere = second.exists(alloc, fields)?;
     let both = true_in_both(alloc, first, &somewhere)?;
     match first_true(alloc, &both)? {
         None => Ok(None),
-        Some(point) => match true_near(second, &point) {
+        Some(point) => match true_near(alloc, second, &point, fields)? {
             Some(other) => Ok(Some((point, other))),
             None => unreachable!(),
         },

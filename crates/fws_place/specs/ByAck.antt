@@ -1,0 +1,62 @@
+-- Points that differ in flags alone, and how ACK and RST tell them apart.
+use Rattle.std.specs.Prelude.{◌≡◌, ℕ, Bool, true, false, ◌||◌, not, nat_eq, Option, Some, List, slice_index, if◌then◌else◌, MatchOption}
+use Rattle.std.specs.Int.Bits.{bit_and}
+use Rattle.fws_box.specs.Sides.{IsWithin}
+use Rattle.fws_net.specs.declared.site.Site.{Site}
+use Rattle.fws_net.specs.Points.{tops_of}
+use Rattle.fws_net.specs.Routes.{is_local}
+use Rattle.fws_tree.specs.Changed.{Agree}
+use Rattle.fws_tree.specs.Plain.{Plain, value}
+use Rattle.fws_place.specs.declared.breach.Pair.{Pair}
+use Rattle.fws_place.specs.Apart.{flags_alone}
+use Rattle.fws_place.specs.Found.{IsTrueAt}
+
+-- ACK or RST is among the flags
+abbrev pub acknowledges : ℕ → Bool
+acknowledges flags = not (nat_eq (bit_and flags 20) 0)
+
+-- they are as it is asked
+abbrev pub acknowledges_as : Bool → ℕ → Bool
+acknowledges_as asked flags = if asked then acknowledges flags else not (acknowledges flags)
+
+-- the point is one of packets that arrive
+abbrev pub arrives_at : List ℕ → Bool
+arrives_at q = not (nat_eq (slice_index q 0) 0)
+
+-- two points of arriving packets agree in all but flags; both have ACK or RST, or neither has, as it is asked; the tree is
+-- true at the first and false at the second
+pub record AreToldByMore (asked : Bool) (tops : List ℕ) (t : Plain Bool) (p q : List ℕ) : Type 0 where
+  pub first : IsTrueAt tops t p
+  pub within : IsWithin tops q
+  pub second : value t q ≡ Some false
+  pub arrives : arrives_at p ≡ true
+  pub flags : acknowledges_as asked (slice_index p 6) ≡ true
+  pub other_flags : acknowledges_as asked (slice_index q 6) ≡ true
+  pub near : Agree flags_alone p q
+
+-- two points are such, or there are none
+abbrev pub AreSoughtByMore : List ℕ → Plain Bool → Option (List ℕ × List ℕ) → Type 0
+AreSoughtByMore tops t found = MatchOption found ((asked : Bool) (p q : List ℕ) → AreToldByMore asked tops t p q → ⊥)
+    (λ pair. (asked : Bool) × AreToldByMore asked tops t pair.0 pair.1)
+
+-- the packets of the destination aren't lost
+abbrev pub is_found : Site → ℕ → Bool
+is_found site dst = site.forwarding || is_local site dst
+
+-- of two points of arriving packets of TCP that agree in all but flags the first has ACK or RST, isn't lost, has one tree
+-- true and the other false; the second has neither, and the first tree is false there
+pub record AreAheadAt (site : Site) (sometimes new : Plain Bool) (p q : List ℕ) : Type 0 where
+  pub first : IsTrueAt (tops_of site) sometimes p
+  pub dropped : value new p ≡ Some false
+  pub within : IsWithin (tops_of site) q
+  pub never : value sometimes q ≡ Some false
+  pub arrives : arrives_at p ≡ true
+  pub tcp : nat_eq (slice_index p 1) 6 ≡ true
+  pub found : is_found site (slice_index p 2) ≡ true
+  pub flags : acknowledges (slice_index p 6) ≡ true
+  pub other_flags : acknowledges (slice_index q 6) ≡ false
+  pub near : Agree flags_alone p q
+
+-- packets are named that are such, or there are none
+abbrev pub AreSoughtSuch : (Pair → Option Pair → Type 0) → Option (Pair × Option Pair) → Type 0
+AreSoughtSuch Names found = MatchOption found ((first : Pair) (second : Option Pair) → Names first second → ⊥) (λ named. Names named.0 named.1)

@@ -1,0 +1,109 @@
+//! Points that flags tell apart though ACK and RST are the same.
+
+ghost use Rattle.std.specs.Prelude.{◌≡◌, not, false, ℕ, Bool, List, Some, IfOk, MatchOption, slice_index, if◌then◌else◌};
+ghost use Rattle.fws_box.specs.Sides.{IsWithin};
+ghost use Rattle.fws_net.specs.Points.{tops_of};
+ghost use Rattle.fws_net.specs.Routes.{IsSound};
+ghost use Rattle.fws_place.specs.ByAck.{acknowledges_as, arrives_at, AreSoughtByMore, AreToldByMore};
+ghost use Rattle.fws_tree.specs.Plain.{value};
+
+use crate::ack_flags::ack_flags;
+use crate::kept_in::kept_in;
+use crate::true_near::true_together;
+use fws_box::Point;
+use fws_iv::one;
+use fws_net::{Site, tops};
+use fws_num::Memory;
+use fws_tree::{Relabelling, Tree};
+use std::alloc::Global;
+
+/// The field of flags, by its bit.
+pub(crate) const FLAGS_ALONE: u16 = 0x40;
+
+/// The other truth value.
+struct Not;
+
+impl Relabelling<bool, bool> for Not {
+    ghost use Rattle.std.specs.Prelude.{not};
+
+    ghost gives = { λ s leaf. not leaf };
+
+    fn leaf(&self, _alloc: Global, leaf: &bool) -> Result<bool, Memory> {
+        Ok(!*leaf)
+    }
+}
+
+/// The tree that is true where this one is false. An error is want of memory.
+pub(crate) fn false_in(alloc: Global, tree: &Tree<bool>) -> Result<Tree<bool>, Memory>
+    ensures tops { IfOk result (λ t. t.0 ≡ tree.now.0) }
+    ensures value { IfOk result (λ t. (q : List ℕ) → IsWithin tree.now.0 q → (b : Bool) × (value tree.now.1 q ≡ Some b) × (value t.1 q ≡ Some (not b))) }
+{
+    tree.relabel(alloc, &Not)
+}
+
+/// The tree that is true where this one is at packets that arrive. An error is want of memory.
+pub(crate) fn arriving_in(
+    alloc: Global,
+    site: &Site,
+    tree: &Tree<bool>,
+) -> Result<Tree<bool>, Memory>
+    requires sound { IsSound site.now }
+    requires tops { tree.now.0 ≡ tops_of site.now }
+    ensures tops { IfOk result (λ t. t.0 ≡ tops_of site.now) }
+    ensures value { IfOk result (λ t. (q : List ℕ) → IsWithin (tops_of site.now) q → value t.1 q ≡ (if arrives_at q then value tree.now.1 q else Some false)) }
+{
+    let entries = one(alloc, 1, tops(site)[0])?;
+    kept_in(alloc, tree, 0, entries, false)
+}
+
+/// The tree that is true where this one is and flags have ACK or RST, or neither, as it is asked. An error is want of
+/// memory.
+pub(crate) fn acknowledging_in(
+    alloc: Global,
+    site: &Site,
+    tree: &Tree<bool>,
+    asked: bool,
+) -> Result<Tree<bool>, Memory>
+    requires { tree.now.0 ≡ tops_of site.now }
+    ensures tops { IfOk result (λ t. t.0 ≡ tops_of site.now) }
+    ensures value { IfOk result (λ t. (q : List ℕ) → IsWithin (tops_of site.now) q → value t.1 q ≡ (if acknowledges_as asked (slice_index q 6) then value tree.now.1 q else Some false)) }
+{
+    let flags = ack_flags(alloc, asked)?;
+    kept_in(alloc, tree, 6, flags, false)
+}
+
+// Two points of arriving packets that agree in all but flags, with ACK or RST, or without, as it is asked, of which the tree
+// is true at the first and false at the second.
+fn told_with(
+    alloc: Global,
+    site: &Site,
+    tree: &Tree<bool>,
+    asked: bool,
+) -> Result<Option<(Point, Point)>, Memory>
+    requires sound { IsSound site.now }
+    requires tops { tree.now.0 ≡ tops_of site.now }
+    ensures { IfOk result (λ found. MatchOption found ((p q : List ℕ) → AreToldByMore asked (tops_of site.now) tree.now.1 p q → ⊥) (λ pair. AreToldByMore asked (tops_of site.now) tree.now.1 pair.0 pair.1)) }
+{
+    let arriving = arriving_in(alloc, site, tree)?;
+    let first = acknowledging_in(alloc, site, &arriving, asked)?;
+    let other = false_in(alloc, tree)?;
+    let second = acknowledging_in(alloc, site, &other, asked)?;
+    true_together(alloc, &first, &second, FLAGS_ALONE)
+}
+
+/// Two points of arriving packets that agree in all but flags, both with ACK or RST, or neither, of which the tree is
+/// true at the first and false at the second, if there are any. An error is want of memory.
+pub(crate) fn told_by_more(
+    alloc: Global,
+    site: &Site,
+    tree: &Tree<bool>,
+) -> Result<Option<(Point, Point)>, Memory>
+    requires sound { IsSound site.now }
+    requires tops { tree.now.0 ≡ tops_of site.now }
+    ensures { IfOk result (AreSoughtByMore (tops_of site.now) tree.now.1) }
+{
+    if let Some(found) = told_with(alloc, site, tree, true)? {
+        return Ok(Some(found));
+    }
+    told_with(alloc, site, tree, false)
+}

@@ -1,0 +1,109 @@
+//! Where packets go that cross a translation: from interfaces on the inside, and to those on the outside.
+
+ghost use Rattle.std.specs.Prelude.{◌≡◌, ℕ, ◌+◌, ◌<◌, ◌^◌, length, ◌&&◌, not, nat_lt, List, slice_index, IfOk};
+ghost use Rattle.fws_box.specs.Sides.{IsWithin, sides_have};
+ghost use Rattle.fws_iv.specs.Ivs.{has};
+ghost use Rattle.fws_net.specs.Points.{tops_of};
+ghost use Rattle.fws_net.specs.Routes.{IsSound, route_of};
+ghost use Rattle.fws_place.specs.Crossing.{is_sent_outside};
+ghost use Rattle.fws_place.specs.Rewritings.{is_inside, is_outside, side_of};
+
+use fws_box::whole_sides;
+use fws_iv::{Ivs, one};
+use fws_net::{Side, Site, local_set, route_set, tops};
+use fws_num::Memory;
+use std::alloc::Global;
+
+// On which side the interface at the place stands.
+fn side_at(site: &Site, n: usize) -> Side
+    requires { n < length site.now.faces }
+    ensures { result ≡ side_of site.now (n + 2) }
+{
+    site.faces.as_slice()[n].side
+}
+
+// Whether the side is the inside.
+fn is_inside(side: Side) -> bool
+    ensures { result ≡ is_inside side }
+{
+    match side {
+        Side::Inside => true,
+        Side::Neither => false,
+        Side::Outside => false,
+    }
+}
+
+// Whether it is the outside.
+fn is_outside(side: Side) -> bool
+    ensures { result ≡ is_outside side }
+{
+    match side {
+        Side::Outside => true,
+        Side::Neither => false,
+        Side::Inside => false,
+    }
+}
+
+/// The entries of the interfaces on the inside. An error is want of memory.
+pub(crate) fn inside_entries(alloc: Global, site: &Site) -> Result<Ivs, Memory>
+    requires { IsSound site.now }
+    ensures { IfOk result (λ s. (e : ℕ) → has s e ≡ is_inside (side_of site.now e)) }
+{
+    let mut set = Ivs::none(alloc);
+    for n in 0..site.faces.as_slice().len() {
+        if !is_inside(side_at(site, n)) {
+            continue;
+        }
+        let entry = n as u32 + 2;
+        set.extend(entry, entry)?;
+    }
+    Ok(set)
+}
+
+/// The sides of what comes from the inside. An error is want of memory.
+pub(crate) fn inside_sides(alloc: Global, site: &Site) -> Result<[Ivs; 12], Memory>
+    requires { IsSound site.now }
+    ensures { IfOk result (λ sides. (p : List ℕ) → IsWithin (tops_of site.now) p → sides_have sides p ≡ is_inside (side_of site.now (slice_index p 0))) }
+{
+    let tops = tops(site);
+    let mut sides = whole_sides(alloc, &tops)?;
+    sides[0] = inside_entries(alloc, site)?;
+    Ok(sides)
+}
+
+// The addresses that are led to interfaces on the outside.
+fn led_outside(alloc: Global, site: &Site) -> Result<Ivs, Memory>
+    requires { IsSound site.now }
+    ensures { IfOk result (λ s. (a : ℕ) → has s a ≡ (is_outside (side_of site.now (route_of site.now a)) && nat_lt a (2 ^ 32))) }
+{
+    let mut set = Ivs::none(alloc);
+    for n in 0..site.faces.as_slice().len() {
+        if !is_outside(side_at(site, n)) {
+            continue;
+        }
+        let led = route_set(alloc, site, n as u8 + 2)?;
+        set = set.union(alloc, &led)?;
+    }
+    Ok(set)
+}
+
+/// The addresses for which what arrives leaves by an interface on the outside. An error is want of memory.
+pub(crate) fn outside_set(alloc: Global, site: &Site) -> Result<Ivs, Memory>
+    requires { IsSound site.now }
+    ensures { IfOk result (λ s. (a : ℕ) → has s a ≡ (is_sent_outside site.now a && nat_lt a (2 ^ 32))) }
+{
+    if !site.forwarding {
+        return Ok(Ivs::none(alloc));
+    }
+    let local = local_set(alloc, site)?;
+    led_outside(alloc, site)?.minus(alloc, &local)
+}
+
+/// The addresses for which what arrives doesn't leave by an interface on the outside. An error is want of memory.
+pub(crate) fn not_outside(alloc: Global, site: &Site) -> Result<Ivs, Memory>
+    requires { IsSound site.now }
+    ensures { IfOk result (λ s. (a : ℕ) → has s a ≡ (not (is_sent_outside site.now a) && nat_lt a (2 ^ 32))) }
+{
+    let outside = outside_set(alloc, site)?;
+    one(alloc, 0, u32::MAX)?.minus(alloc, &outside)
+}

@@ -1,0 +1,27 @@
+//! Whether destinations are kept.
+
+ghost use Rattle.std.specs.Prelude.{IfOk};
+ghost use Rattle.fws_net.specs.Routes.{IsSound};
+ghost use Rattle.fws_place.specs.declared.clause.Clause.TheVariants.{KeepsDestinations};
+ghost use Rattle.fws_place.specs.Found.{IsSought};
+ghost use Rattle.fws_tree.specs.Regular.{AreRegular};
+
+use crate::asking::{Asked, packet_with};
+use crate::breach::Pair;
+use fws_net::Site;
+use fws_num::Memory;
+use fws_tree::Tables;
+use std::alloc::Global;
+
+/// A new packet that is accepted and has a destination written, if there is one. An error is want of memory.
+pub(crate) fn keeps_destinations(
+    alloc: Global,
+    site: &Site,
+    tables: &Tables,
+) -> Result<Option<(Pair, Option<Pair>)>, Memory>
+    requires sound { IsSound site.now }
+    requires regular { AreRegular site.now tables.now }
+    ensures { IfOk result (λ found. IsSought site.now tables.now KeepsDestinations found) }
+{
+    packet_with(alloc, site, tables, Asked::Destination)
+}
