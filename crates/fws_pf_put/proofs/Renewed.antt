@@ -7,7 +7,7 @@ use Rattle.fws_pf.specs.declared.config.PfRule.{PfRule}
 use Rattle.fws_pf_print.specs.Printable.{all_tags, are_named, behind_rules, behind_translations}
 use Rattle.fws_pf_put.specs.Renumbered.{Gathers, HasAllTags, IsRenumbered, RenamedWalksAreSame, behind_all, place_in, renamed, renamed_nat, renamed_rule}
 use Rattle.fws_pf_put.proofs.Numbering.{both_gathered, nothing_more}
-use Rattle.fws_pf_put.proofs.Reprinted.{all_printed, same_tracks}
+use Rattle.fws_pf_put.proofs.Reprinted.{all_printed, same_catches, same_tracks}
 use Rattle.fws_pf_put.proofs.SameWalks.{places_apart}
 
 pub tags_gathered : (c : PfConfig) (none first second tags : List ℕ) (rdr nat : List PfNat) (filter : List PfRule) → none ≡ [] → rdr ≡ c.rdr → nat ≡ c.nat → filter ≡ c.filter
@@ -37,6 +37,8 @@ renewed old skip rdr nat filter names tags law all named size same_skip same_rdr
     let it : IsRenumbered old (renamed (place_in tags) names old) = record {
       same = λ site p k. law (place_in tags) names old (places_apart tags) site p k;
       printable = λ site printed. all_printed (place_in tags) names old (length tags) named size counted site printed;
+      skip = refl;
+      catches = λ h. same_catches (place_in tags) old.filter ∙ h;
       tracks = λ h. same_tracks (place_in tags) old.filter ∙ h;
     } in
     let new : PfConfig = record { skip = skip; rdr = rdr; nat = nat; filter = filter; tags = names } in

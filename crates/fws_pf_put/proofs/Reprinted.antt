@@ -1,7 +1,7 @@
 -- What is printed of a configuration doesn't change with the numbers of its tags.
 use Rattle.std.proofs.Common.{◌≡◌, ℕ, ◌+◌, Bool, true, false, cond, ◌&&◌, ◌||◌, not, nat_eq, nat_le, nat_lt, Option, Some, None, List, [], ◌∷◌, length, map, refl, ap, ◌∙◌}
 use Rattle.std.proofs.lemmas.Bool.{and_from, eq-eqb}
-use Rattle.std.specs.List.{list_all}
+use Rattle.std.specs.List.{list_all, list_any}
 use Rattle.std.specs.Option.{option_map_or}
 use Rattle.fws_iv.specs.declared.iv.Iv.{Iv}
 use Rattle.fws_net.specs.declared.condition.Lit.{Lit}
@@ -13,6 +13,7 @@ use Rattle.fws_pf.specs.declared.config.PfConfig.{PfConfig}
 use Rattle.fws_pf.specs.declared.config.PfNat.{PfNat}
 use Rattle.fws_pf.specs.declared.config.PfRule.{PfRule}
 use Rattle.fws_pf.specs.Drawn.{is_port_protocol}
+use Rattle.fws_pf_tree.specs.Filters.{asks_nothing, catches_all, is_both}
 use Rattle.fws_pf_print.specs.Printable.{all_tags, are_named, ascend, first_number, is_block, is_printable, is_printed_cond, is_printed_end, is_printed_literal, is_printed_port, is_printed_rule, is_printed_test, is_printed_translation, is_translation_test, place_of, place_written, protocol_tested, skips_none, test_set, tested}
 use Rattle.fws_pf_put.specs.Renumbered.{ArePrinted, keeps_state, renamed, renamed_cond, renamed_nat, renamed_rule, renamed_test}
 
@@ -136,6 +137,17 @@ module _ (f : ℕ → ℕ) where
 
   pub same_tracks : (rules : List PfRule) → list_all keeps_state (map (renamed_rule f) rules) ≡ list_all keeps_state rules
   same_tracks rules = same_all keeps_state (renamed_rule f) (λ r. refl) rules
+
+  same_any : {X : Type 0} (p : X → Bool) (g : X → X) → ((x : X) → p (g x) ≡ p x) → (xs : List X) → list_any p (map g xs) ≡ list_any p xs
+  same_any p g same [] = refl
+  same_any p g same (x ∷ xs) = ap (λ b. b || list_any p (map g xs)) (same x) ∙ ap (λ b. p x || b) (same_any p g same xs)
+
+  still_asks_nothing : (lits : List Lit) → asks_nothing (renamed_cond f lits) ≡ asks_nothing lits
+  still_asks_nothing [] = refl
+  still_asks_nothing (lit ∷ lits) = refl
+
+  pub same_catches : (rules : List PfRule) → list_any catches_all (map (renamed_rule f) rules) ≡ list_any catches_all rules
+  same_catches rules = same_any catches_all (renamed_rule f) (λ r. ap (λ b. is_both r.way && b) (still_asks_nothing r.cond)) rules
 
 -- The whole
 

@@ -86,6 +86,7 @@ all_drafted site tables leaves nodes states ends sets skip rdr nat filter tags f
             ∙ and_from (list_all p outward.0) (list_all p outward.1) (outward.3.printed site) outward.4.printed;
         filter = rules.printed;
       };
+      catches = rules.catches;
       tracks = rules.tracks;
       new = new_placed site tables c plan;
       established = est_placed site tables known c;

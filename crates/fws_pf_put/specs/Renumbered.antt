@@ -1,6 +1,6 @@
 -- Configurations whose tags have other numbers.
 use Rattle.std.specs.Prelude.{◌≡◌, ℕ, suc, Bool, true, false, ◌||◌, not, nat_eq, if◌then◌else◌, Option, Some, option_and_then, option_map, List, [], ◌∷◌, ◌++◌, length, map}
-use Rattle.std.specs.List.{list_all}
+use Rattle.std.specs.List.{list_all, list_any}
 use Rattle.fws_net.specs.declared.condition.Lit.{Lit}
 use Rattle.fws_net.specs.declared.condition.Test.{Test}
 use Rattle.fws_net.specs.declared.condition.Test.TheVariants.{Src, Dst, Sport, Dport, Proto, Icmp, Flags, AnyFlag, Recv, Xmit, Via, Outward, Est, Tag, Never}
@@ -11,6 +11,7 @@ use Rattle.fws_pf.specs.declared.config.PfConfig.{PfConfig}
 use Rattle.fws_pf.specs.declared.config.PfNat.{PfNat}
 use Rattle.fws_pf.specs.declared.config.PfRule.{PfRule}
 use Rattle.fws_pf.specs.Walk.{walk}
+use Rattle.fws_pf_tree.specs.Filters.{catches_all}
 use Rattle.fws_pf_print.specs.Printable.{behind_rules, behind_translations, is_printable, is_printed_rule, is_printed_translation}
 
 -- Rules whose tags have the numbers that a function gives them
@@ -104,4 +105,6 @@ pub record ArePrinted (site : Site) (c : PfConfig) : Type 0 where
 pub record IsRenumbered (old new : PfConfig) : Type 0 where
   pub same : (site : Site) (p : Packet) (k : Kind) → walk new site p k ≡ walk old site p k
   pub printable : (site : Site) → ArePrinted site old → is_printable site new ≡ true
+  pub skip : new.skip ≡ old.skip
+  pub catches : list_any catches_all old.filter ≡ true → list_any catches_all new.filter ≡ true
   pub tracks : list_all keeps_state old.filter ≡ true → list_all keeps_state new.filter ≡ true

@@ -117,6 +117,7 @@ pub filter_made : (site : Site) (tops : List ℕ) (tree : Plain Outcome) (leaves
 filter_made site tops tree leaves nodes states known moves passes h g = record {
   printed = and_from (is_printed_rule site block_all) (list_all (is_printed_rule site) (moves ++ passes)) refl sound.printed;
   tracks = and_from (keeps_state block_all) (list_all keeps_state (moves ++ passes)) refl sound.tracks;
+  catches = refl;
   decides = λ outward n t inside tag topped comes.
       let low = known.stated.low n inside in
       let whole = h.decide passes (passes_decide site tops tree leaves nodes states known passes g) in

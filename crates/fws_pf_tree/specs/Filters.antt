@@ -1,6 +1,7 @@
 -- Filter rules that decide what the nodes of a tree decide.
-use Rattle.std.specs.Prelude.{◌≡◌, ℕ, ◌≤◌, ◌<◌, Bool, true, false, ◌||◌, not, Option, Some, None, List, [], ◌∷◌, length, slice_get, slice_index}
-use Rattle.std.specs.List.{list_all}
+use Rattle.std.specs.Prelude.{◌≡◌, ℕ, ◌≤◌, ◌<◌, Bool, true, false, ◌&&◌, ◌||◌, not, Option, Some, None, List, [], ◌∷◌, length, slice_get, slice_index}
+use Rattle.std.specs.List.{list_all, list_any}
+use Rattle.fws_net.specs.declared.condition.Lit.{Lit}
 use Rattle.fws_net.specs.declared.outcome.End.{End}
 use Rattle.fws_net.specs.declared.outcome.Outcome.{Outcome}
 use Rattle.fws_net.specs.declared.outcome.Outcome.TheVariants.{Drop, Accept}
@@ -9,6 +10,8 @@ use Rattle.fws_net.specs.declared.site.Site.{Site}
 use Rattle.fws_net.specs.declared.transit.Transit.{Transit}
 use Rattle.fws_net.specs.Transits.{with_only_tag, with_verdict}
 use Rattle.fws_pf.specs.declared.config.PfRule.{PfRule}
+use Rattle.fws_pf.specs.declared.config.Way.{Way}
+use Rattle.fws_pf.specs.declared.config.Way.TheVariants.{Both}
 use Rattle.fws_pf.specs.Walk.{rules_walk}
 use Rattle.fws_tree.specs.declared.node.Kid.{Kid}
 use Rattle.fws_tree.specs.declared.node.Node.{Node}
@@ -44,11 +47,26 @@ Ends leaves nodes states (Accept v) t r = IsPassed leaves nodes states v.src t r
 abbrev pub keeps_state : PfRule → Bool
 keeps_state r = not r.pass || r.keep
 
--- filter rules that can be printed and keep state. A transit that has the tag of a node's state alone ends for an outcome that its
+-- a rule is met on both passes
+abbrev pub is_both : Way → Bool
+is_both Both = true
+is_both _ = false
+
+-- a condition without literals always holds
+abbrev pub asks_nothing : List Lit → Bool
+asks_nothing [] = true
+asks_nothing (lit ∷ lits) = false
+
+-- a rule that every packet matches, on both passes
+abbrev pub catches_all : PfRule → Bool
+catches_all r = is_both r.way && asks_nothing r.cond
+
+-- filter rules that can be printed, keep state and match every packet. A transit that has the tag of a node's state alone ends for an outcome that its
 -- packet reaches below the node
 pub record IsFilter (site : Site) (tops : List ℕ) (leaves : List Outcome) (nodes : List Node) (states : List ℕ) (block : List PfRule) : Type 0 where
   pub printed : list_all (is_printed_rule site) block ≡ true
   pub tracks : list_all keeps_state block ≡ true
+  pub catches : list_any catches_all block ≡ true
   pub decides : (outward : Bool) (n : ℕ) (t : Transit) → n < length nodes → t.tags ≡ state_at states n ∷ [] → IsTopped tops Entered t.packet
       → ComesIn tops nodes n outward t.packet
       → (w : Outcome) × ReachesBelow leaves nodes n t.packet w × Ends leaves nodes states w t (rules_walk site outward block t)
