@@ -1,0 +1,4 @@
+mod Nets
+mod Pathing
+mod Members
+mod Spelled

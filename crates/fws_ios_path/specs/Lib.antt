@@ -1,0 +1,4 @@
+pub mod Entries
+pub mod Narrowing
+pub mod Paths
+pub mod Seen
