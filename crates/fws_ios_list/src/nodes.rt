@@ -1,0 +1,105 @@
+//! The entries of nodes.
+
+ghost use Rattle.std.specs.Prelude.{◌≡◌, ◌<◌, ◌++◌, ◌∷◌, [], List, length, OnOk};
+ghost use Rattle.fws_ios.specs.declared.config.IosEntry.{IosEntry};
+ghost use Rattle.fws_ios_list.specs.Blocks.{scene, AreNodeEntries, IsPathTo, IsPlanned};
+ghost use Rattle.fws_ios_list.specs.Entries.{act_of, AreLeafEntries, IsEntry};
+ghost use Rattle.fws_ios_path.specs.Paths.{IsWritable};
+
+use crate::default::fall_to;
+use crate::sheet::Sheet;
+use crate::turns::cut_turns;
+use fws_ios::IosEntry;
+use fws_ios_path::{Act, Path, entry_of};
+use fws_num::{Items, Memory};
+use fws_sight::{cut_nodes_part_values, leaf_nodes_are_leaves};
+use fws_tree::Node;
+use std::alloc::Global;
+
+// What the entry does.
+fn act_for(permit: bool, keep: bool) -> Act
+    ensures { result ≡ act_of permit keep }
+{
+    Act {
+        permit,
+        reflect: permit && keep,
+        established: false,
+    }
+}
+
+/// Appends the entry that permits packets on the path, or denies them. An error is want of memory.
+pub(crate) fn put_entry(
+    alloc: Global,
+    entries: &mut Items<IosEntry>,
+    permit: bool,
+    keep: bool,
+    path: Path,
+) -> Result<(), Memory>
+    requires { IsWritable path }
+    ensures { OnOk result ((e : IosEntry) × (entries.new ≡ entries.old ++ e ∷ []) × IsEntry permit keep path e) }
+{
+    entries.put(entry_of(alloc, act_for(permit, keep), path)?)?;
+    Ok(())
+}
+
+// Appends the entry of a leaf for packets on the path, unless they fall to its value. An error is want of memory.
+fn put_leaf(
+    alloc: Global,
+    entries: &mut Items<IosEntry>,
+    permit: bool,
+    keep: bool,
+    path: Path,
+    falls: Option<bool>,
+) -> Result<(), Memory>
+    requires { IsWritable path }
+    ensures { OnOk result ((block : List IosEntry) × (entries.new ≡ entries.old ++ block) × AreLeafEntries permit keep path falls block) }
+{
+    if fall_to(falls, permit) {
+        return Ok(());
+    }
+    put_entry(alloc, entries, permit, keep, path)?;
+    Ok(())
+}
+
+/// Appends the entries of a node for packets on the path. Those need none whose value is what they fall to behind
+/// them. An error is want of memory.
+pub(crate) fn put_node(
+    alloc: Global,
+    entries: &mut Items<IosEntry>,
+    sheet: &Sheet<'_>,
+    at: usize,
+    path: Path,
+    falls: Option<bool>,
+) -> Result<(), Memory>
+    requires planned { IsPlanned (scene sheet.now.tree.now.0 sheet.now.tree.now.1 sheet.now.leaves.now sheet.now.nodes.now) }
+    requires inside { at < length sheet.now.nodes.now }
+    requires good { IsPathTo (scene sheet.now.tree.now.0 sheet.now.tree.now.1 sheet.now.leaves.now sheet.now.nodes.now) at path }
+    ensures { OnOk result ((block : List IosEntry) × (entries.new ≡ entries.old ++ block) × AreNodeEntries (scene sheet.now.tree.now.0 sheet.now.tree.now.1 sheet.now.leaves.now sheet.now.nodes.now) sheet.now.keep at path falls block) }
+{
+    leaf_nodes_are_leaves::<bool>();
+    cut_nodes_part_values::<bool>();
+    match &sheet.nodes[at] {
+        Node::Leaf(n) => put_leaf(
+            alloc,
+            entries,
+            sheet.leaves[*n as usize],
+            sheet.keep,
+            path,
+            falls,
+        )?,
+        Node::Cut(f, kids) => {
+            let turns = cut_turns(alloc, sheet, at, *f, kids.as_slice(), path, falls)?;
+            for turn in turns.as_slice() {
+                put_node(
+                    alloc,
+                    entries,
+                    sheet,
+                    turn.node as usize,
+                    turn.path,
+                    turn.falls,
+                )?;
+            }
+        }
+    }
+    Ok(())
+}
