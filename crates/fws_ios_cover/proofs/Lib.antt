@@ -1,0 +1,10 @@
+mod Entering
+mod Keeping
+mod Points
+mod Rows
+mod Stepping
+mod Parting
+mod Asked
+mod Wider
+mod Chaining
+mod Covered

@@ -1,0 +1,68 @@
+//! Entries that cover a set of packets within another.
+
+ghost use Rattle.std.specs.Prelude.{◌≡◌, ◌++◌, ℕ, List, Some, true, slice_index, IfOk, OnOk};
+ghost use Rattle.fws_box.specs.Sides.{IsWithin};
+ghost use Rattle.fws_net.specs.Points.{tops_of};
+ghost use Rattle.fws_net.specs.Routes.{IsSound};
+ghost use Rattle.fws_tree.specs.Plain.{value};
+ghost use Rattle.fws_ios.specs.declared.config.IosEntry.{IosEntry};
+ghost use Rattle.fws_ios_path.specs.Seen.{IsListed};
+ghost use Rattle.fws_ios_cover.specs.Covers.{ArePathsOver, IsCover};
+
+use crate::entries::put_entries;
+use crate::kept::listed;
+use crate::parts::put_rows;
+use fws_ios::IosEntry;
+use fws_ios_path::{Act, Path};
+use fws_net::Site;
+use fws_num::{Items, Memory};
+use fws_tree::Tree;
+use indexmap::IndexSet;
+use std::alloc::Global;
+
+// Paths that have the packets of the first set, and none outside the second one.
+fn paths_over(
+    alloc: Global,
+    site: &Site,
+    needed: &Tree<bool>,
+    within: &Tree<bool>,
+    established: bool,
+) -> Result<Items<Path>, Memory>
+    requires sound { IsSound site.now }
+    requires needed_tops { needed.now.0 ≡ tops_of site.now }
+    requires within_tops { within.now.0 ≡ tops_of site.now }
+    requires needed_listed { IsListed (tops_of site.now) (value needed.now.1) }
+    requires part { (x : List ℕ) → IsWithin (tops_of site.now) x → value needed.now.1 x ≡ Some true → value within.now.1 x ≡ Some true }
+    requires tcp { established ≡ true → (x : List ℕ) → IsWithin (tops_of site.now) x → value needed.now.1 x ≡ Some true → slice_index x 1 ≡ 6 }
+    ensures { IfOk result (ArePathsOver site.now established needed.now.1 within.now.1) }
+{
+    let _tops = needed.tops();
+    let rows = needed.paths(alloc)?;
+    let mut kept = IndexSet::new(alloc);
+    put_rows(alloc, &mut kept, within, site, &rows, established)?;
+    listed(alloc, kept)
+}
+
+/// Appends entries that do this and that each packet of the first set meets, and none outside the second one; where
+/// `established` is asked, each with ACK or RST. An error is want of memory.
+pub fn put_cover(
+    alloc: Global,
+    entries: &mut Items<IosEntry>,
+    site: &Site,
+    needed: &Tree<bool>,
+    within: &Tree<bool>,
+    act: Act,
+) -> Result<(), Memory>
+    requires sound { IsSound site.now }
+    requires needed_tops { needed.now.0 ≡ tops_of site.now }
+    requires within_tops { within.now.0 ≡ tops_of site.now }
+    requires needed_listed { IsListed (tops_of site.now) (value needed.now.1) }
+    requires keeps { act.reflect ≡ true → act.permit ≡ true }
+    requires part { (x : List ℕ) → IsWithin (tops_of site.now) x → value needed.now.1 x ≡ Some true → value within.now.1 x ≡ Some true }
+    requires tcp { act.established ≡ true → (x : List ℕ) → IsWithin (tops_of site.now) x → value needed.now.1 x ≡ Some true → slice_index x 1 ≡ 6 }
+    ensures { OnOk result ((block : List IosEntry) × (entries.new ≡ entries.old ++ block) × IsCover site.now act needed.now.1 within.now.1 block) }
+{
+    let paths = paths_over(alloc, site, needed, within, act.established)?;
+    put_entries(alloc, entries, paths.as_slice(), act)?;
+    Ok(())
+}
