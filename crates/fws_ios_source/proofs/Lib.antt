@@ -1,0 +1,15 @@
+pub mod Asking
+pub mod Boxes
+pub mod Entries
+pub mod Finding
+pub mod Gathered
+pub mod Giving
+pub mod Leaves
+pub mod Looks
+pub mod Mixed
+pub mod Names
+pub mod Parts
+pub mod Picks
+pub mod SideSets
+pub mod Told
+pub mod Translated

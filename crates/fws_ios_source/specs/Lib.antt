@@ -1,0 +1,5 @@
+pub mod Crossing
+pub mod Lists
+pub mod Parting
+pub mod Picking
+pub mod Sources

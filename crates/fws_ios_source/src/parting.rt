@@ -1,0 +1,118 @@
+//! What a list permits and denies, told by as few fields as can be.
+
+ghost use Rattle.std.specs.Prelude.{◌≡◌, true, IfOk};
+ghost use Rattle.std.specs.List.{list_any};
+ghost use Rattle.fws_ios_source.specs.Crossing.{AreTold};
+ghost use Rattle.fws_ios_source.specs.Parting.{keeps_look, AreApart, AreWider, IsParted, IsPartedAt};
+
+use crate::parted::Parted;
+use crate::picking::picked;
+use fws_net::Outcome;
+use fws_num::Memory;
+use fws_tree::{Relabelling, Tree};
+use indexmap::IndexSet;
+use std::alloc::Global;
+
+// The fields that are left out one after another, each where what is permitted stays apart from what is denied: the type of
+// ICMP, the ports of the source and of the destination, the protocol with all of these, and the addresses.
+const ICMP: u16 = 0x80;
+
+const SPORT: u16 = 0x20;
+
+const DPORT: u16 = 0x8;
+
+const PROTO: u16 = 0xaa;
+
+const DST: u16 = 0x4;
+
+const SRC: u16 = 0x10;
+
+/// Whether both are true.
+struct Both;
+
+impl Relabelling<(bool, bool), bool> for Both {
+    ghost use Rattle.std.specs.Prelude.{◌&&◌};
+
+    ghost gives = { λ s leaf. leaf.0 && leaf.1 };
+
+    fn leaf(&self, _alloc: Global, leaf: &(bool, bool)) -> Result<bool, Memory> {
+        Ok(leaf.0 && leaf.1)
+    }
+}
+
+// Whether one of the leaves is true.
+fn has_true(leaves: &[bool]) -> bool
+    ensures { result ≡ list_any (λ leaf. leaf) leaves.now }
+{
+    leaves.iter().any(|leaf| *leaf)
+}
+
+// Whether no packet is in both sets. An error is want of memory.
+fn are_apart(alloc: Global, first: &Tree<bool>, second: &Tree<bool>) -> Result<bool, Memory>
+    requires { second.now.0 ≡ first.now.0 }
+    ensures { IfOk result (λ apart. apart ≡ true → AreApart first.now.0 first.now.1 second.now.1) }
+{
+    let both = first.pair(alloc, second)?.relabel(alloc, &Both)?;
+    Ok(!has_true(both.shared().leaves))
+}
+
+// The sets without a test of the fields, where they stay apart; else as they are. An error is want of memory.
+fn left_out(alloc: Global, sets: Parted, fields: u16) -> Result<Parted, Memory>
+    requires look { keeps_look fields ≡ true }
+    requires parted { IsParted sets }
+    ensures parted { IfOk result IsParted }
+    ensures wider { IfOk result (AreWider sets) }
+{
+    let permitted = sets.permitted.exists(alloc, fields)?;
+    let denied = sets.denied.exists(alloc, fields)?;
+    if are_apart(alloc, &permitted, &denied)? {
+        return Ok(Parted { permitted, denied });
+    }
+    Ok(sets)
+}
+
+// The sets without tests of fields that needn't be tested. An error is want of memory.
+fn freed(alloc: Global, sets: Parted) -> Result<Parted, Memory>
+    requires { IsParted sets }
+    ensures parted { IfOk result IsParted }
+    ensures wider { IfOk result (AreWider sets) }
+{
+    let sets = left_out(alloc, sets, ICMP)?;
+    let sets = left_out(alloc, sets, SPORT)?;
+    let sets = left_out(alloc, sets, DPORT)?;
+    let sets = left_out(alloc, sets, PROTO)?;
+    let sets = left_out(alloc, sets, DST)?;
+    let sets = left_out(alloc, sets, SRC)?;
+    Ok(sets)
+}
+
+// The packets that get the source of the list at a place, and those that get that of a later one or none. An error is want
+// of memory.
+fn picked_at(
+    alloc: Global,
+    crossing: &Tree<Outcome>,
+    addrs: &IndexSet<u32>,
+    place: usize,
+) -> Result<Parted, Memory>
+    requires { AreTold crossing.now.0 crossing.now.1 }
+    ensures { IfOk result (IsPartedAt crossing.now.0 crossing.now.1 addrs.now.keys place) }
+{
+    let permitted = picked(alloc, crossing, addrs, place, false)?;
+    let denied = picked(alloc, crossing, addrs, place, true)?;
+    Ok(Parted { permitted, denied })
+}
+
+/// What the list at a place permits and denies: it permits the packets to which it gives a source, and denies those that get
+/// that of a later one or none. An error is want of memory.
+pub(crate) fn parted_at(
+    alloc: Global,
+    crossing: &Tree<Outcome>,
+    addrs: &IndexSet<u32>,
+    place: usize,
+) -> Result<Parted, Memory>
+    requires { AreTold crossing.now.0 crossing.now.1 }
+    ensures { IfOk result (IsPartedAt crossing.now.0 crossing.now.1 addrs.now.keys place) }
+{
+    let sets = picked_at(alloc, crossing, addrs, place)?;
+    freed(alloc, sets)
+}
