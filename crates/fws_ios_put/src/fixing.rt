@@ -1,0 +1,96 @@
+//! Trees of truth values for packets of one kind.
+
+ghost use Rattle.std.specs.Prelude.{◌≡◌, ◌&&◌, not, ◌+◌, ◌-◌, ◌^◌, ◌≤◌, ℕ, false, length, List, IfOk};
+ghost use Rattle.fws_box.specs.Sides.{IsWithin};
+ghost use Rattle.fws_iv.specs.Ivs.{has};
+ghost use Rattle.fws_net.specs.Points.{tops_of};
+ghost use Rattle.fws_net.specs.Routes.{is_local, IsSound};
+ghost use Rattle.fws_sight.specs.declared.seen.Seen.TheVariants.{Entered};
+ghost use Rattle.fws_sight.specs.Shown.{IsTold};
+ghost use Rattle.fws_ios_put.specs.Choices.{framed, is_stray, is_tcp, truth, IsAskable, IsNowhere};
+
+use fws_box::whole_sides;
+use fws_iv::{Ivs, one};
+use fws_net::{Site, local_set, tops};
+use fws_num::Memory;
+use fws_tree::Tree;
+use std::alloc::Global;
+
+/// The tree that is this one at points of TCP and false elsewhere. An error is want of memory.
+pub(crate) fn of_tcp(alloc: Global, site: &Site, tree: &Tree<bool>) -> Result<Tree<bool>, Memory>
+    requires sound { IsSound site.now }
+    requires tree { IsAskable site.now tree.now }
+    ensures askable { IfOk result (λ t. IsAskable site.now t) }
+    ensures value { IfOk result (λ t. (x : List ℕ) → IsWithin (tops_of site.now) x → truth t.1 x ≡ (is_tcp x && truth tree.now.1 x)) }
+{
+    let tops = tops(site);
+    let mut sides = whole_sides(alloc, &tops)?;
+    sides[1] = one(alloc, 6, 6)?;
+    let part = tree.restrict(alloc, &sides, false)?;
+    Ok(part)
+}
+
+// The destinations of packets that are lost where they arrive. An error is want of memory.
+fn stray_set(alloc: Global, site: &Site) -> Result<Ivs, Memory>
+    ensures { IfOk result (λ set. (a : ℕ) → a ≤ 2 ^ 32 - 1 → has set a ≡ (not site.now.forwarding && not (is_local site.now a))) }
+{
+    if site.forwarding {
+        return Ok(Ivs::none(alloc));
+    }
+    let local = local_set(alloc, site)?;
+    Ok(one(alloc, 0, u32::MAX)?.minus(alloc, &local)?)
+}
+
+/// The tree that is this one at points with a stray destination and false elsewhere. An error is want of memory.
+pub(crate) fn of_strays(alloc: Global, site: &Site, tree: &Tree<bool>) -> Result<Tree<bool>, Memory>
+    requires sound { IsSound site.now }
+    requires tree { IsAskable site.now tree.now }
+    ensures askable { IfOk result (λ t. IsAskable site.now t) }
+    ensures value { IfOk result (λ t. (x : List ℕ) → IsWithin (tops_of site.now) x → truth t.1 x ≡ (is_stray site.now x && truth tree.now.1 x)) }
+{
+    let tops = tops(site);
+    let mut sides = whole_sides(alloc, &tops)?;
+    sides[2] = stray_set(alloc, site)?;
+    let part = tree.restrict(alloc, &sides, false)?;
+    Ok(part)
+}
+
+// The fields of the entry and of flags.
+const ENTRY_AND_FLAGS: u16 = 0x41;
+
+/// The tree as it is at points with this entry and these flags. An error is want of memory.
+pub(crate) fn fixed(
+    alloc: Global,
+    site: &Site,
+    tree: &Tree<bool>,
+    entry: u8,
+    flags: u8,
+) -> Result<Tree<bool>, Memory>
+    requires sound { IsSound site.now }
+    requires tops { tree.now.0 ≡ tops_of site.now }
+    requires told { IsTold Entered (tops_of site.now) tree.now.1 }
+    requires entry { entry ≤ length site.now.faces + 1 }
+    requires flags { flags ≤ 63 }
+    ensures askable { IfOk result (λ t. IsAskable site.now t) }
+    ensures value { IfOk result (λ t. (x : List ℕ) → IsWithin (tops_of site.now) x → truth t.1 x ≡ truth tree.now.1 (framed entry flags x)) }
+{
+    let tops = tops(site);
+    let mut sides = whole_sides(alloc, &tops)?;
+    sides[0] = one(alloc, entry as u32, entry as u32)?;
+    sides[6] = one(alloc, flags as u32, flags as u32)?;
+    let part = tree.restrict(alloc, &sides, false)?;
+    let fixed = part.exists(alloc, ENTRY_AND_FLAGS)?;
+    Ok(fixed)
+}
+
+// All twelve fields.
+const ALL_FIELDS: u16 = 0xfff;
+
+/// Whether the tree is true at some point of the site. An error is want of memory.
+pub(crate) fn is_somewhere(alloc: Global, site: &Site, tree: &Tree<bool>) -> Result<bool, Memory>
+    requires { tree.now.0 ≡ tops_of site.now }
+    ensures { IfOk result (λ b. b ≡ false → IsNowhere site.now tree.now.1) }
+{
+    let all = tree.exists(alloc, ALL_FIELDS)?;
+    Ok(*all.lookup(&[0; 12]))
+}

@@ -1,0 +1,67 @@
+//! Tables placed.
+
+ghost use Rattle.std.specs.Prelude.{◌≡◌, Err, IfOk, OnOk};
+ghost use Rattle.fws_net.specs.Routes.{IsSound};
+ghost use Rattle.fws_net.specs.SiteLaws.{IsOrderly};
+ghost use Rattle.fws_net.specs.declared.packet.Lang.TheVariants as langs;
+ghost use Rattle.fws_place.specs.Fits.{Fits, IsBreach};
+ghost use Rattle.fws_tree.specs.Regular.{AreRegular};
+ghost use Rattle.fws_ios_put.specs.Placed.{IsPlaced};
+
+use crate::drafting::drafted;
+use crate::leading::leaders_of;
+use crate::telling::{known_tree, new_tree};
+use fws_ios::IosConfig;
+use fws_net::{Lang, Site};
+use fws_num::Memory;
+use fws_place::{
+    Breach, FitAnswer, PlaceAnswer, check, ios_accepted_go_on, ios_ack_ahead,
+    ios_established_by_ack, ios_host_passes, ios_keeps_new_packets, ios_new_by_ack,
+    ios_pairs_are_told, lost_pairs_are_dropped,
+};
+use fws_tree::Tables;
+use std::alloc::Global;
+
+/// The configuration of tables that fit. An error is want of memory.
+fn put_tables(alloc: Global, site: &Site, t: &Tables) -> Result<IosConfig, Memory>
+    requires sound { IsSound site.now }
+    requires orderly { IsOrderly site.now }
+    requires regular { AreRegular site.now t.now }
+    requires fits { Fits langs.Ios site.now t.now }
+    ensures { IfOk result (IsPlaced site.now t.now) }
+{
+    ios_accepted_go_on();
+    ios_ack_ahead();
+    ios_established_by_ack();
+    ios_host_passes();
+    ios_keeps_new_packets();
+    ios_new_by_ack();
+    ios_pairs_are_told();
+    lost_pairs_are_dropped();
+    let new = new_tree(alloc, site, t)?;
+    let known = known_tree(alloc, site, t)?;
+    let leaders = leaders_of(alloc, &new, &known, site.faces.len() as u8 + 1)?;
+    let config = drafted(alloc, site, t, &new, &known, leaders.as_slice())?;
+    Ok(config)
+}
+
+/// The configuration of Cisco IOS that does with every packet of the site what the tables say; or the first clause of
+/// IOS's placement condition that they don't meet, with packets that show so.
+pub fn place(alloc: Global, t: &Tables, site: &Site) -> Result<IosConfig, PlaceAnswer>
+    requires sound { IsSound site.now }
+    requires orderly { IsOrderly site.now }
+    requires regular { AreRegular site.now t.now }
+    ensures fits { OnOk result (Fits langs.Ios site.now t.now) }
+    ensures placed { IfOk result (IsPlaced site.now t.now) }
+    ensures breach { (b : Breach) → result ≡ Err (PlaceAnswer.Unfit b) → IsBreach langs.Ios site.now t.now b }
+{
+    match check(alloc, Lang::Ios, t, site) {
+        Err(FitAnswer::Unfit(breach)) => return Err(PlaceAnswer::Unfit(breach)),
+        Err(FitAnswer::Memory) => return Err(PlaceAnswer::Memory),
+        Ok(()) => {}
+    }
+    match put_tables(alloc, site, t) {
+        Ok(config) => Ok(config),
+        Err(_) => Err(PlaceAnswer::Memory),
+    }
+}
