@@ -14,12 +14,13 @@ use Rattle.fws_top.specs.declared.lang.SourceLang.{SourceLang}
 use Rattle.fws_top.specs.declared.lang.TargetLang.{TargetLang}
 use Rattle.fws_top.specs.declared.status.Status.{Status}
 use Rattle.fws_top.specs.declared.status.Status.TheVariants as status
-use Rattle.fws_top.specs.Forms.{synth, query, translate, trace, site2}
-use Rattle.fws_top.specs.Plan.{Plan, says, shows, plan_of, site_plan, asks_plan, source_plan, conns_plan, packets_plan}
-use Rattle.fws_top.specs.Stops.{Answered, AsksStopped, Does, GoesOn, IsTakenCode, Stopped, StopsAt}
-use Rattle.fws_top.specs.Tables.{IsTable, IsAskedTable, table, asked_table, translation}
+use Rattle.fws_top.specs.Forms.{synth, query, translate, trace, load, site2}
+use Rattle.fws_top.specs.Plan.{Plan, says, shows, plan_of, site_plan, asks_plan, source_plan, conns_plan, packets_plan, load_site_plan, load_text_plan}
+use Rattle.fws_top.specs.Loads.{IsLoad}
+use Rattle.fws_top.specs.Stops.{Answered, AsksStopped, Chooses, Does, EndsIn, GoesOn, IsCode, IsTakenCode, Stopped, StopsAt}
+use Rattle.fws_top.specs.Tables.{IsTable, IsAskedTable, table, asked_table, translation, loaded}
 use Rattle.fws_top.specs.Translations.{IsTranslation}
-use Rattle.fws_top.proofs.Chosen.{asks_on, asks_stopped, gone_on, stopped_behind, stopped_on}
+use Rattle.fws_top.proofs.Chosen.{asks_on, asks_stopped, ended_at, gone_on, stopped_behind, stopped_on, stopped_where}
 use Rattle.fws_trace.specs.TraceText.{trace_text}
 
 -- code that was taken goes on with its walk
@@ -73,6 +74,15 @@ trace_said lang name file conns_name packets_name site flat conns packets told b
     (gone_on (packets_plan site packets_name) told last packets same_last on_packets (end code.walk conns) old new status.Ok text
     (tt, quiet, refl, made code.walk code.does))))
 
+-- what the generated policy comes to is shown
+pub load_shown : (n : ℕ) (site : Site) (flat : Flat) (told : Option (List ℕ → List ℕ)) (faults : List ℕ → ℕ) (text : List ℕ)
+    → Chooses load_site_plan site → IsCode (load_text_plan n site) site flat → ((walk : Packet → Kind → Outcome) → Does flat site walk → IsLoad n site walk text)
+    → Answered (plan_of (load n)) told faults faults status.Ok text
+load_shown n site flat told faults text chooses code made =
+    let shown : Site → (Packet → Kind → Outcome) → Plan = λ value walk. shows (loaded n value walk) in
+    subst (λ plan. Answered plan told faults faults status.Ok text) (sym (chooses (λ value. load_text_plan n value (shown value))))
+    (subst (λ plan. Answered plan told faults faults status.Ok text) (sym (code.chooses (shown site))) (refl, (refl, made code.walk code.does)))
+
 -- the second form of a site is said
 pub second_form_said : (name : List ℕ) (site : Site) (told : Option (List ℕ → List ℕ)) (old new : List ℕ → ℕ) (text : List ℕ)
     → GoesOn (site_plan name) told site → new ≡ old → text ≡ site2_text site → Answered (plan_of (site2 name)) told old new status.Ok text
@@ -91,6 +101,17 @@ pub asks_stop : (name : List ℕ) (site : Site) (asks : List (List ℕ)) (told :
 asks_stop name site asks told old new stop rest on quiet unknown =
     stopped_behind (site_plan name) told told old new stop (λ value. asks_plan value asks (rest value)) site refl on
     (asks_stopped site asks told old new stop (rest site) quiet unknown)
+
+-- the generated site stops the command
+pub load_site_stops : (n : ℕ) (told : Option (List ℕ → List ℕ)) (faults : List ℕ → ℕ) (stop : Stop) → EndsIn load_site_plan stop → Stopped (plan_of (load n)) told faults faults stop
+load_site_stops n told faults stop ends = ended_at load_site_plan told faults stop (λ value. load_text_plan n value (λ walk. shows (loaded n value walk))) ends
+
+-- so does the generated filter
+pub load_text_stops : (n : ℕ) (site : Site) (told : Option (List ℕ → List ℕ)) (faults : List ℕ → ℕ) (stop : Stop)
+    → Chooses load_site_plan site → EndsIn (load_text_plan n site) stop → Stopped (plan_of (load n)) told faults faults stop
+load_text_stops n site told faults stop chooses ends =
+    stopped_where load_site_plan told faults stop (λ value. load_text_plan n value (λ walk. shows (loaded n value walk))) site chooses
+    (ended_at (load_text_plan n site) told faults stop (λ walk. shows (loaded n site walk)) ends)
 
 -- the configuration stops a command
 pub source_stops : (lang : SourceLang) (name file : List ℕ) (site : Site) (told before : Option (List ℕ → List ℕ)) (old at new : List ℕ → ℕ) (stop : Stop) (next : Site → (Packet → Kind → Outcome) → Plan)

@@ -82,6 +82,17 @@ stopped_behind plan told before old new Memory next x same on stopped = tt
 pub gone_on : {X : Type 0} → (plan : (X → Plan) → Plan) (told before : Option (List ℕ → List ℕ)) (x : X) → before ≡ told → GoesOn plan before x → GoesOn plan told x
 gone_on {X} plan told before x same on = subst (λ b. GoesOn {X = X} plan b x) same on
 
+-- a plan that ends in an answer is answered, where nothing was read
+pub ended_at : {X : Type 0} → (plan : (X → Plan) → Plan) (told : Option (List ℕ → List ℕ)) (faults : List ℕ → ℕ) (stop : Stop) (next : X → Plan)
+    → EndsIn plan stop → Stopped (plan next) told faults faults stop
+ended_at plan told faults (Due a) next ends = subst (λ p. Answered p told faults faults a.status a.text) (sym (ends.1 next)) (ends.0, refl, refl, refl)
+ended_at plan told faults Memory next ends = tt
+
+-- what stops what a plan chooses stops the plan
+pub stopped_where : {X : Type 0} → (plan : (X → Plan) → Plan) (told : Option (List ℕ → List ℕ)) (faults : List ℕ → ℕ) (stop : Stop) (next : X → Plan) (x : X)
+    → Chooses plan x → Stopped (next x) told faults faults stop → Stopped (plan next) told faults faults stop
+stopped_where plan told faults stop next x chooses stopped = subst (λ p. Stopped p told faults faults stop) (sym (chooses next)) stopped
+
 -- entries that a site lacks stop a query
 pub asks_stopped : (site : Site) (asks : List (List ℕ)) (told : Option (List ℕ → List ℕ)) (old new : List ℕ → ℕ) (stop : Stop) (next : Plan)
     → new ≡ old → AsksStopped site asks stop → Stopped (asks_plan site asks next) told old new stop

@@ -3,6 +3,7 @@ mod AskSets
 mod Asking
 mod Chosen
 mod Diagrams
+mod Holding
 mod Plans
 mod Points
 mod Policies

@@ -1,12 +1,13 @@
 -- The forms of a command line.
-use Rattle.std.specs.Prelude.{◌≡◌, ℕ, true, ◌&&◌, Option, Some, None, List, [], ◌∷◌, codes, if◌then◌else◌}
+use Rattle.std.specs.Prelude.{◌≡◌, ◌≤◌, ℕ, true, ◌&&◌, nat_eq, Option, Some, None, List, [], ◌∷◌, codes, if◌then◌else◌}
 use Rattle.std.specs.Option.{option_map_or}
 use Rattle.std.specs.Str.{bytes_eq}
+use Rattle.fws_num.specs.Numbers.{dec_of}
 use Rattle.fws_net.specs.declared.packet.State.{State}
 use Rattle.fws_net.specs.declared.packet.State.TheVariants.{Fresh, Est}
 use Rattle.fws_top.specs.Asks.{are_asks, are_shown}
 use Rattle.fws_top.specs.declared.form.Form.{Form}
-use Rattle.fws_top.specs.declared.form.Form.TheVariants.{Unknown, Help, Version, Synth, Query, Translate, Trace, SecondForm}
+use Rattle.fws_top.specs.declared.form.Form.TheVariants.{Unknown, Help, Version, Synth, Query, Translate, Trace, Load, SecondForm}
 use Rattle.fws_top.specs.declared.lang.SourceLang.{SourceLang}
 use Rattle.fws_top.specs.declared.lang.SourceLang.TheVariants.{Iptables, Ipfw, Pf, Ios}
 use Rattle.fws_top.specs.declared.lang.TargetLang.{TargetLang}
@@ -16,7 +17,7 @@ use Rattle.fws_top.specs.declared.lang.TargetLang.TheVariants as targets
 
 -- nothing that is known, the list of commands or the version; of a configuration at a site, for the packets of a state,
 -- the table, whole or for what further words ask; the same policy in another language; what becomes of listed packets
--- against listed connections; or a site in its second form
+-- against listed connections; what a generated policy of so many rules comes to; or a site in its second form
 pub data Command : Type 0 where
   unknown : Command
   help : Command
@@ -25,6 +26,7 @@ pub data Command : Type 0 where
   query : SourceLang → List ℕ → List ℕ → State → List (List ℕ) → Command
   translate : SourceLang → TargetLang → List ℕ → List ℕ → Command
   trace : SourceLang → List ℕ → List ℕ → List ℕ → List ℕ → Command
+  load : ℕ → Command
   site2 : List ℕ → Command
 
 -- the language of a configuration
@@ -42,6 +44,7 @@ target_of word =
     if bytes_eq word (codes "iptables") then Some targets.Iptables
     else if bytes_eq word (codes "ipfw") then Some targets.Ipfw
     else if bytes_eq word (codes "pf") then Some targets.Pf
+    else if bytes_eq word (codes "ios") then Some targets.Ios
     else None
 
 -- which packets a table is about
@@ -52,9 +55,16 @@ state_of word = if bytes_eq word (codes "new") then Some Fresh else if bytes_eq 
 abbrev pub single_command : List ℕ → Command
 single_command word = if bytes_eq word (codes "--help") then help else if bytes_eq word (codes "--version") then version else unknown
 
--- `site2 SITE`
-abbrev pub site_command : List ℕ → List ℕ → Command
-site_command command site = if bytes_eq command (codes "site2") then site2 site else unknown
+-- `load N`, N from 1 to 4000
+abbrev pub load_command : List ℕ → Command
+load_command number = option_map_or (λ n. if nat_eq n 0 then unknown else load n) (dec_of number 4000) unknown
+
+-- `load N`, or `site2 SITE`
+abbrev pub short_command : List ℕ → List ℕ → Command
+short_command command word =
+    if bytes_eq command (codes "load") then load_command word
+    else if bytes_eq command (codes "site2") then site2 word
+    else unknown
 
 -- `synth` takes no further words
 abbrev pub synth_command : SourceLang → List ℕ → List ℕ → State → List (List ℕ) → Command
@@ -97,7 +107,7 @@ source_command command lang site file rest =
 -- the command of the words of a command line
 abbrev pub command_of : List (List ℕ) → Command
 command_of (word ∷ []) = single_command word
-command_of (command ∷ site ∷ []) = site_command command site
+command_of (command ∷ word ∷ []) = short_command command word
 command_of (command ∷ word ∷ site ∷ file ∷ rest) = option_map_or (λ lang. source_command command lang site file rest) (lang_of word) unknown
 command_of _ = unknown
 
@@ -112,9 +122,11 @@ asked (Synth lang site file state) = synth lang site.now file.now state
 asked (Query lang site file state asks) = query lang site.now file.now state asks.now
 asked (Translate from to site file) = translate from to site.now file.now
 asked (Trace lang site file conns packets) = trace lang site.now file.now conns.now packets.now
+asked (Load n) = load n
 asked (SecondForm site) = site2 site.now
 
--- the further words of a query are well spelled
+-- the further words of a query are well spelled, and the number of rules is one that `load` takes
 abbrev pub IsSpelled : Form → Type 0
 IsSpelled (Query lang site file state asks) = are_asks asks.now ≡ true
+IsSpelled (Load n) = (1 ≤ n) × (n ≤ 4000)
 IsSpelled _ = Unit {0}

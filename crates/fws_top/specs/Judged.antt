@@ -111,6 +111,10 @@ judged_by refusal walk (Ok config) = judged_chains (refusal config) (walk config
 abbrev pub HasText : {C : Type 0} → (List ℕ → Result C (Refusal Cause)) → C → Type 0
 HasText spelled config = (text : List ℕ) × (spelled text ≡ Ok config)
 
+-- the text is that of some configuration
+abbrev pub HasConfig : {C : Type 0} → (List ℕ → Result C (Refusal Cause)) → List ℕ → Type 0
+HasConfig {C} spelled text = (config : C) × (spelled text ≡ Ok config)
+
 -- what a text means in a language at a site
 abbrev pub judge : SourceLang → Site → List ℕ → Judged
 judge Iptables site text = judged_by (ipt_refusal site) (λ config. ipt_walk config site) (ipt_spelled site text)

@@ -1,5 +1,6 @@
 -- What a command does, step by step: it says something, or reads a file and goes on by what the file holds.
-use Rattle.std.specs.Prelude.{ℕ, Result, Ok, Err, List, length, nat_lt, if◌then◌else◌}
+use Rattle.std.specs.Prelude.{ℕ, Result, Ok, Err, List, length, nat_lt, codes, if◌then◌else◌}
+use Rattle.fws_load.specs.Load.{filter_text, site_text}
 use Rattle.fws_net.specs.declared.cause.SiteCause.{SiteCause}
 use Rattle.fws_net.specs.declared.connection.Conn.{Conn}
 use Rattle.fws_net.specs.declared.connection.Kind.{Kind}
@@ -11,13 +12,14 @@ use Rattle.fws_net.specs.SiteSpelling.{site2_text}
 use Rattle.fws_net.specs.SiteText.{site_of}
 use Rattle.fws_top.specs.Asks.{are_known}
 use Rattle.fws_top.specs.declared.lang.SourceLang.{SourceLang}
+use Rattle.fws_top.specs.declared.lang.SourceLang.TheVariants.{Iptables}
 use Rattle.fws_top.specs.declared.status.Status.{Status}
 use Rattle.fws_top.specs.declared.status.Status.TheVariants as status
 use Rattle.fws_top.specs.declared.texts.TheConstants.{FILE_LIMIT, HELP, USAGE, VERSION}
-use Rattle.fws_top.specs.Forms.{Command, unknown, help, version, synth, query, translate, trace, site2}
+use Rattle.fws_top.specs.Forms.{Command, unknown, help, version, synth, query, translate, trace, load, site2}
 use Rattle.fws_top.specs.Judged.{Judged, refused, accepted, judge}
 use Rattle.fws_top.specs.Lines.{refused_line, too_long_words, line_words, syntax_words, site_cause_text}
-use Rattle.fws_top.specs.Tables.{Wanted, table, asked_table, translation}
+use Rattle.fws_top.specs.Tables.{Wanted, table, asked_table, translation, loaded}
 use Rattle.fws_trace.specs.ConnectionText.{conns_of}
 use Rattle.fws_trace.specs.PacketText.{packets_of}
 use Rattle.fws_trace.specs.TraceText.{trace_text}
@@ -69,6 +71,14 @@ packets_plan site name next = file_plan name (λ bytes. listed name (packets_of 
 abbrev pub asks_plan : Site → List (List ℕ) → Plan → Plan
 asks_plan site asks next = if are_known site asks then next else says status.Usage USAGE.now
 
+-- the site of the generator, judged as a file of this name
+abbrev pub load_site_plan : (Site → Plan) → Plan
+load_site_plan next = spelled_site (codes "load site") (site_of site_text) next
+
+-- its filter with so many rules, judged as a file of iptables of this name
+abbrev pub load_text_plan : ℕ → Site → ((Packet → Kind → Outcome) → Plan) → Plan
+load_text_plan n site next = judged (codes "load text") (judge Iptables site (filter_text n)) next
+
 -- Plans
 
 -- what a command does
@@ -81,6 +91,7 @@ plan_of (synth lang site file state) = site_plan site (λ value. source_plan lan
 plan_of (query lang site file state asks) =
     site_plan site (λ value. asks_plan value asks (source_plan lang value file (λ walk. shows (asked_table value state asks walk))))
 plan_of (translate from to site file) = site_plan site (λ value. source_plan from value file (λ walk. shows (translation to value walk)))
+plan_of (load n) = load_site_plan (λ value. load_text_plan n value (λ walk. shows (loaded n value walk)))
 plan_of (trace lang site file conns packets) =
     site_plan site (λ value. source_plan lang value file (λ walk. conns_plan conns (λ tracked. packets_plan value packets (λ sent.
     says status.Ok (trace_text walk tracked sent)))))

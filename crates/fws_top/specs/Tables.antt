@@ -13,6 +13,7 @@ use Rattle.fws_top.specs.Asks.{asks_have, asked_verdict}
 use Rattle.fws_top.specs.declared.lang.TargetLang.{TargetLang}
 use Rattle.fws_top.specs.declared.status.Status.{Status}
 use Rattle.fws_top.specs.declared.status.Status.TheVariants as status
+use Rattle.fws_top.specs.Loads.{IsLoad}
 use Rattle.fws_top.specs.Translations.{IsTranslation}
 use Rattle.fws_top.specs.Walked.{walked_at}
 use Rattle.fws_tree.specs.Plain.{Plain, value, IsReduced}
@@ -35,21 +36,24 @@ pub record IsAskedTable (site : Site) (state : State) (asks : List (List ℕ)) (
   pub asked : (p : List ℕ) → IsWithin (tops_of site) p → value tree p ≡ Some (asked_part site asks p (walked_at walk state p))
   pub spelled : t ≡ query_text site state tree
 
--- what shows a walk at a site: its table for the packets of a state, whole or of what the words of a query ask for; or the
--- same policy in another language
+-- what shows a walk at a site: its table for the packets of a state, whole or of what the words of a query ask for; the
+-- same policy in another language; or what so many rules come to
 pub data Wanted : Type 0 where
   table : Site → State → (Packet → Kind → Outcome) → Wanted
   asked_table : Site → State → List (List ℕ) → (Packet → Kind → Outcome) → Wanted
   translation : TargetLang → Site → (Packet → Kind → Outcome) → Wanted
+  loaded : ℕ → Site → (Packet → Kind → Outcome) → Wanted
 
 -- a text that is shown with this status is the wanted one
 abbrev pub IsWanted : Wanted → Status → List ℕ → Type 0
 IsWanted (table site state walk) s t = (s ≡ status.Ok) × IsTable site state walk t
 IsWanted (asked_table site state asks walk) s t = (s ≡ status.Ok) × IsAskedTable site state asks walk t
 IsWanted (translation target site walk) s t = IsTranslation target site walk s t
+IsWanted (loaded n site walk) s t = (s ≡ status.Ok) × IsLoad n site walk t
 
 -- a status with which it may be shown
 abbrev pub CanBeShown : Wanted → Status → Type 0
 CanBeShown (table site state walk) s = s ≡ status.Ok
 CanBeShown (asked_table site state asks walk) s = s ≡ status.Ok
 CanBeShown (translation target site walk) s = (s ≡ status.Ok) ⊎ (s ≡ status.NotPlaceable)
+CanBeShown (loaded n site walk) s = s ≡ status.Ok

@@ -4,6 +4,9 @@ use Rattle.std.specs.Prelude.{◌≡◌, ℕ, Bool, true, Result, Ok, List, [], 
 use Rattle.std.specs.Fmt.{decimal}
 use Rattle.std.specs.List.{join_with_byte}
 use Rattle.std.specs.Option.{option_map_or}
+use Rattle.fws_ios.specs.FileText.{spelled as ios_spelled}
+use Rattle.fws_ios.specs.Walk.{walk as ios_walk}
+use Rattle.fws_ios_put.specs.Placed.{tracks as ios_tracks}
 use Rattle.fws_ipfw.specs.FileText.{spelled as ipfw_spelled}
 use Rattle.fws_ipfw.specs.Walk.{walk as ipfw_walk}
 use Rattle.fws_ipfw_put.specs.Placed.{tracks as ipfw_tracks}
@@ -31,7 +34,7 @@ use Rattle.fws_place.specs.Fits.{Fits, IsBreach, number_of}
 use Rattle.fws_place.specs.Meaning.{IsPacketOf, IsPairOf, new_of, est_of}
 use Rattle.fws_table.specs.TableText.{entry_name}
 use Rattle.fws_top.specs.declared.lang.TargetLang.{TargetLang}
-use Rattle.fws_top.specs.declared.lang.TargetLang.TheVariants.{Iptables, Ipfw, Pf}
+use Rattle.fws_top.specs.declared.lang.TargetLang.TheVariants.{Iptables, Ipfw, Pf, Ios}
 use Rattle.fws_top.specs.declared.status.Status.{Status}
 use Rattle.fws_top.specs.declared.status.Status.TheVariants as status
 use Rattle.fws_top.specs.Walked.{AreTablesOf}
@@ -56,12 +59,14 @@ abbrev pub Emits : TargetLang → Site → Tables → List ℕ → Type 0
 Emits Iptables site tables t = EmitsBy (ipt_spelled site) (ipt_tracks site) (λ config. ipt_walk config site) site tables t
 Emits Ipfw site tables t = EmitsBy (ipfw_spelled site) (ipfw_tracks site) (λ config. ipfw_walk config site) site tables t
 Emits Pf site tables t = EmitsBy (pf_spelled site) (pf_tracks site) (λ config. pf_walk config site) site tables t
+Emits Ios site tables t = EmitsBy (ios_spelled site) (ios_tracks site) (λ config. ios_walk config site) site tables t
 
 -- the system whose placement condition is asked for
 abbrev pub system_of : TargetLang → Lang
 system_of Iptables = langs.Iptables
 system_of Ipfw = langs.Ipfw
 system_of Pf = langs.Pf
+system_of Ios = langs.Ios
 
 -- The line that names packets
 
@@ -69,6 +74,7 @@ abbrev pub target_word : TargetLang → List ℕ
 target_word Iptables = codes "iptables"
 target_word Ipfw = codes "ipfw"
 target_word Pf = codes "pf"
+target_word Ios = codes "ios"
 
 -- the words of a packet, as a trace reads them
 abbrev pub packet_words : Site → Packet → List (List ℕ)

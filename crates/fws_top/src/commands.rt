@@ -1,15 +1,19 @@
 //! The commands that read files.
 
-ghost use Rattle.std.specs.Prelude.{◌≡◌, true, IfOk, IfErr};
+ghost use Rattle.std.specs.Prelude.{◌≡◌, ◌≤◌, ℕ, List, Option, true, IfOk, IfErr};
 ghost use Rattle.fws_top.specs.Asks.{are_asks};
 ghost use Rattle.fws_top.specs.declared.status.Status.TheVariants as status;
-ghost use Rattle.fws_top.specs.Forms.{synth, query, translate, trace, site2};
+ghost use Rattle.fws_top.specs.Forms.{synth, query, translate, trace, load, site2};
 ghost use Rattle.fws_top.specs.Plan.{plan_of};
 ghost use Rattle.fws_top.specs.Stops.{Answered, Stopped};
 
 use crate::answer::{Answer, Stop};
 use crate::lang::{SourceLang, TargetLang};
-use crate::steps::{know_entries, take_conns, take_packets, take_site, take_source};
+use crate::loading::loaded;
+use crate::steps::{
+    generated_site, generated_source, know_entries, take_conns, take_packets, take_site,
+    take_source,
+};
 use crate::tables::{asked_table, table, tables, traced};
 use crate::translating::translated;
 use fws_io::Shelf;
@@ -97,6 +101,20 @@ pub(crate) fn trace<S: Shelf>(
     let conns = take_conns(alloc, shelf, conns_name)?;
     let packets = take_packets(alloc, shelf, &site, packets_name)?;
     let text = traced(alloc, &site, &code, conns.as_slice(), packets.as_slice())?;
+    Ok(text)
+}
+
+/// What a generated policy of so many rules comes to.
+pub(crate) fn load(alloc: Global, n: u32) -> Result<Text, Stop>
+    requires least { 1 ≤ n }
+    requires most { n ≤ 4000 }
+    ensures answered { (told : Option (List ℕ → List ℕ)) (faults : List ℕ → ℕ) → IfOk result (Answered (plan_of (load n)) told faults faults status.Ok) }
+    ensures stopped { (told : Option (List ℕ → List ℕ)) (faults : List ℕ → ℕ) → IfErr result (Stopped (plan_of (load n)) told faults faults) }
+{
+    read_sites_are_orderly();
+    let site = generated_site(alloc)?;
+    let code = generated_source(alloc, n, &site)?;
+    let text = loaded(alloc, n, &site, &code)?;
     Ok(text)
 }
 

@@ -2,12 +2,12 @@
 
 ghost use Rattle.std.specs.Prelude.{◌≡◌};
 ghost use Rattle.std.specs.Str.{bytes_eq};
-ghost use Rattle.fws_top.specs.Forms.{lang_of, target_of, state_of, command_of, single_command, site_command, synth_command, query_command, state_command, table_command, translate_command, trace_command, source_command, asked, IsSpelled};
+ghost use Rattle.fws_top.specs.Forms.{lang_of, target_of, state_of, command_of, single_command, short_command, load_command, synth_command, query_command, state_command, table_command, translate_command, trace_command, source_command, asked, IsSpelled};
 
 use crate::ask::{are_asks, are_shown};
 use crate::lang::{SourceLang, TargetLang};
 use fws_net::State;
-use fws_num::Text;
+use fws_num::{Text, read_dec};
 
 /// What the words of a command line ask for. Files stand by their names.
 #[derive(Clone, Copy)]
@@ -27,6 +27,8 @@ pub(crate) enum Form<'a> {
     /// What a configuration at a site makes of packets, against tracked connections: site, configuration, connections
     /// and packets.
     Trace(SourceLang, &'a [u8], &'a [u8], &'a [u8], &'a [u8]),
+    /// What a generated policy comes to: the number of its rules.
+    Load(u32),
     /// A site in its second form.
     SecondForm(&'a [u8]),
 }
@@ -70,6 +72,8 @@ fn read_target(word: &[u8]) -> Option<TargetLang>
         Some(TargetLang::Ipfw)
     } else if are(word, b"pf") {
         Some(TargetLang::Pf)
+    } else if are(word, b"ios") {
+        Some(TargetLang::Ios)
     } else {
         None
     }
@@ -101,13 +105,26 @@ fn read_single(word: &Text) -> Form<'_>
     }
 }
 
-/// What a command asks of a site alone.
-fn read_site_command<'a>(command: &Text, site: &'a [u8]) -> Form<'a>
-    ensures asked { asked result ≡ site_command command.now site.now }
+/// `load` takes a number from 1 to 4000.
+fn read_load(number: &[u8]) -> Form<'_>
+    ensures asked { asked result ≡ load_command number.now }
     ensures spelled { IsSpelled result }
 {
-    if is(command, b"site2") {
-        Form::SecondForm(site)
+    match read_dec(number, 4000) {
+        None | Some(0) => Form::Unknown,
+        Some(n) => Form::Load(n as u32),
+    }
+}
+
+/// What a command asks that takes one further word.
+fn read_short_command<'a>(command: &Text, word: &'a [u8]) -> Form<'a>
+    ensures asked { asked result ≡ short_command command.now word.now }
+    ensures spelled { IsSpelled result }
+{
+    if is(command, b"load") {
+        read_load(word)
+    } else if is(command, b"site2") {
+        Form::SecondForm(word)
     } else {
         Form::Unknown
     }
@@ -241,7 +258,7 @@ pub(crate) fn read_form(words: &[Text]) -> Form<'_>
 {
     match words {
         [word] => read_single(word),
-        [command, site] => read_site_command(command, site.as_slice()),
+        [command, word] => read_short_command(command, word.as_slice()),
         [command, word, site, file, rest @ ..] => match read_lang(word) {
             Some(lang) => {
                 read_source_command(command, lang, site.as_slice(), file.as_slice(), rest)

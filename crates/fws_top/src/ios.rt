@@ -1,10 +1,13 @@
-//! Cisco IOS as a source of policies.
+//! Cisco IOS as a source and a target of policies.
 
+use crate::language::Language;
 use crate::source::Source;
 use fws_ifcl::Ifcl;
 use fws_ios::IosConfig;
 use fws_net::{ReadAnswer, Site};
-use fws_num::Memory;
+use fws_num::{Memory, Text};
+use fws_place::PlaceAnswer;
+use fws_tree::Tables;
 use std::alloc::Global;
 
 /// Cisco IOS, as a running configuration writes access lists and NAT.
@@ -34,5 +37,25 @@ impl Source for Ios {
 
     fn spelled_walks_are_regular() {
         fws_ios::spelled_walks_are_regular();
+    }
+}
+
+impl Language for Ios {
+    ghost use Rattle.fws_ios_print.specs.Printable.{is_printable};
+    ghost use Rattle.fws_ios_put.specs.Placed.{tracks};
+    ghost use Rattle.fws_net.specs.declared.packet.Lang.TheVariants as langs;
+
+    ghost system = { langs.Ios };
+
+    ghost printable = { λ site config. is_printable site config };
+
+    ghost tracks = { λ site config. tracks site config };
+
+    fn place(alloc: Global, t: &Tables, site: &Site) -> Result<IosConfig, PlaceAnswer> {
+        fws_ios_put::place(alloc, t, site)
+    }
+
+    fn print(alloc: Global, c: &IosConfig, site: &Site) -> Result<Text, Memory> {
+        fws_ios_print::print(alloc, c, site)
     }
 }

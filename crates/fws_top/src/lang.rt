@@ -22,4 +22,6 @@ pub enum TargetLang {
     Ipfw,
     /// pf of FreeBSD, as pfctl(8) loads its rules.
     Pf,
+    /// Cisco IOS, as a running configuration writes access lists and NAT.
+    Ios,
 }

@@ -33,6 +33,7 @@ pub trait Language: Source {
     /// and else the first clause that they don't meet, with packets that show so.
     fn place(alloc: Global, t: &Tables, site: &Site) -> Result<Self::Config, PlaceAnswer>
         requires sound { IsSound site.now }
+        requires orderly { IsOrderly site.now }
         requires regular { AreRegular site.now t.now }
         ensures fits { OnOk result (Fits system site.now t.now) }
         ensures printable { IfOk result (λ c. printable site.now c ≡ true) }

@@ -14,6 +14,7 @@ mod lang;
 mod language;
 mod laws;
 mod lines;
+mod loading;
 mod pf;
 mod policy;
 mod running;

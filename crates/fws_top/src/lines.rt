@@ -174,6 +174,7 @@ pub(crate) fn target_word(target: TargetLang) -> &'static [u8]
         TargetLang::Iptables => b"iptables",
         TargetLang::Ipfw => b"ipfw",
         TargetLang::Pf => b"pf",
+        TargetLang::Ios => b"ios",
     }
 }
 

@@ -1,12 +1,12 @@
 //! The steps of commands: files that are read and judged.
 
-ghost use Rattle.std.specs.Prelude.{◌≡◌, All, true, IfOk, IfErr, OnOk};
+ghost use Rattle.std.specs.Prelude.{◌≡◌, ◌≤◌, All, true, IfOk, IfErr, OnOk};
 ghost use Rattle.fws_net.specs.Routes.{IsSound};
 ghost use Rattle.fws_net.specs.SiteLaws.{IsRead};
 ghost use Rattle.fws_net.specs.SiteText.{site_of};
 ghost use Rattle.fws_top.specs.Asks.{are_known};
 ghost use Rattle.fws_top.specs.Judged.{judge};
-ghost use Rattle.fws_top.specs.Plan.{file_plan, site_plan, source_plan, conns_plan, packets_plan, spelled_site, judged, listed};
+ghost use Rattle.fws_top.specs.Plan.{file_plan, site_plan, source_plan, conns_plan, packets_plan, spelled_site, judged, listed, load_site_plan, load_text_plan};
 ghost use Rattle.fws_top.specs.Stops.{AsksStopped, Chooses, EndsIn, GoesOn, IsCode, IsTakenCode, StopsAt};
 ghost use Rattle.fws_trace.specs.ConnectionText.{conns_of};
 ghost use Rattle.fws_trace.specs.PacketText.{packets_of, IsOfSite};
@@ -24,6 +24,7 @@ use crate::status::Status;
 use crate::texts::{FILE_LIMIT, USAGE};
 use fws_flat::Flat;
 use fws_io::{Shelf, ShelfAnswer};
+use fws_load::{load_site, load_text};
 use fws_net::{Conn, Packet, Site, SiteAnswer, read_site};
 use fws_num::Text;
 use fws_trace::{LineAnswer, read_conns, read_packets};
@@ -120,6 +121,37 @@ pub(crate) fn take_source<S: Shelf>(
 {
     let bytes = take(alloc, shelf, name)?;
     let code = judge_source(alloc, lang, site, name, bytes.as_slice())?;
+    Ok(code)
+}
+
+/// The site of the generator.
+pub(crate) fn generated_site(alloc: Global) -> Result<Site, Stop>
+    ensures sound { IfOk result IsSound }
+    ensures read { IfOk result IsRead }
+    ensures chooses { IfOk result (λ site. Chooses load_site_plan site) }
+    ensures refused { IfErr result (EndsIn load_site_plan) }
+{
+    let text = load_site(alloc)?;
+    let site = judge_site(alloc, b"load site", text.as_slice())?;
+    Ok(site)
+}
+
+/// Flat code of its filter with so many rules.
+pub(crate) fn generated_source(alloc: Global, n: u32, site: &Site) -> Result<Flat, Stop>
+    requires least { 1 ≤ n }
+    requires most { n ≤ 4000 }
+    requires sound { IsSound site.now }
+    ensures code { IfOk result (IsCode (load_text_plan n site.now) site.now) }
+    ensures refused { IfErr result (EndsIn (load_text_plan n site.now)) }
+{
+    let text = load_text(alloc, n)?;
+    let code = judge_source(
+        alloc,
+        SourceLang::Iptables,
+        site,
+        b"load text",
+        text.as_slice(),
+    )?;
     Ok(code)
 }
 

@@ -4,11 +4,11 @@
 pub const FILE_LIMIT: usize = 4_194_304;
 
 /// What is written where the words are no form of the command line.
-pub const USAGE: &[u8] = b"usage: fws synth|query|translate|trace|site2\n";
+pub const USAGE: &[u8] = b"usage: fws synth|query|translate|trace|load|site2\n";
 
 /// What `fws --version` writes.
 pub const VERSION: &[u8] = b"fws 0.1.0\n";
 
 /// What `fws --help` writes.
 pub const HELP: &[u8] =
-    b"fws synth LANG SITE FILE new|est                  the table of what the configuration FILE does at the site SITE to new or established packets\nfws query LANG SITE FILE new|est [FIELD=SET ..]   the rows of that table for the packets that the words ask for\nfws translate FROM TO SITE FILE                   what FILE does, written in the language TO; or packets that show why TO can't hold it\nfws trace LANG SITE FILE CONNS PACKETS            what it does to the packets in PACKETS against the connections in CONNS\nfws site2 SITE                                    the site file SITE in its second form\nlanguages: iptables ipfw pf ios; TO: iptables ipfw pf\nfields: entry proto dst dport src sport flags icmp, with est also rdst rdport rsrc rsport; and verdict=accept or verdict=drop\nexit status: 0 answered, 1 can't be placed, 2 bad command line, 3 a file is refused, 4 a file can't be read, 5 the output can't be written, 6 out of memory\n";
+    b"fws synth LANG SITE FILE new|est                  the table of what the configuration FILE does at the site SITE to new or established packets\nfws query LANG SITE FILE new|est [FIELD=SET ..]   the rows of that table for the packets that the words ask for\nfws translate FROM TO SITE FILE                   what FILE does, written in the language TO; or packets that show why TO can't hold it\nfws trace LANG SITE FILE CONNS PACKETS            what it does to the packets in PACKETS against the connections in CONNS\nfws load N                                        how many rows the tables of a filter of N generated rules have, N from 1 to 4000, and in how many languages it can be written\nfws site2 SITE                                    the site file SITE in its second form\nlanguages: iptables ipfw pf ios; TO: iptables ipfw pf ios\nfields: entry proto dst dport src sport flags icmp, with est also rdst rdport rsrc rsport; and verdict=accept or verdict=drop\nexit status: 0 answered, 1 can't be placed, 2 bad command line, 3 a file is refused, 4 a file can't be read, 5 the output can't be written, 6 out of memory\n";

@@ -12,6 +12,7 @@ ghost use Rattle.fws_top.specs.Translations.{EmitsBy, IsPlacement, IsPlacementBy
 ghost use Rattle.fws_tree.specs.Regular.{AreRegular};
 
 use crate::answer::Answer;
+use crate::ios::Ios;
 use crate::ipfw::Ipfw;
 use crate::iptables::Iptables;
 use crate::lang::TargetLang;
@@ -68,6 +69,7 @@ fn placed_in(
         TargetLang::Iptables => placed::<Iptables>(alloc, target, site, tables),
         TargetLang::Ipfw => placed::<Ipfw>(alloc, target, site, tables),
         TargetLang::Pf => placed::<Pf>(alloc, target, site, tables),
+        TargetLang::Ios => placed::<Ios>(alloc, target, site, tables),
     }
 }
 

@@ -1,6 +1,6 @@
 use Rattle.std.proofs.Common.{IfOk, subst, sym}
 use Rattle.fws_top.specs.declared.form.Form.{Form}
-use Rattle.fws_top.specs.Forms.{asked, synth, query, translate, trace}
+use Rattle.fws_top.specs.Forms.{asked, synth, query, translate, trace, load}
 use Rattle.fws_top.specs.Plan.{plan_of}
 use Rattle.fws_top.specs.Stops.{Answered}
 use Rattle.fws_top.proofs.answering.follow.Goals as goal
@@ -40,3 +40,11 @@ returns-in-Translate-clause-answered g c =
     let new = g.S.Shelf.faults c.translate.new.shelf in
     subst (λ (form : Form). IfOk c.answered.result (λ answer. Answered (plan_of (asked form)) told old new answer.status answer.text)) (sym w.is)
     (c.answered.ensures (plan_of (translate w.from w.to w.site.now w.file.now)) told old new c.translate.ensures.answered c.translate.ensures.stopped)
+
+pub returns-in-Load-clause-answered : goal.returns-in-Load-clause-answered
+returns-in-Load-clause-answered g c =
+    let w = c.in-Load in
+    let told = g.S.Shelf.told c.args.shelf.now in
+    let faults = g.S.Shelf.faults c.args.shelf.now in
+    subst (λ (form : Form). IfOk c.ended-in-Load.result (λ answer. Answered (plan_of (asked form)) told faults faults answer.status answer.text)) (sym w.is)
+    (c.ended-in-Load.ensures (plan_of (load w.n)) told faults faults (c.load.ensures.answered told faults) (c.load.ensures.stopped told faults))
