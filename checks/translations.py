@@ -1,16 +1,21 @@
 """python3 checks/translations.py, at the top of the repository; checks/translations.sh says how it is called
 
-Translates to iptables, ipfw and pf the configurations of examples/ and those of which crates/fws_rows/args knows a table, from the
+Translates to iptables, ipfw, pf and Cisco IOS the configurations of examples/ and those of which crates/fws_rows/args knows a table, from the
 language that each has, with the built program. What is checked of each:
 
 - The status is 0; or it is 1 with a line that names packets, where the target, the site and the configuration stand in UNPLACED.
   Any other configuration is placed on pf exactly where its table of established packets drops none but lost ones: else a packet is
   named that this table drops.
+  What of the condition of Cisco IOS can be told by the rows of the tables alone is told by them: source ports, sources of what is delivered,
+  rewritten packets of the host, destinations, dropped packets of connections, and mapped networks; of the other clauses UNPLACED has the
+  configurations that break one first.
   The rules of checks/placing have the status and the line of LINES.
 - The text, read back, has the two tables of the configuration that it was made of.
 - A text of ipfw keeps what its tool asks for: at most 31 networks and 30 ranges of ports in a list, and lines of at most 4,095 bytes.
 - A text of pf keeps what pf.conf(5) asks for: options of a line in their order, translations ahead of filter rules, names of tags of at most 63 bytes,
   `static-port` behind each end of `nat`, and `flags` and `keep state` on each rule that passes packets.
+- A text of Cisco IOS keeps the forms of its manuals, each entry in a list that stands ahead of the translations, and each list that is named is
+  defined.
 - A text of iptables keeps what iptables-restore asks for: no blank behind COMMIT; at most 15 ports in a list, where a range counts as two,
   and none of port 0 alone; no -i in OUTPUT and POSTROUTING, no -o in PREROUTING and INPUT; names of chains of at most 28 bytes.
 - Where iptables-restore or iptables-nft-restore is installed and may be tried, it takes the text with --test; unless an interface
@@ -73,6 +78,9 @@ UNPLACED = {
     ('pf', 'S', 'static-filtered.ios'): ('not placeable on pf clause 2: ', {1: '6', 4: '10.0.0.5', 5: '8080'}),
     ('pf', 'S', 'static-first.ios'): ('not placeable on pf clause 2: ', {4: '10.0.0.5', 5: '53'}),
     ('pf', 'S', 'redirect.rules'): ('not placeable on pf clause 3: ', {0: 'host', 3: '80'}),
+    # flags tell packets apart that have ACK or RST both, or neither
+    ('ios', 'S', 'stateless.pf'): ('not placeable on ios clause 14: ', {1: '6', 8: 'with', 10: '6'}),
+    ('ios', 'S', 'flag-tests.pf'): ('not placeable on ios clause 14: ', {1: '6', 8: 'with', 10: '6'}),
 }
 
 # Rules of checks/placing at the site S of the worked tables: the target, and what the line of status 1 is; none where they are placed.
@@ -92,9 +100,9 @@ LINES = [
 ]
 
 # How many words name what breaks a clause, beside those on packets of connections.
-PACKET_WORDS = {'2': 8, '3': 8, '4': 8, '6': 8, '17': 8}
+PACKET_WORDS = {'2': 8, '3': 8, '4': 8, '6': 8, '14': 17, '17': 8}
 
-TARGETS = ('iptables', 'ipfw', 'pf')
+TARGETS = ('iptables', 'ipfw', 'pf', 'ios')
 
 # The examples: language, site and configuration.
 EXAMPLE_FILES = [
@@ -104,6 +112,7 @@ EXAMPLE_FILES = [
     ('iptables', 'site.txt', 'ssh.rules'),
     ('iptables', 'site.txt', 'forward.rules'),
     ('iptables', 'routed.site', 'outbound.rules'),
+    ('iptables', 'site.txt', 'lan.rules'),
     ('ipfw', 'office.site', 'office.ipfw'),
     ('ipfw', 'site.txt', 'office.ipfw'),
     ('pf', 'site.txt', 'gateway.pf'),
@@ -194,7 +203,43 @@ def pf_faults(text):
         yield 'sections that are out of order'
 
 
-FAULTS = {'iptables': faults, 'ipfw': ipfw_faults, 'pf': pf_faults}
+# The forms of the manuals of Cisco IOS: of entries of extended lists, and of the lines of sections.
+IOS_HOST = r'(?:any|host \d+(?:\.\d+){3}|\d+(?:\.\d+){3} \d+(?:\.\d+){3})'
+IOS_PORT = r'(?: eq \d+| range \d+ \d+)?'
+IOS_ENTRY = r' (?:permit|deny) (?:(?:ip|\d+) %s %s|(?:tcp|udp) %s%s %s%s(?: established)?|icmp %s %s(?: \d+)?)(?: reflect CONNECTIONS)?' % (
+    IOS_HOST, IOS_HOST, IOS_HOST, IOS_PORT, IOS_HOST, IOS_PORT, IOS_HOST, IOS_HOST)
+IOS_FORMS = [
+    ('interface', r'interface \S+'),
+    ('interface', r' ip nat (?:inside|outside)'),
+    ('interface', r' ip access-group \S+ in'),
+    ('list', r'ip access-list extended \S+'),
+    ('list', IOS_ENTRY),
+    ('list', r' evaluate CONNECTIONS'),
+    ('nat', r'ip nat pool P\d+ (\d+(?:\.\d+){3}) \1 prefix-length 24'),
+    ('nat', r'ip nat inside source list \S+ pool P\d+ overload'),
+]
+
+
+def ios_faults(text):
+    """What Cisco IOS would not take of the text."""
+    sections = []
+    for line in text.splitlines():
+        if not line.startswith('!'):
+            found = [section for section, form in IOS_FORMS if re.fullmatch(form, line)]
+            if not found:
+                yield 'a line of no form: ' + line[:80]
+            if line.startswith(' deny') and 'reflect' in line:
+                yield 'a denial that keeps state: ' + line
+            sections += found
+    if sections != sorted(sections, key=('interface', 'list', 'nat').index):
+        yield 'sections that are out of order'
+    defined = re.findall(r'^ip access-list extended (\S+)$', text, re.MULTILINE)
+    named = re.findall(r'^ ip access-group (\S+) in$', text, re.MULTILINE) + re.findall(r'^ip nat inside source list (\S+) ', text, re.MULTILINE)
+    if set(named) != set(defined) or len(set(defined)) != len(defined):
+        yield 'lists that are not named or not defined: ' + ' '.join(sorted(set(named) ^ set(defined)))
+
+
+FAULTS = {'iptables': faults, 'ipfw': ipfw_faults, 'pf': pf_faults, 'ios': ios_faults}
 
 
 def long_names(site):
@@ -261,6 +306,98 @@ def drops_established(job):
     return False
 
 
+def row_sides(line):
+    """The sides of a row as sets of names or lists of ranges; none where a side is everything."""
+    sides = []
+    for place, word in enumerate(line.split(' : ')[0].split(' ')):
+        if word == '*':
+            sides.append(None)
+        elif place == 0:
+            sides.append(set(word.split(',')))
+        elif place in (2, 4, 8, 10):
+            sides.append(list(numbers(word)))
+        else:
+            sides.append([(int(low), int(high or low)) for low, _, high in (part.partition('-') for part in word.split(','))])
+    return sides
+
+
+def meet(side, other):
+    if side is None or other is None:
+        return True
+    if isinstance(side, set):
+        return bool(side & other)
+    return any(low <= last and first <= high for low, high in side for first, last in other)
+
+
+def keeps_packets(job):
+    """Whether some packet is dropped in one connection that isn't lost, and accepted in another one or as a new one."""
+    language, site, name = job
+    own, forwards = local(site)
+    tables = {state: run('synth', language, site, name, state)[1].splitlines()[1:] for state in ('new', 'est')}
+    accepted = [row_sides(line)[:8] for lines in tables.values() for line in lines if ' : accept' in line]
+    for line in tables['est']:
+        if line.endswith(' : drop'):
+            sides = row_sides(line)
+            if not forwards and not meet(sides[8], own):
+                if sides[0] is not None and 'host' not in sides[0]:
+                    continue
+                sides[0] = {'host'}
+            if any(all(meet(side, other) for side, other in zip(sides[:8], row)) for row in accepted):
+                return True
+    return False
+
+
+def ios_clause(job):
+    """The first clause of Cisco IOS that a row of the tables breaks by itself, if one does."""
+    language, site, name = job
+    own, _ = local(site)
+    broken = set()
+    for line in run('synth', language, site, name, 'new')[1].splitlines()[1:]:
+        sides, outcome = line.split(' : ')
+        entries = sides.split(' ')[0].split(',')
+        ends = dict(word.split('=') for word in outcome.split(' ')[1:])
+        if ':' in ends.get('src', ''):
+            broken.add(2)
+        if ('host' in entries or entries == ['*']) and 'dst' in ends:
+            broken.add(3)
+        if ('host' in entries or entries == ['*']) and (ends or outcome == 'drop'):
+            broken.add(11)
+        if 'dst' in ends:
+            broken.add(12)
+        if entries != ['host'] and 'src' in ends and 'dst' not in ends:
+            words = sides.split(' ')[2]
+            if words == '*' or any(low <= last and first <= high for first, last in numbers(words) for low, high in own):
+                broken.add(4)
+        if any('/' in end for end in ends.values()):
+            broken.add(17)
+    for line in run('synth', language, site, name, 'est')[1].splitlines()[1:]:
+        sides, outcome = line.split(' : ')
+        entries = sides.split(' ')[0].split(',')
+        if ('host' in entries or entries == ['*']) and outcome == 'drop':
+            broken.add(11)
+    if not broken and keeps_packets(job):
+        broken.add(16)
+    return min(broken, default=None)
+
+
+def shown(tally, job, clause, status, text):
+    """The line names this clause of Cisco IOS, and a packet of a row that the tables have."""
+    language, site, name = job
+    begins = 'not placeable on ios clause %d: ' % clause
+    tally.check(status == 1 and text.startswith(begins), name, 'has status', status, text[:80])
+    words = text[len(begins):].split()
+    fields = ('entry', 'proto', 'dst', 'dport', 'src', 'sport', 'flags', 'icmp', 'rdst', 'rdport', 'rsrc', 'rsport')
+    kind = 'new' if len(words) == 8 else 'est'
+    asked = run('query', language, site, name, kind, *('%s=%s' % pair for pair in zip(fields, words)))[1]
+    outcome = asked.partition(' : ')[2]
+    wanted = {2: r'accept .*src=[^ /]+:.*', 3: r'accept .*dst=.*', 4: r'accept .*src=.*', 11: r'(?!accept$).*', 12: r'accept .*dst=.*', 16: r'drop', 17: r'accept .*/.*'}[clause]
+    tally.check(len(words) in (8, 12) and re.fullmatch(wanted, outcome.strip()), name, 'names', *words)
+    tally.check(clause not in (3, 11) or words[:1] == ['host'], name, 'names a packet that is not of the host', *words)
+    if clause == 16:
+        kept = [run('query', language, site, name, state, *('%s=%s' % pair for pair in zip(fields, words[:8])))[1] for state in ('new', 'est')]
+        tally.check(any(' : accept' in text for text in kept), name, 'names a packet that is always dropped', *words)
+
+
 def dropped(tally, job, status, text):
     """The line names an established packet that is dropped and isn't lost."""
     language, site, name = job
@@ -325,11 +462,13 @@ def main():
                 unplaced(tally, bare, status, text)
             elif target == 'pf' and drops_established(job):
                 dropped(tally, job, status, text)
+            elif target == 'ios' and ios_clause(job):
+                shown(tally, job, ios_clause(job), status, text)
             else:
                 tally.check(status == 0, name, 'has status', status, text[:80])
                 placed(tally, tools, work, target, job, text)
         lines(tally, tools, work)
-        for target in TARGETS:
+        for target in ('iptables', 'ipfw', 'pf'):
             traced(tally, work, target)
     print('translations: %d right, %d wrong; loaded by %s' % (tally.right, tally.wrong, ', '.join(tools) or 'none, as none is installed'))
     return 1 if tally.wrong or not tally.right else 0
