@@ -21,6 +21,7 @@ pub mod PathRows
 pub mod Pieces
 pub mod Places
 pub mod Projecting
+pub mod Ranges
 pub mod Recolouring
 pub mod Reduced
 pub mod Relabel

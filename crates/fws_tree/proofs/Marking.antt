@@ -5,7 +5,6 @@ use Rattle.std.proofs.lemmas.Bool.Decides.{nat_tests}
 use Rattle.std.proofs.lemmas.List.{drop_more, drop_all, take-append-drop}
 use Rattle.fws_iv.specs.declared.iv.Iv.{Iv}
 use Rattle.fws_iv.specs.Ivs.{has, IsRegular, IsRegularFrom}
-use Rattle.fws_iv.proofs.Parts.{first_decides, regular-drop, regular_at}
 use Rattle.fws_tree.specs.declared.mark.Mark.{Mark}
 use Rattle.fws_tree.specs.declared.row.Row.{Row}
 use Rattle.fws_tree.specs.declared.store.Step.{Step}
@@ -22,11 +21,12 @@ use Rattle.fws_tree.proofs.Counted.{place_behind}
 use Rattle.fws_box.specs.Sides.{IsWithin, sides_have}
 use Rattle.fws_tree.specs.Rows.{first_leaf}
 use Rattle.fws_tree.proofs.Cells.{held-extends}
+use Rattle.fws_tree.proofs.Ranges.{front_decides, regular_from}
 use Rattle.fws_tree.proofs.Steps.{pick_child, pick-push}
 
 -- an interval off the front of a set
 pub part_last : (l : ℕ) (i : Iv) (is : List Iv) (x on off : ℕ) → IsRegularFrom l (i ∷ is) → x ≤ i.hi → cond (nat_lt x i.lo) off on ≡ cond (has (i ∷ is) x) on off
-part_last l i is x on off r le = flip (nat_lt x i.lo) (nat_le i.lo x) (grind (arith, nat_tests)) ∙ ap (λ b. cond b on off) (first_decides l i is x r le)
+part_last l i is x on off r le = flip (nat_lt x i.lo) (nat_le i.lo x) (grind (arith, nat_tests)) ∙ ap (λ b. cond b on off) (front_decides l i is x r le)
   where
     flip : (a b : Bool) → a ≡ not b → cond a off on ≡ cond b on off
     flip a true e = rw e refl
@@ -59,7 +59,7 @@ cut-more side top on off i d ss mid ts r lt cut before here x le =
     let id : ℕ → ℕ = λ n. n in
     let z : ℕ = cond (has (drop (i + 1) side) x) on off in
     here id z x ∙ pick-push id mid (record { hi = p.hi; node = on }) z x ∙ before id (cond (nat_le x p.hi) on z) x
-    ∙ ap (λ u. pick id ss u x) (part_step 0 p (drop (i + 1) side) x on off (regular_at 0 side i d lt (regular-drop 0 side i r)) ∙ ap (λ js. cond (has js x) on off) (sym (drop_more side i d lt)))
+    ∙ ap (λ u. pick id ss u x) (part_step 0 p (drop (i + 1) side) x on off (regular_from 0 side i d lt r) ∙ ap (λ js. cond (has js x) on off) (sym (drop_more side i d lt)))
     ∙ cut x le
 
 pub cut-last : (side : List Iv) (top on off i : ℕ) (d : Iv) (ss mid : List Step) → IsRegular side → i < length side → AreCut side top on off ss (drop i side) → top ≤ (get_or side i d).hi
@@ -69,7 +69,7 @@ cut-last side top on off i d ss mid r lt cut past before x le =
     let p : Iv = get_or side i d in
     let id : ℕ → ℕ = λ n. n in
     pick_child id mid on x ∙ before id on x
-    ∙ ap (λ u. pick id ss u x) (part_last 0 p (drop (i + 1) side) x on off (regular_at 0 side i d lt (regular-drop 0 side i r)) (omega arith) ∙ ap (λ js. cond (has js x) on off) (sym (drop_more side i d lt)))
+    ∙ ap (λ u. pick id ss u x) (part_last 0 p (drop (i + 1) side) x on off (regular_from 0 side i d lt r) (omega arith) ∙ ap (λ js. cond (has js x) on off) (sym (drop_more side i d lt)))
     ∙ cut x le
 
 pub cut-past : (side : List Iv) (top on off i : ℕ) (d : Iv) (ss : List Step) → IsRegular side → i < length side → AreCut side top on off ss (drop i side) → top < (get_or side i d).lo
@@ -77,7 +77,7 @@ pub cut-past : (side : List Iv) (top on off i : ℕ) (d : Iv) (ss : List Step) �
 cut-past side top on off i d ss r lt cut past x le =
     let p : Iv = get_or side i d in
     let id : ℕ → ℕ = λ n. n in
-    let whole : IsRegularFrom 0 (p ∷ drop (i + 1) side) = regular_at 0 side i d lt (regular-drop 0 side i r) in
+    let whole : IsRegularFrom 0 (p ∷ drop (i + 1) side) = regular_from 0 side i d lt r in
     let order : p.lo ≤ p.hi = whole.1 in
     let early : nat_lt x p.lo ≡ true = grind (arith, nat_tests) in
     pick_child id ss off x

@@ -8,7 +8,6 @@ use Rattle.std.specs.HashSet.{HashSet, contains, Updates}
 use Rattle.std.specs.Int.{bit_at}
 use Rattle.fws_iv.specs.declared.iv.Iv.{Iv}
 use Rattle.fws_iv.specs.Ivs.{has}
-use Rattle.fws_iv.proofs.Parts.{has-push, in_part-from}
 use Rattle.fws_tree.specs.declared.canvas.Canvas.{Canvas}
 use Rattle.fws_tree.specs.declared.store.Step.{Step}
 use Rattle.fws_tree.specs.Bits.{bits_in}
@@ -16,6 +15,7 @@ use Rattle.fws_tree.specs.Held.{child_at, held_at}
 use Rattle.fws_tree.specs.Spread.{IsHeldAt, Lacks, AreLacking, HasSpread, AreDone, Grows}
 use Rattle.fws_tree.proofs.Cells.{child_has}
 use Rattle.fws_tree.proofs.Marking.{within_at}
+use Rattle.fws_tree.proofs.Ranges.{has_last, still_has}
 
 min_same : (n : ℕ) → min n n ≡ n
 min_same n = omega arith
@@ -55,19 +55,8 @@ grows-same s x h = h
 pub grows-then : (s t u : List Iv) → Grows s t → Grows t u → Grows s u
 grows-then s t u a b x h = b x (a x h)
 
-either_left : (a b c : Bool) → a ≡ (b || c) → b ≡ true → a ≡ true
-either_left a true c e h = e
-either_left a false c e h = absurd (cc)
-
-either_right : (a b c : Bool) → a ≡ (b || c) → c ≡ true → a ≡ true
-either_right a true c e h = e
-either_right a false c e h = e ∙ h
-
 pub grows-push : (s : List Iv) (y : Iv) → Grows s (s ++ y ∷ [])
-grows-push s y x h = either_left _ (has s x) _ (has-push s y x) h
-
-pub pushed : (s : List Iv) (y : Iv) (x : ℕ) → y.lo ≤ x → x ≤ y.hi → has (s ++ y ∷ []) x ≡ true
-pushed s y x lo hi = either_right _ (has s x) _ (has-push s y x) (in_part-from y x lo hi)
+grows-push s y x h = still_has s y x h
 
 pub spread-grows : (c : Canvas) (field value at : ℕ) (s t : List Iv) → Grows s t → HasSpread c field value at s → HasSpread c field value at t
 spread-grows c field value at s t g h p w some = g (get_or p field 0) (h p w some)
