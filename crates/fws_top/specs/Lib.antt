@@ -3,6 +3,7 @@ pub mod Due
 pub mod Forms
 pub mod Judged
 pub mod Lines
+pub mod LoadPlans
 pub mod Loads
 pub mod Plan
 pub mod RegularTables

@@ -1,13 +1,15 @@
-//! Laws over tables: functions with nothing to do.
+//! Laws over tables and plans: functions with nothing to do.
 
 ghost use Rattle.std.specs.Prelude.{◌≡◌, ℕ, List, Ok};
 ghost use Rattle.fws_net.specs.declared.site.Site.{Site};
 ghost use Rattle.fws_tree.specs.declared.tables.Tables.{Tables};
 ghost use Rattle.fws_tree.specs.Regular.{AreRegular};
+ghost use Rattle.fws_top.specs.LoadPlans.{LoadWordsAreShown, LoadsAreShown};
 ghost use Rattle.fws_top.specs.RegularTables.{RegularWalksMakeRegularTables};
 ghost use Rattle.fws_top.specs.Walked.{AreTablesOf};
 
 use crate::source::Source;
+use fws_load_laws::{load_configs_are_not_refused, load_site_is_read, load_texts_are_read};
 
 /// The tables of a regular walk are regular: a law, with nothing to do.
 pub fn regular_walks_make_regular_tables()
@@ -21,4 +23,22 @@ pub fn spelled_tables_are_regular<L: Source>()
 {
     L::spelled_walks_are_regular();
     regular_walks_make_regular_tables();
+}
+
+/// No reader refuses a generated site or filter, so that what `load` does is to show what they come to: a
+/// law, with nothing to do.
+pub fn loads_are_shown()
+    ensures { LoadsAreShown }
+{
+    load_configs_are_not_refused();
+    load_site_is_read();
+    load_texts_are_read();
+}
+
+/// That is what the words `load N` ask for, where N spells a number from 1 to 4000: a law, with nothing to
+/// do.
+pub fn load_words_are_shown()
+    ensures { LoadWordsAreShown }
+{
+    loads_are_shown();
 }

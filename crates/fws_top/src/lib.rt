@@ -32,7 +32,10 @@ pub use ipfw::Ipfw;
 pub use iptables::Iptables;
 pub use lang::{SourceLang, TargetLang};
 pub use language::Language;
-pub use laws::{regular_walks_make_regular_tables, spelled_tables_are_regular};
+pub use laws::{
+    load_words_are_shown, loads_are_shown, regular_walks_make_regular_tables,
+    spelled_tables_are_regular,
+};
 pub use pf::Pf;
 pub use running::run;
 pub use source::Source;

@@ -1,0 +1,2 @@
+pub mod LoadedFilters
+pub mod LoadedSite

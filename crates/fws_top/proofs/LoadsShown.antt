@@ -1,0 +1,45 @@
+-- Neither text of `load` is refused.
+use Rattle.std.proofs.Common.{◌≡◌, ℕ, ◌≤◌, Bool, true, false, cond, ◌&&◌, nat_eq, nat_le, Some, None, List, length, codes, refl, ap, ◌∙◌, arith}
+use Rattle.std.proofs.lemmas.Bool.{and_parts, leb-true, ne_eqb}
+use Rattle.std.specs.List.{list_all}
+use Rattle.std.specs.Option.{option_map, option_map_or}
+use Rattle.fws_ipt.specs.Walk.{walk as ipt_walk}
+use Rattle.fws_load_laws.specs.LoadedFilters.{LoadConfigsAreNotRefused, LoadTextsAreRead, load_config}
+use Rattle.fws_load_laws.specs.LoadedSite.{LoadSiteIsRead, load_site}
+use Rattle.fws_net.specs.declared.connection.Kind.{Kind}
+use Rattle.fws_net.specs.declared.outcome.Outcome.{Outcome}
+use Rattle.fws_net.specs.declared.packet.Packet.{Packet}
+use Rattle.fws_num.specs.Numbers.{dec_of, digits_value, is_digit}
+use Rattle.fws_top.specs.Forms.{load, unknown}
+use Rattle.fws_top.specs.Judged.{ipt_named_refusal, ipt_refusal, judged_by, judged_chains}
+use Rattle.fws_top.specs.LoadPlans.{LoadWordsAreShown, LoadsAreShown}
+use Rattle.fws_top.specs.Plan.{judged, load_text_plan, plan_of, shows, spelled_site}
+use Rattle.fws_top.specs.Tables.{loaded}
+
+pub loads_shown : LoadSiteIsRead → LoadTextsAreRead → LoadConfigsAreNotRefused → LoadsAreShown
+loads_shown site_read texts_read unrefused n low most =
+    let config = load_config n in
+    let next = λ (walk : Packet → Kind → Outcome). shows (loaded n load_site walk) in
+    ap (λ read. spelled_site (codes "load site") read (λ value. load_text_plan n value (λ walk. shows (loaded n value walk)))) site_read
+    ∙ ap (λ read. judged (codes "load text") (judged_by (ipt_refusal load_site) (λ config. ipt_walk config load_site) read) next) (texts_read load_site n most)
+    ∙ ap (λ refusal. judged (codes "load text") (judged_chains (option_map (ipt_named_refusal config.chains) refusal) (ipt_walk config load_site)) next) (unrefused load_site n)
+
+-- a number that is read is within its limit
+within : (word : List ℕ) (most n : ℕ) → dec_of word most ≡ Some n → n ≤ most
+within word most n spelled =
+    let tests = list_all is_digit word && nat_le 1 (length word) && nat_le (length word) 20 in
+    let parts = taken (tests && nat_le (digits_value word) most) (digits_value word) n spelled in
+    let low : digits_value word ≤ most = leb-true (digits_value word) most (and_parts tests (nat_le (digits_value word) most) parts.0).1 in
+    let same : digits_value word ≡ n = parts.1 in
+    omega arith
+  where
+    taken : (b : Bool) (v n : ℕ) → cond b (Some v) None ≡ Some n → (b ≡ true) × (v ≡ n)
+    taken true v n e = (refl, cc)
+    taken false v n e = absurd cc
+
+pub words_shown : LoadsAreShown → LoadWordsAreShown
+words_shown shown word n spelled some =
+    let low : 1 ≤ n = omega arith in
+    ap (λ o. plan_of (option_map_or (λ n. cond (nat_eq n 0) unknown (load n)) o unknown)) spelled
+    ∙ ap (λ b. plan_of (cond b unknown (load n))) (ne_eqb n 0 some)
+    ∙ shown n low (within word 4000 n spelled)
