@@ -22,8 +22,6 @@ mod source;
 mod status;
 mod steps;
 mod tables;
-#[cfg(test)]
-mod tests;
 mod texts;
 mod translating;
 
