@@ -5,90 +5,113 @@ use crate::tally::Tally;
 use bumpalo::Bump;
 use fws_box::{Field, PBox, Point, cut, full, meet, narrow};
 use fws_iv::{Ivs, one};
-use fws_num::Text;
+use fws_num::{Memory, Text};
 use std::alloc::Global;
 
 /// The greatest value of every field.
 const TOPS: Point = [u32::MAX; 12];
 
-/// A box that must be there.
-fn some<'b>(part: Option<PBox<'b>>) -> Result<PBox<'b>, Stop> {
-    match part {
-        Some(part) => Ok(part),
-        None => Err(Stop::Malformed),
-    }
+/// The box of every point, and that of the points with the broadcast address as their destination.
+#[derive(Clone, Copy)]
+struct Boxes<'b> {
+    all: PBox<'b>,
+    broadcast: PBox<'b>,
 }
 
-/// The box of every point, and that of the points with the broadcast address as their destination.
-fn all_and_broadcast<'b>(alloc: Global, bump: &'b Bump) -> Result<(PBox<'b>, PBox<'b>), Stop> {
+/// A box that must be there.
+fn some<'b>(part: Option<PBox<'b>>) -> Result<PBox<'b>, Stop> {
+    part.ok_or(Stop::Malformed)
+}
+
+/// Both boxes.
+fn boxes_in<'b>(alloc: Global, bump: &'b Bump) -> Result<Boxes<'b>, Stop> {
     let all = full(bump, &TOPS)?;
     let last = one(alloc, u32::MAX, u32::MAX)?;
     let broadcast = some(narrow(bump, &all, Field::Dst, &last)?)?;
-    Ok((all, broadcast))
+    Ok(Boxes { all, broadcast })
 }
 
 /// Tries what the broadcast box leaves of all points.
-fn judge_cut(alloc: Global, tally: &mut Tally) -> Result<(), Stop> {
-    let bump = Bump::new(alloc);
-    let (all, broadcast) = all_and_broadcast(alloc, &bump)?;
-    let pieces = cut(alloc, &bump, &all, &broadcast)?;
-    tally.count(pieces.len() == 1)?;
+fn judge_piece(bump: &Bump, boxes: &Boxes, piece: &PBox, tally: &mut Tally) -> Result<(), Memory> {
     let mut point = [7; 12];
-    for piece in pieces.as_slice() {
-        point[2] = u32::MAX - 1;
-        tally.count(piece.has(&point) && !broadcast.has(&point))?;
-        point[2] = u32::MAX;
-        tally.count(!piece.has(&point) && broadcast.has(&point) && all.has(&point))?;
-        tally.count(piece.pick() == [0; 12])?;
-        tally.count(meet(&bump, piece, &broadcast)?.is_none())?;
-        tally.count(meet(&bump, piece, &all)?.is_some())?;
-    }
-    tally.count(cut(alloc, &bump, &broadcast, &all)?.is_empty())?;
+    point[2] = u32::MAX - 1;
+    tally.count(piece.has(&point) && !boxes.broadcast.has(&point));
+    point[2] = u32::MAX;
+    tally.count(!piece.has(&point) && boxes.broadcast.has(&point) && boxes.all.has(&point));
+    tally.count(piece.pick() == [0; 12]);
+    tally.count(meet(bump, piece, &boxes.broadcast)?.is_none());
+    tally.count(meet(bump, piece, &boxes.all)?.is_some());
     Ok(())
 }
 
-/// Tries that nothing is placed where one side lies within the other.
-fn judge_room(alloc: Global, tally: &mut Tally) -> Result<(), Stop> {
-    let bump = Bump::new(alloc);
-    let (all, broadcast) = all_and_broadcast(alloc, &bump)?;
+/// Tries to cut the broadcast box out of all points, and all points out of it.
+fn judge_cut(alloc: Global, bump: &Bump, boxes: &Boxes, tally: &mut Tally) -> Result<(), Memory> {
+    let pieces = cut(alloc, bump, &boxes.all, &boxes.broadcast)?;
+    tally.count(pieces.len() == 1);
+    for piece in pieces.as_slice() {
+        judge_piece(bump, boxes, piece, tally)?;
+    }
+    tally.count(cut(alloc, bump, &boxes.broadcast, &boxes.all)?.is_empty());
+    Ok(())
+}
+
+/// Tries that nothing is placed where one of two boxes lies within the other.
+fn judge_met(bump: &Bump, boxes: &Boxes, tally: &mut Tally) -> Result<(), Stop> {
     let room = bump.chunk_capacity();
-    let same = some(meet(&bump, &all, &all)?)?;
-    tally.count(same.has(&[7; 12]) && bump.chunk_capacity() == room)?;
-    let met = some(meet(&bump, &all, &broadcast)?)?;
-    tally.count(met.pick()[2] == u32::MAX && bump.chunk_capacity() == room)?;
+    let same = some(meet(bump, &boxes.all, &boxes.all)?)?;
+    tally.count(same.has(&[7; 12]) && bump.chunk_capacity() == room);
+    let met = some(meet(bump, &boxes.all, &boxes.broadcast)?)?;
+    tally.count(met.pick()[2] == u32::MAX && bump.chunk_capacity() == room);
+    Ok(())
+}
+
+/// Tries that nothing is placed where a side lies within the set to which it is narrowed.
+fn judge_narrowed(
+    alloc: Global,
+    bump: &Bump,
+    boxes: &Boxes,
+    tally: &mut Tally,
+) -> Result<(), Stop> {
+    let room = bump.chunk_capacity();
     let every = one(alloc, 0, u32::MAX)?;
-    let narrowed = some(narrow(&bump, &broadcast, Field::Src, &every)?)?;
-    tally.count(narrowed.has(&[u32::MAX; 12]) && bump.chunk_capacity() == room)?;
-    tally.count(narrow(&bump, &all, Field::Proto, &Ivs::none(alloc))?.is_none())?;
+    let narrowed = some(narrow(bump, &boxes.broadcast, Field::Src, &every)?)?;
+    tally.count(narrowed.has(&[u32::MAX; 12]) && bump.chunk_capacity() == room);
+    tally.count(narrow(bump, &boxes.all, Field::Proto, &Ivs::none(alloc))?.is_none());
     Ok(())
 }
 
 /// Tries sides that outlive the arena.
-fn judge_sides(alloc: Global, tally: &mut Tally) -> Result<(), Stop> {
-    let bump = Bump::new(alloc);
-    let (_, broadcast) = all_and_broadcast(alloc, &bump)?;
-    let sides = broadcast.to_sides(alloc)?;
-    tally.count(sides[2].has(u32::MAX) && !sides[2].has(0) && sides[4].has(0))?;
+fn judge_sides(alloc: Global, boxes: &Boxes, tally: &mut Tally) -> Result<(), Memory> {
+    let sides = boxes.broadcast.to_sides(alloc)?;
+    tally.count(sides[2].has(u32::MAX) && !sides[2].has(0) && sides[4].has(0));
     Ok(())
 }
 
 /// Tries the places and bits of the fields.
-fn judge_fields(tally: &mut Tally) -> Result<(), Stop> {
+fn judge_fields(tally: &mut Tally) {
     let mut bits = 0;
     for field in &Field::ALL {
         bits |= field.bit();
-        tally.count(Field::at(field.place()) == *field)?;
+        tally.count(Field::at(field.place()) == *field);
     }
-    tally.count(bits == 4095 && Field::SentSport.bit() == 2048)?;
+    tally.count(bits == 4095 && Field::SentSport.bit() == 2048);
+}
+
+/// Tries all calls.
+fn judge_all(alloc: Global, tally: &mut Tally) -> Result<(), Stop> {
+    let bump = Bump::new(alloc);
+    let boxes = boxes_in(alloc, &bump)?;
+    judge_cut(alloc, &bump, &boxes, tally)?;
+    judge_met(&bump, &boxes, tally)?;
+    judge_narrowed(alloc, &bump, &boxes, tally)?;
+    judge_sides(alloc, &boxes, tally)?;
+    judge_fields(tally);
     Ok(())
 }
 
 /// Says how many calls on boxes give what they must.
 pub fn judge_boxes(alloc: Global) -> Result<Text, Stop> {
-    let mut tally = Tally::new(alloc);
-    judge_cut(alloc, &mut tally)?;
-    judge_room(alloc, &mut tally)?;
-    judge_sides(alloc, &mut tally)?;
-    judge_fields(&mut tally)?;
-    Ok(tally.into_text()?)
+    let mut tally = Tally::new();
+    judge_all(alloc, &mut tally)?;
+    Ok(tally.said(alloc)?)
 }

@@ -2,11 +2,11 @@
 
 use crate::numbers::decimal;
 use crate::stop::Stop;
-use fws_num::{Items, Memory, Text, put_dec, put_quad, split_once};
+use fws_num::{Memory, Text, put_dec, put_quad, split_once, value_named};
 use std::alloc::Global;
 
 /// What an edit does.
-#[derive(Clone, Copy, Debug, PartialEq, Eq)]
+#[derive(Clone, Copy)]
 enum How {
     /// The text stands in place of the line.
     Replace,
@@ -19,6 +19,14 @@ enum How {
     /// The lines past this one go, and a line feed ends the text.
     Cut,
 }
+
+/// The names of edits that stand for one line.
+const EDITS: [(&[u8], How); 4] = [
+    (b"replace", How::Replace),
+    (b"remove", How::Remove),
+    (b"behind", How::Behind),
+    (b"cut", How::Cut),
+];
 
 /// An edit of a text.
 #[derive(Drop)]
@@ -34,24 +42,26 @@ fn numbered(text: &[u8]) -> Result<(u32, &[u8]), Stop> {
     Ok((decimal(number)?, rest))
 }
 
+/// How an edit changes texts, and its own text: `FIRST LAST TEXT` where it stands for several lines.
+fn how_of<'a>(name: &[u8], rest: &'a [u8]) -> Result<(How, &'a [u8]), Stop> {
+    if name == b"each".as_slice() {
+        let (first, rest) = numbered(rest)?;
+        let (last, rest) = numbered(rest)?;
+        return Ok((How::Each(first, last), rest));
+    }
+    match value_named(&EDITS, name) {
+        Some(how) => Ok((how, rest)),
+        None => Err(Stop::Malformed),
+    }
+}
+
 /// The edit `replace LINE TEXT`, `remove LINE`, `behind LINE TEXT`, `each LINE FIRST LAST TEXT` or `cut LINE`.
 pub fn read_edit(alloc: Global, text: &[u8]) -> Result<Edit, Stop> {
     let Some((name, rest)) = split_once(text, b' ') else {
         return Err(Stop::Malformed);
     };
     let (line, rest) = numbered(rest)?;
-    let (how, text) = match name {
-        b"replace" => (How::Replace, rest),
-        b"remove" => (How::Remove, rest),
-        b"behind" => (How::Behind, rest),
-        b"each" => {
-            let (first, rest) = numbered(rest)?;
-            let (last, rest) = numbered(rest)?;
-            (How::Each(first, last), rest)
-        }
-        b"cut" => (How::Cut, rest),
-        _ => return Err(Stop::Malformed),
-    };
+    let (how, text) = how_of(name, rest)?;
     Ok(Edit {
         how,
         line,
@@ -123,21 +133,30 @@ fn put_edited(out: &mut Text, edits: &[Edit], number: u32, line: &[u8]) -> Resul
 
 /// Whether one of the edits cuts the text off.
 fn are_cutting(edits: &[Edit]) -> bool {
-    edits.iter().any(|edit| edit.how == How::Cut)
+    for edit in edits {
+        if let How::Cut = edit.how {
+            return true;
+        }
+    }
+    false
 }
 
-/// The text after the edits, each of which names lines by their numbers in the text before. A last line feed goes.
-pub fn edited(alloc: Global, text: &[u8], edits: &Items<Edit>) -> Result<Text, Memory> {
-    let edits = edits.as_slice();
-    let text = text.strip_suffix(b"\n").unwrap_or(text);
-    let mut out = Text::new(alloc);
+/// Adds the lines of a text after the edits.
+fn put_lines(out: &mut Text, text: &[u8], edits: &[Edit]) -> Result<(), Memory> {
     let mut number: u32 = 1;
     for line in text.split(|c: &u8| *c == b'\n') {
-        put_edited(&mut out, edits, number, line)?;
+        put_edited(out, edits, number, line)?;
         number = number.saturating_add(1);
     }
     if are_cutting(edits) && !out.as_slice().is_empty() {
         out.put(b"\n")?;
     }
+    Ok(())
+}
+
+/// The text after the edits, each of which names lines by their numbers in the text before. A last line feed goes.
+pub fn edited(alloc: Global, text: &[u8], edits: &[Edit]) -> Result<Text, Memory> {
+    let mut out = Text::new(alloc);
+    put_lines(&mut out, text.strip_suffix(b"\n").unwrap_or(text), edits)?;
     Ok(out)
 }

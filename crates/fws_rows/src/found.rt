@@ -1,8 +1,7 @@
 //! What calls give, as texts that stand beside the values of a case.
 
-use crate::cases::put_unescaped;
 use crate::stop::Stop;
-use fws_iv::{Cube, Iv};
+use fws_iv::{Cube, Iv, Ivs};
 use fws_num::{
     Comments, Items, Line, Memory, Prefix, Text, Word, pieces, put_dec, put_quad, read_lines, words,
 };
@@ -15,6 +14,44 @@ pub struct Found {
     pub alloc: Global,
     /// The values.
     pub values: Items<Text>,
+}
+
+/// How the numbers of a set are spelled.
+#[derive(Clone, Copy)]
+pub enum Spelling {
+    /// In decimal.
+    Decimal,
+    /// As addresses.
+    Addresses,
+}
+
+impl Spelling {
+    /// Adds a number.
+    fn put(self, text: &mut Text, n: u32) -> Result<(), Memory> {
+        match self {
+            Spelling::Decimal => put_dec(text, u64::from(n)),
+            Spelling::Addresses => put_quad(text, n),
+        }
+    }
+
+    /// Adds a part `lo-hi`, behind a comma where a part is there.
+    fn put_part(self, text: &mut Text, part: &Iv) -> Result<(), Memory> {
+        if !text.as_slice().is_empty() {
+            text.put(b",")?;
+        }
+        self.put(text, part.lo)?;
+        text.put(b"-")?;
+        self.put(text, part.hi)
+    }
+}
+
+/// Adds words, each behind a blank.
+fn put_behind(text: &mut Text, words: &[Word]) -> Result<(), Memory> {
+    for word in words {
+        text.put(b" ")?;
+        text.put(word.text.as_slice())?;
+    }
+    Ok(())
 }
 
 impl Found {
@@ -58,7 +95,7 @@ impl Found {
     }
 
     /// Adds a word behind what it is: `plain`, `quoted`, `open`, or `unsound` without quotes.
-    pub fn put_word(&mut self, word: &Word) -> Result<(), Memory> {
+    fn put_word(&mut self, word: &Word) -> Result<(), Memory> {
         let kind: &[u8] = match (word.quoted, word.is_sound()) {
             (true, true) => b"quoted ",
             (true, false) => b"open ",
@@ -71,16 +108,11 @@ impl Found {
     }
 
     /// Adds a line: its number, `>` where it is indented, and its words.
-    pub fn put_line(&mut self, line: &Line) -> Result<(), Memory> {
+    fn put_line(&mut self, line: &Line) -> Result<(), Memory> {
         let mut text = Text::new(self.alloc);
         put_dec(&mut text, u64::from(line.number))?;
-        if line.indented {
-            text.put(b" >")?;
-        }
-        for word in line.words.as_slice() {
-            text.put(b" ")?;
-            text.put(word.text.as_slice())?;
-        }
+        text.put(if line.indented { b" >" } else { b"" })?;
+        put_behind(&mut text, line.words.as_slice())?;
         self.values.put(text)
     }
 
@@ -121,18 +153,21 @@ impl Found {
         self.values.put(text)
     }
 
-    /// Adds the numbers of a set, as `lo-hi,lo-hi`.
-    pub fn put_numbers(&mut self, parts: &[Iv]) -> Result<(), Memory> {
+    /// Adds the parts of a set, as `lo-hi,lo-hi`.
+    pub fn put_parts(&mut self, spelling: Spelling, parts: &[Iv]) -> Result<(), Memory> {
         let mut text = Text::new(self.alloc);
         for part in parts {
-            if !text.as_slice().is_empty() {
-                text.put(b",")?;
-            }
-            put_dec(&mut text, u64::from(part.lo))?;
-            text.put(b"-")?;
-            put_dec(&mut text, u64::from(part.hi))?;
+            spelling.put_part(&mut text, part)?;
         }
         self.values.put(text)
+    }
+
+    /// Adds a set, if there was memory for it.
+    pub fn put_set(&mut self, spelling: Spelling, set: Result<Ivs, Memory>) -> Result<(), Memory> {
+        match set {
+            Ok(set) => self.put_parts(spelling, set.parts()),
+            Err(Memory) => Err(Memory),
+        }
     }
 
     /// Adds a prefix, as an address and a length behind a slash.
@@ -152,20 +187,32 @@ impl Found {
         put_dec(&mut text, u64::from(cube.want))?;
         self.values.put(text)
     }
+}
 
-    /// Adds the addresses of a set, as `lo-hi,lo-hi`.
-    pub fn put_addresses(&mut self, parts: &[Iv]) -> Result<(), Memory> {
-        let mut text = Text::new(self.alloc);
-        for part in parts {
-            if !text.as_slice().is_empty() {
-                text.put(b",")?;
-            }
-            put_quad(&mut text, part.lo)?;
-            text.put(b"-")?;
-            put_quad(&mut text, part.hi)?;
+/// Adds the bytes of a case, in which `\n`, `\r`, `\t` and `\0` stand for one byte each, and `\\` for a backslash.
+pub fn put_unescaped(text: &mut Text, escaped: &[u8]) -> Result<(), Memory> {
+    let mut behind_backslash = false;
+    for c in escaped {
+        let byte = match (behind_backslash, *c) {
+            (true, b'n') => b'\n',
+            (true, b'r') => b'\r',
+            (true, b't') => b'\t',
+            (true, b'0') => 0,
+            (_, c) => c,
+        };
+        behind_backslash = !behind_backslash && *c == b'\\';
+        if !behind_backslash {
+            text.put(&[byte])?;
         }
-        self.values.put(text)
     }
+    Ok(())
+}
+
+/// The text of a field.
+fn field_of(alloc: Global, escaped: &Text) -> Result<Text, Memory> {
+    let mut field = Text::new(alloc);
+    put_unescaped(&mut field, escaped.as_slice())?;
+    Ok(field)
 }
 
 /// The texts of a case's fields, each of which ends with a bar.
@@ -176,9 +223,7 @@ pub fn fields_of(alloc: Global, case: &[u8]) -> Result<Items<Text>, Stop> {
     };
     let mut fields = Items::new(alloc);
     for part in parts {
-        let mut field = Text::new(alloc);
-        put_unescaped(&mut field, part.as_slice())?;
-        fields.put(field)?;
+        fields.put(field_of(alloc, part)?)?;
     }
     Ok(fields)
 }

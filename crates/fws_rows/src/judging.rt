@@ -1,20 +1,45 @@
-//! Tables and refusals against the slow model.
+//! Tables, traces and refusals of configurations, against the slow model, the diagram and the flat code.
 
+ghost use Rattle.std.specs.Prelude.{◌≡◌, true};
+ghost use Rattle.fws_ifcl.specs.Soundness.{ifcl_ok};
 ghost use Rattle.fws_net.specs.Routes.{IsSound};
 
-use crate::forms::{Forms, is_diagram_refused_so};
-use crate::languages::{Config, Drawn};
+use crate::forms::Forms;
+use crate::languages::Config;
 use crate::sampling::{count, kind_of, packet_of, point_at};
 use crate::stop::Stop;
 use crate::table::{Row, read_table};
+use crate::tracing::{Traced, judge_trace};
+use fws_ifcl::{Ifcl, ifcl_ok};
 use fws_ipt::model::refusal;
 use fws_ipt::{IptConfig, UnfoldRefusal};
 use fws_net::Site;
-use fws_num::{Text, put_dec};
+use fws_num::{Memory, Text, put_dec};
+use fws_unfold::{UnfoldAnswer, unfold};
 use std::alloc::Global;
 
+/// Why a diagram can't be unfolded, and at which chain; `none` stands for none.
+#[derive(Clone, Copy)]
+pub struct Refused<'a> {
+    /// The reason: `loop`, `deep`, `long` or `none`.
+    pub what: &'a [u8],
+    /// The chain's name.
+    pub chain: &'a [u8],
+}
+
+/// What is asked of a configuration.
+#[derive(Clone, Copy)]
+pub enum Asked<'a> {
+    /// Whether its rows are those of the text of a table.
+    Table(&'a [u8]),
+    /// Whether it is refused so.
+    Refusal(Refused<'a>),
+    /// Whether packets come to what a trace says.
+    Trace(Traced<'a>),
+}
+
 /// How many of the packets of a row have another outcome in some form than the row says.
-fn differing(alloc: Global, site: &Site, forms: &Forms, est: bool, row: &Row) -> Result<u64, Stop>
+fn differing(alloc: Global, site: &Site, forms: &Forms, est: bool, row: &Row) -> Result<u64, Memory>
     requires { IsSound site.now }
 {
     let mut differ: u64 = 0;
@@ -28,8 +53,37 @@ fn differing(alloc: Global, site: &Site, forms: &Forms, est: bool, row: &Row) ->
     Ok(differ)
 }
 
+/// How many rows agree.
+fn agreeing(
+    alloc: Global,
+    site: &Site,
+    forms: &Forms,
+    est: bool,
+    rows: &[Row],
+) -> Result<u64, Memory>
+    requires { IsSound site.now }
+{
+    let mut agreeing: u64 = 0;
+    for row in rows {
+        if differing(alloc, site, forms, est, row)? == 0 {
+            agreeing = agreeing.saturating_add(1);
+        }
+    }
+    Ok(agreeing)
+}
+
+/// Says how many of so many rows agree.
+fn said_of(alloc: Global, agreeing: u64, promised: u32) -> Result<Text, Memory> {
+    let mut said = Text::new(alloc);
+    put_dec(&mut said, agreeing)?;
+    said.put(b" of ")?;
+    put_dec(&mut said, u64::from(promised))?;
+    said.put(b" rows agree")?;
+    Ok(said)
+}
+
 /// Walks the packets at the ends of each row of an expected table, and says how many rows agree.
-pub fn judge_table(alloc: Global, site: &Site, forms: &Forms, expected: &[u8]) -> Result<Text, Stop>
+fn judge_table(alloc: Global, site: &Site, forms: &Forms, expected: &[u8]) -> Result<Text, Stop>
     requires { IsSound site.now }
 {
     let table = read_table(alloc, site, expected)?;
@@ -37,82 +91,142 @@ pub fn judge_table(alloc: Global, site: &Site, forms: &Forms, expected: &[u8]) -
     if rows.len() as u64 != u64::from(table.promised) {
         return Err(Stop::Malformed);
     }
-    let mut agreeing: u64 = 0;
-    for row in rows {
-        if differing(alloc, site, forms, table.est, row)? == 0 {
-            agreeing = agreeing.saturating_add(1);
-        }
-    }
-    let mut said = Text::new(alloc);
-    put_dec(&mut said, agreeing)?;
-    said.put(b" of ")?;
-    put_dec(&mut said, u64::from(table.promised))?;
-    said.put(b" rows agree")?;
-    Ok(said)
+    let agreeing = agreeing(alloc, site, forms, table.est, rows)?;
+    Ok(said_of(alloc, agreeing, table.promised)?)
 }
 
-/// The name of the chain with this number.
-fn chain_name(config: &IptConfig, chain: u32) -> &[u8] {
+/// The name of the configuration's chain with this number.
+fn config_chain(config: &IptConfig, chain: u32) -> &[u8] {
     match config.chains.as_slice().get(chain as usize) {
         Some(chain) => chain.name.as_slice(),
         None => b"",
     }
 }
 
-/// Whether a configuration is refused for this reason at this chain, where `none` is no refusal.
-fn is_refused_so(
-    config: &IptConfig,
-    found: Option<UnfoldRefusal>,
-    what: &[u8],
-    chain: &[u8],
-) -> bool {
-    match found {
-        None => what == b"none".as_slice(),
-        Some(UnfoldRefusal::Loop(c)) => what == b"loop".as_slice()
-            && chain == chain_name(config, c),
-        Some(UnfoldRefusal::Deep(c)) => what == b"deep".as_slice()
-            && chain == chain_name(config, c),
-        Some(UnfoldRefusal::Long(c)) => what == b"long".as_slice()
-            && chain == chain_name(config, c),
+/// The name of the diagram's chain with this number.
+fn diagram_chain(diagram: &Ifcl, chain: u32) -> &[u8] {
+    match diagram.chains.as_slice().get(chain as usize) {
+        Some(chain) => chain.name.as_slice(),
+        None => b"",
     }
 }
 
-/// Whether a configuration is refused for this reason at this chain by the slow model; those of other systems than
-/// iptables, which have no chains, are refused for none.
-fn is_config_refused_so(
+impl Refused<'_> {
+    /// Whether this is the reason and the chain.
+    fn is(&self, what: &[u8], chain: &[u8]) -> bool {
+        self.what == what && self.chain == chain
+    }
+
+    /// Whether a configuration is refused so.
+    fn is_config_so(&self, config: &IptConfig, found: Option<UnfoldRefusal>) -> bool {
+        match found {
+            None => self.what == b"none".as_slice(),
+            Some(UnfoldRefusal::Loop(c)) => self.is(b"loop", config_chain(config, c)),
+            Some(UnfoldRefusal::Deep(c)) => self.is(b"deep", config_chain(config, c)),
+            Some(UnfoldRefusal::Long(c)) => self.is(b"long", config_chain(config, c)),
+        }
+    }
+
+    /// Whether a configuration is refused so by the slow model; those of other systems than iptables, which have no chains,
+    /// are refused for none.
+    fn is_modelled(&self, alloc: Global, site: &Site, config: Config) -> Result<bool, Memory>
+        requires { IsSound site.now }
+    {
+        match config {
+            Config::Iptables(config) => {
+                let found = refusal(alloc, site, config)?;
+                Ok(self.is_config_so(config, found))
+            }
+            Config::Ipfw(_) | Config::Pf(_) | Config::Ios(_) => Ok(self.what == b"none".as_slice()),
+        }
+    }
+
+    /// Whether a diagram is refused so.
+    fn is_unfolded(&self, alloc: Global, diagram: &Ifcl) -> Result<bool, Memory>
+        requires { ifcl_ok diagram.now ≡ true }
+    {
+        match unfold(alloc, diagram) {
+            Ok(_) => Ok(self.what == b"none".as_slice()),
+            Err(UnfoldAnswer::Loop(c)) => Ok(self.is(b"loop", diagram_chain(diagram, c))),
+            Err(UnfoldAnswer::Deep(c)) => Ok(self.is(b"deep", diagram_chain(diagram, c))),
+            Err(UnfoldAnswer::Long(c)) => Ok(self.is(b"long", diagram_chain(diagram, c))),
+            Err(UnfoldAnswer::Memory) => Err(Memory),
+        }
+    }
+}
+
+/// Says whether something agrees.
+pub fn verdict(alloc: Global, agrees: bool) -> Result<Text, Memory> {
+    Text::of(alloc, if agrees { b"agrees" } else { b"differs" })
+}
+
+/// Says whether a configuration and its diagram are refused so.
+fn judge_refusal(
     alloc: Global,
     site: &Site,
-    config: &Config,
-    what: &[u8],
-    chain: &[u8],
-) -> Result<bool, Stop>
+    config: Config,
+    diagram: &Ifcl,
+    refused: &Refused,
+) -> Result<Text, Memory>
+    requires sound { IsSound site.now }
+    requires ok { ifcl_ok diagram.now ≡ true }
+{
+    let modelled = refused.is_modelled(alloc, site, config)?;
+    let unfolded = refused.is_unfolded(alloc, diagram)?;
+    verdict(alloc, modelled && unfolded)
+}
+
+/// Unfolds a diagram, and judges the walks of its configuration.
+fn judge_walks(
+    alloc: Global,
+    site: &Site,
+    config: Config,
+    diagram: &Ifcl,
+    asked: &Asked,
+) -> Result<Text, Stop>
+    requires sound { IsSound site.now }
+    requires ok { ifcl_ok diagram.now ≡ true }
+{
+    match unfold(alloc, diagram) {
+        Ok(flat) => {
+            let forms = Forms {
+                config,
+                diagram,
+                flat: &flat,
+            };
+            judge_forms(alloc, site, &forms, asked)
+        }
+        Err(UnfoldAnswer::Memory) => Err(Stop::Memory),
+        Err(_) => Err(Stop::Malformed),
+    }
+}
+
+/// Judges the walks of a configuration in its three forms.
+fn judge_forms(alloc: Global, site: &Site, forms: &Forms, asked: &Asked) -> Result<Text, Stop>
     requires { IsSound site.now }
 {
-    match config {
-        Config::Iptables(config) => {
-            let found = refusal(alloc, site, config)?;
-            Ok(is_refused_so(config, found, what, chain))
-        }
-        Config::Ipfw(_) | Config::Pf(_) | Config::Ios(_) => Ok(what == b"none".as_slice()),
+    match asked {
+        Asked::Table(expected) => judge_table(alloc, site, forms, expected),
+        Asked::Trace(traced) => judge_trace(alloc, site, forms, traced),
+        Asked::Refusal(_) => Err(Stop::Malformed),
     }
 }
 
-/// Says whether a configuration and its diagram are refused for this reason at this chain.
-pub fn judge_refusal(
+/// Judges a configuration that was drawn.
+pub fn judge_drawn(
     alloc: Global,
     site: &Site,
-    drawn: &Drawn,
-    what: &[u8],
-    chain: &[u8],
+    config: Config,
+    diagram: &Ifcl,
+    asked: &Asked,
 ) -> Result<Text, Stop>
     requires { IsSound site.now }
 {
-    let modelled = is_config_refused_so(alloc, site, &drawn.config, what, chain)?;
-    let unfolded = is_diagram_refused_so(alloc, &drawn.diagram, what, chain)?;
-    let said: &[u8] = if modelled && unfolded {
-        b"agrees"
-    } else {
-        b"differs"
-    };
-    Ok(Text::of(alloc, said)?)
+    if !ifcl_ok(diagram) {
+        return Err(Stop::Malformed);
+    }
+    match asked {
+        Asked::Refusal(refused) => Ok(judge_refusal(alloc, site, config, diagram, refused)?),
+        Asked::Table(_) | Asked::Trace(_) => judge_walks(alloc, site, config, diagram, asked),
+    }
 }

@@ -4,8 +4,8 @@ ghost use Rattle.std.specs.Prelude.{IfOk};
 ghost use Rattle.fws_net.specs.Routes.{IsSound};
 ghost use Rattle.fws_ipfw_ifcl.specs.Fitting.{IsDrawable};
 
+use crate::judging::{Asked, judge_drawn};
 use crate::stop::Stop;
-use fws_ifcl::Ifcl;
 use fws_ios::IosConfig;
 use fws_ios::model::walk_packet as walk_ios;
 use fws_ios_ifcl::to_ifcl as draw_ios;
@@ -19,6 +19,7 @@ use fws_ipt::model::walk_packet as walk_ipt;
 use fws_ipt_ifcl::to_ifcl as draw_ipt;
 use fws_ipt_read::read as read_ipt;
 use fws_net::{Kind, Outcome, Packet, ReadAnswer, Site};
+use fws_num::{Memory, Text, value_named};
 use fws_pf::PfConfig;
 use fws_pf::model::walk_packet as walk_pf;
 use fws_pf_ifcl::to_ifcl as draw_pf;
@@ -39,36 +40,29 @@ pub enum Language {
 }
 
 /// A configuration of one of the languages.
-#[derive(Drop)]
-pub enum Config {
+#[derive(Clone, Copy)]
+pub enum Config<'a> {
     /// Of iptables.
-    Iptables(IptConfig),
+    Iptables(&'a IptConfig),
     /// Of ipfw.
-    Ipfw(IpfwConfig),
+    Ipfw(&'a IpfwConfig),
     /// Of pf.
-    Pf(PfConfig),
+    Pf(&'a PfConfig),
     /// Of Cisco IOS.
-    Ios(IosConfig),
+    Ios(&'a IosConfig),
 }
 
-/// A configuration and its control diagram.
-#[derive(Drop)]
-pub struct Drawn {
-    /// The configuration.
-    pub config: Config,
-    /// Its diagram.
-    pub diagram: Ifcl,
-}
+/// The names of languages.
+const LANGUAGES: [(&[u8], Language); 4] = [
+    (b"iptables", Language::Iptables),
+    (b"ipfw", Language::Ipfw),
+    (b"pf", Language::Pf),
+    (b"ios", Language::Ios),
+];
 
 /// The language of this name.
 pub fn language_of(word: &[u8]) -> Result<Language, Stop> {
-    match word {
-        b"iptables" => Ok(Language::Iptables),
-        b"ipfw" => Ok(Language::Ipfw),
-        b"pf" => Ok(Language::Pf),
-        b"ios" => Ok(Language::Ios),
-        _ => Err(Stop::Malformed),
-    }
+    value_named(&LANGUAGES, word).ok_or(Stop::Malformed)
 }
 
 /// Reads a text of iptables, and gives how it is refused.
@@ -124,31 +118,40 @@ impl Language {
         }
     }
 
-    /// The configuration of a text, with its diagram.
-    pub fn draw(self, alloc: Global, site: &Site, text: &[u8]) -> Result<Drawn, Stop>
+    /// Judges the configuration of a text.
+    pub fn judge(self, alloc: Global, site: &Site, text: &[u8], asked: &Asked) -> Result<Text, Stop>
         requires { IsSound site.now }
     {
         match self {
-            Language::Iptables => drawn_ipt(alloc, site, text),
-            Language::Ipfw => drawn_ipfw(alloc, site, text),
-            Language::Pf => drawn_pf(alloc, site, text),
-            Language::Ios => drawn_ios(alloc, site, text),
+            Language::Iptables => judge_ipt(alloc, site, text, asked),
+            Language::Ipfw => judge_ipfw(alloc, site, text, asked),
+            Language::Pf => judge_pf(alloc, site, text, asked),
+            Language::Ios => judge_ios(alloc, site, text, asked),
         }
     }
 }
 
-/// The configuration of a text of iptables, with its diagram.
-fn drawn_ipt(alloc: Global, site: &Site, text: &[u8]) -> Result<Drawn, Stop>
+/// Judges the configuration of a text of iptables.
+fn judge_ipt(alloc: Global, site: &Site, text: &[u8], asked: &Asked) -> Result<Text, Stop>
     requires { IsSound site.now }
 {
-    let Ok(config) = read_ipt(alloc, text, site) else {
-        return Err(Stop::Malformed);
-    };
-    let diagram = draw_ipt(alloc, &config, site)?;
-    Ok(Drawn {
-        config: Config::Iptables(config),
-        diagram,
-    })
+    match read_ipt(alloc, text, site) {
+        Ok(config) => judge_read_ipt(alloc, site, &config, asked),
+        Err(_) => Err(Stop::Malformed),
+    }
+}
+
+/// Judges a configuration of iptables.
+fn judge_read_ipt(
+    alloc: Global,
+    site: &Site,
+    config: &IptConfig,
+    asked: &Asked,
+) -> Result<Text, Stop>
+    requires { IsSound site.now }
+{
+    let diagram = draw_ipt(alloc, config, site)?;
+    judge_drawn(alloc, site, Config::Iptables(config), &diagram, asked)
 }
 
 /// A configuration of ipfw that a text spells, which can be drawn.
@@ -161,62 +164,85 @@ fn drawable(alloc: Global, site: &Site, text: &[u8]) -> Result<IpfwConfig, ReadA
     Ok(config)
 }
 
-/// The configuration of a text of ipfw, with its diagram.
-fn drawn_ipfw(alloc: Global, site: &Site, text: &[u8]) -> Result<Drawn, Stop>
+/// Judges the configuration of a text of ipfw.
+fn judge_ipfw(alloc: Global, site: &Site, text: &[u8], asked: &Asked) -> Result<Text, Stop>
     requires { IsSound site.now }
 {
-    let Ok(config) = drawable(alloc, site, text) else {
-        return Err(Stop::Malformed);
-    };
-    let diagram = draw_ipfw(alloc, &config, site)?;
-    Ok(Drawn {
-        config: Config::Ipfw(config),
-        diagram,
-    })
+    match drawable(alloc, site, text) {
+        Ok(config) => judge_read_ipfw(alloc, site, &config, asked),
+        Err(_) => Err(Stop::Malformed),
+    }
 }
 
-/// The configuration of a text of pf, with its diagram.
-fn drawn_pf(alloc: Global, site: &Site, text: &[u8]) -> Result<Drawn, Stop>
-    requires { IsSound site.now }
+/// Judges a configuration of ipfw.
+fn judge_read_ipfw(
+    alloc: Global,
+    site: &Site,
+    config: &IpfwConfig,
+    asked: &Asked,
+) -> Result<Text, Stop>
+    requires sound { IsSound site.now }
+    requires drawable { IsDrawable config.now }
 {
-    let Ok(config) = read_pf(alloc, text, site) else {
-        return Err(Stop::Malformed);
-    };
-    let diagram = draw_pf(alloc, &config, site)?;
-    Ok(Drawn {
-        config: Config::Pf(config),
-        diagram,
-    })
+    let diagram = draw_ipfw(alloc, config, site)?;
+    judge_drawn(alloc, site, Config::Ipfw(config), &diagram, asked)
 }
 
-/// The configuration of a text of Cisco IOS, with its diagram.
-fn drawn_ios(alloc: Global, site: &Site, text: &[u8]) -> Result<Drawn, Stop>
+/// Judges the configuration of a text of pf.
+fn judge_pf(alloc: Global, site: &Site, text: &[u8], asked: &Asked) -> Result<Text, Stop>
     requires { IsSound site.now }
 {
-    let Ok(config) = read_ios(alloc, text, site) else {
-        return Err(Stop::Malformed);
-    };
-    let diagram = draw_ios(alloc, &config, site)?;
-    Ok(Drawn {
-        config: Config::Ios(config),
-        diagram,
-    })
+    match read_pf(alloc, text, site) {
+        Ok(config) => judge_read_pf(alloc, site, &config, asked),
+        Err(_) => Err(Stop::Malformed),
+    }
+}
+
+/// Judges a configuration of pf.
+fn judge_read_pf(alloc: Global, site: &Site, config: &PfConfig, asked: &Asked) -> Result<Text, Stop>
+    requires { IsSound site.now }
+{
+    let diagram = draw_pf(alloc, config, site)?;
+    judge_drawn(alloc, site, Config::Pf(config), &diagram, asked)
+}
+
+/// Judges the configuration of a text of Cisco IOS.
+fn judge_ios(alloc: Global, site: &Site, text: &[u8], asked: &Asked) -> Result<Text, Stop>
+    requires { IsSound site.now }
+{
+    match read_ios(alloc, text, site) {
+        Ok(config) => judge_read_ios(alloc, site, &config, asked),
+        Err(_) => Err(Stop::Malformed),
+    }
+}
+
+/// Judges a configuration of Cisco IOS.
+fn judge_read_ios(
+    alloc: Global,
+    site: &Site,
+    config: &IosConfig,
+    asked: &Asked,
+) -> Result<Text, Stop>
+    requires { IsSound site.now }
+{
+    let diagram = draw_ios(alloc, config, site)?;
+    judge_drawn(alloc, site, Config::Ios(config), &diagram, asked)
 }
 
 /// What a configuration makes of a packet of a class, by the slow model.
 pub fn walk_config(
     alloc: Global,
-    config: &Config,
+    config: Config,
     site: &Site,
     packet: &Packet,
     kind: &Kind,
-) -> Result<Outcome, Stop>
+) -> Result<Outcome, Memory>
     requires { IsSound site.now }
 {
     match config {
-        Config::Iptables(config) => Ok(walk_ipt(alloc, config, site, packet, kind)?),
-        Config::Ipfw(config) => Ok(walk_ipfw(alloc, config, site, packet, kind)?),
-        Config::Pf(config) => Ok(walk_pf(alloc, config, site, packet, kind)?),
-        Config::Ios(config) => Ok(walk_ios(alloc, config, site, packet, kind)?),
+        Config::Iptables(config) => walk_ipt(alloc, config, site, packet, kind),
+        Config::Ipfw(config) => walk_ipfw(alloc, config, site, packet, kind),
+        Config::Pf(config) => walk_pf(alloc, config, site, packet, kind),
+        Config::Ios(config) => walk_ios(alloc, config, site, packet, kind),
     }
 }

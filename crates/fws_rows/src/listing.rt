@@ -1,14 +1,13 @@
-//! Texts of connections and packets, against cases.
+//! Calls that read texts of connections and packets.
 
 ghost use Rattle.fws_net.specs.Routes.{IsSound};
 
-use crate::found::{Found, fields_of};
+use crate::calls::Call;
+use crate::found::Found;
 use crate::stop::Stop;
-use crate::tally::Tally;
 use fws_net::{Conn, Packet, Site, Tuple};
 use fws_num::{Memory, Text, put_dec, put_quad};
 use fws_trace::{LineAnswer, read_conns, read_packets};
-use std::alloc::Global;
 
 /// Adds a number behind a blank.
 fn put_number(text: &mut Text, n: u64) -> Result<(), Memory> {
@@ -29,25 +28,41 @@ fn put_ends(text: &mut Text, tuple: &Tuple) -> Result<(), Memory> {
     put_end(text, tuple.src, tuple.sport)
 }
 
-/// Adds a connection: both protocols, and the ends of both tuples.
-fn put_connection(found: &mut Found, conn: &Conn) -> Result<(), Memory> {
-    let mut text = Text::new(found.alloc);
-    put_dec(&mut text, u64::from(conn.orig.proto))?;
-    put_number(&mut text, u64::from(conn.reply.proto))?;
-    put_ends(&mut text, &conn.orig)?;
-    put_ends(&mut text, &conn.reply)?;
-    found.values.put(text)
+/// Spells a connection: both protocols, and the ends of both tuples.
+fn put_connection(text: &mut Text, conn: &Conn) -> Result<(), Memory> {
+    put_dec(text, u64::from(conn.orig.proto))?;
+    put_number(text, u64::from(conn.reply.proto))?;
+    put_ends(text, &conn.orig)?;
+    put_ends(text, &conn.reply)
 }
 
-/// Adds a packet, with the number of its entry.
-fn put_packet(found: &mut Found, packet: &Packet) -> Result<(), Memory> {
-    let mut text = Text::new(found.alloc);
-    put_dec(&mut text, u64::from(packet.entry))?;
-    put_number(&mut text, u64::from(packet.proto))?;
-    put_ends(&mut text, &packet.tuple())?;
-    put_number(&mut text, u64::from(packet.flags))?;
-    put_number(&mut text, u64::from(packet.icmp))?;
-    found.values.put(text)
+/// Spells a packet, with the number of its entry.
+fn put_packet(text: &mut Text, packet: &Packet) -> Result<(), Memory> {
+    put_dec(text, u64::from(packet.entry))?;
+    put_number(text, u64::from(packet.proto))?;
+    put_ends(text, &packet.tuple())?;
+    put_number(text, u64::from(packet.flags))?;
+    put_number(text, u64::from(packet.icmp))
+}
+
+/// Adds connections.
+fn put_connections(found: &mut Found, connections: &[Conn]) -> Result<(), Memory> {
+    for connection in connections {
+        let mut text = Text::new(found.alloc);
+        put_connection(&mut text, connection)?;
+        found.values.put(text)?;
+    }
+    Ok(())
+}
+
+/// Adds packets.
+fn put_packets(found: &mut Found, packets: &[Packet]) -> Result<(), Memory> {
+    for packet in packets {
+        let mut text = Text::new(found.alloc);
+        put_packet(&mut text, packet)?;
+        found.values.put(text)?;
+    }
+    Ok(())
 }
 
 /// Adds `refused` and the number of the line.
@@ -64,12 +79,7 @@ fn put_refusal(found: &mut Found, answer: LineAnswer) -> Result<(), Stop> {
 /// Adds the connections of a text, or the line at which it is refused.
 fn list_connections(found: &mut Found, text: &[u8]) -> Result<(), Stop> {
     match read_conns(found.alloc, text) {
-        Ok(conns) => {
-            for conn in &conns {
-                put_connection(found, conn)?;
-            }
-            Ok(())
-        }
+        Ok(connections) => Ok(put_connections(found, connections.as_slice())?),
         Err(answer) => put_refusal(found, answer),
     }
 }
@@ -79,42 +89,20 @@ fn list_packets(found: &mut Found, site: &Site, text: &[u8]) -> Result<(), Stop>
     requires { IsSound site.now }
 {
     match read_packets(found.alloc, text, site) {
-        Ok(packets) => {
-            for packet in &packets {
-                put_packet(found, packet)?;
-            }
-            Ok(())
-        }
+        Ok(packets) => Ok(put_packets(found, packets.as_slice())?),
         Err(answer) => put_refusal(found, answer),
     }
 }
 
-/// Whether a case `CALL|TEXT|VALUE|..` is so: what the call reads of the text are these values.
-fn agrees(alloc: Global, site: &Site, case: &[u8]) -> Result<bool, Stop>
+/// Adds what a call gives: `connections` or `packets`.
+pub fn call_listing(found: &mut Found, site: &Site, call: &Call) -> Result<(), Stop>
     requires { IsSound site.now }
 {
-    let fields = fields_of(alloc, case)?;
-    let [call, text, wanted @ ..] = fields.as_slice() else {
-        return Err(Stop::Malformed);
-    };
-    let mut found = Found::new(alloc);
-    match call.as_slice() {
-        b"connections" => list_connections(&mut found, text.as_slice())?,
-        b"packets" => list_packets(&mut found, site, text.as_slice())?,
-        _ => return Err(Stop::Malformed),
+    if call.name == b"connections".as_slice() {
+        list_connections(found, call.text)
+    } else if call.name == b"packets".as_slice() {
+        list_packets(found, site, call.text)
+    } else {
+        Err(Stop::Malformed)
     }
-    Ok(found.values.as_slice() == wanted)
-}
-
-/// Tries each case of a text, a line each, and says how many agree.
-pub fn judge_listing(alloc: Global, site: &Site, cases: &[u8]) -> Result<Text, Stop>
-    requires { IsSound site.now }
-{
-    let mut tally = Tally::new(alloc);
-    for case in cases.split(|c: &u8| *c == b'\n') {
-        if !case.is_empty() {
-            tally.count(agrees(alloc, site, case)?)?;
-        }
-    }
-    Ok(tally.into_text()?)
 }

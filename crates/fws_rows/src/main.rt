@@ -5,7 +5,10 @@
 //! nothing with this program: none of it was made by the program that it is to judge.
 #![tactic(auto)]
 
+ghost use Rattle.fws_net.specs.Routes.{IsSound};
+
 mod boxes;
+mod calls;
 mod cases;
 mod conditions;
 mod edits;
@@ -30,15 +33,23 @@ mod tally;
 mod tracing;
 mod trees;
 
-use crate::jobs::{LIMIT, do_job, job_length};
+use crate::jobs::{Job, do_job, job_named};
 use crate::stop::Stop;
 use fws_io::{Shelf, StdShelf, StdSink, write_all};
-use fws_net::read_site;
-use fws_num::{Items, Text};
+use fws_net::{Site, read_site};
+use fws_num::{Items, Memory, Text};
 use std::alloc::Global;
 use std::env;
 use std::process::ExitCode;
 use std::rt::{Env, Files};
+
+/// The most bytes of a file.
+const LIMIT: usize = 4_194_304;
+
+/// Adds a word.
+fn put_word(alloc: Global, words: &mut Items<Text>, word: &[u8]) -> Result<(), Memory> {
+    words.put(Text::of(alloc, word)?)
+}
 
 /// The words behind the program's name.
 fn take_words<R: Env + AllocGlobal>(rt: &R) -> Result<Items<Text>, Stop> {
@@ -47,60 +58,122 @@ fn take_words<R: Env + AllocGlobal>(rt: &R) -> Result<Items<Text>, Stop> {
     };
     let mut words = Items::new(rt.alloc());
     for argument in arguments.skip(1) {
-        words.put(Text::of(rt.alloc(), argument.as_bytes())?)?;
+        put_word(rt.alloc(), &mut words, argument.as_bytes())?;
     }
     Ok(words)
 }
 
-/// Adds the words of a job, with what it found behind them.
-fn put_line(line: &mut Text, words: &[Text], found: &Text) -> Result<(), Stop> {
-    for word in words {
-        line.put(word.as_slice())?;
-        line.put(b" ")?;
-    }
-    line.put(found.as_slice())?;
-    line.put(b"\n")?;
-    Ok(())
+/// The bytes of a file.
+fn read<S: Shelf>(alloc: Global, shelf: &mut S, name: &Text) -> Result<Text, Stop> {
+    Ok(shelf.read(alloc, name.as_slice(), LIMIT)?)
 }
 
-/// Does the jobs of the words one by one on a site, and gives a line for each.
+/// The bytes of the file that a word names, or the word itself, as the mark says.
+fn given_for<S: Shelf>(alloc: Global, shelf: &mut S, mark: u8, word: &Text) -> Result<Text, Stop> {
+    if mark == b'f' {
+        read(alloc, shelf, word)
+    } else {
+        Ok(word.copy(alloc)?)
+    }
+}
+
+/// What is given for the words behind a job's name.
+fn given_of<S: Shelf>(
+    alloc: Global,
+    shelf: &mut S,
+    job: Job,
+    words: &[Text],
+) -> Result<Items<Text>, Stop> {
+    let mut given = Items::new(alloc);
+    for (mark, word) in job.words().iter().zip(words) {
+        given.put(given_for(alloc, shelf, *mark, word)?)?;
+    }
+    Ok(given)
+}
+
+/// Adds the words of a job, with what it found behind them.
+fn put_line(said: &mut Text, words: &[Text], found: &Text) -> Result<(), Memory> {
+    for word in words {
+        said.put(word.as_slice())?;
+        said.put(b" ")?;
+    }
+    said.put(found.as_slice())?;
+    said.put(b"\n")
+}
+
+/// Does the job with which the words begin, adds a line for it, and gives how many words it has.
+fn do_first<S: Shelf>(
+    alloc: Global,
+    shelf: &mut S,
+    site: &Site,
+    said: &mut Text,
+    words: &[Text],
+) -> Result<usize, Stop>
+    requires { IsSound site.now }
+{
+    let Some((name, behind)) = words.split_first() else {
+        return Ok(0);
+    };
+    let job = job_named(name)?;
+    let count = job.words().len().saturating_add(1);
+    let Some(all) = words.get(..count) else {
+        return Err(Stop::Malformed);
+    };
+    let given = given_of(alloc, shelf, job, behind)?;
+    let found = do_job(alloc, site, job, given.as_slice())?;
+    put_line(said, all, &found)?;
+    Ok(count)
+}
+
+/// Does the jobs of the words one by one on a site, and adds a line for each.
 fn do_jobs<S: Shelf>(
     alloc: Global,
     shelf: &mut S,
-    site: &Text,
+    site: &Site,
+    said: &mut Text,
+    words: &[Text],
+) -> Result<(), Stop>
+    requires { IsSound site.now }
+{
+    let mut begin: usize = 0;
+    for at in 0..words.len() {
+        if at == begin {
+            let done = do_first(alloc, shelf, site, said, &words[at..])?;
+            begin = begin.saturating_add(done);
+        }
+    }
+    Ok(())
+}
+
+/// Does the jobs of the words on the site of a text, and gives a line for each.
+fn do_all<S: Shelf>(
+    alloc: Global,
+    shelf: &mut S,
+    site: &[u8],
     words: &[Text],
 ) -> Result<Text, Stop> {
-    let text = shelf.read(alloc, site.as_slice(), LIMIT)?;
-    let Ok(site) = read_site(alloc, text.as_slice()) else {
-        return Err(Stop::Malformed);
-    };
     let mut said = Text::new(alloc);
-    let mut begun = 0;
-    for _ in 0..words.len() {
-        let Some(kind) = words.get(begun) else {
-            return Ok(said);
-        };
-        let end = begun.saturating_add(job_length(kind));
-        let Some(job) = words.get(begun..end) else {
-            return Err(Stop::Malformed);
-        };
-        let found = do_job(alloc, shelf, &site, job)?;
-        put_line(&mut said, job, &found)?;
-        begun = end;
+    match read_site(alloc, site) {
+        Ok(site) => do_jobs(alloc, shelf, &site, &mut said, words)?,
+        Err(_) => return Err(Stop::Malformed),
     }
     Ok(said)
+}
+
+/// Does the jobs behind the first word, which names a site, and gives a line for each.
+fn say_all<S: Shelf>(alloc: Global, shelf: &mut S, words: &[Text]) -> Result<Text, Stop> {
+    let Some((site, jobs)) = words.split_first() else {
+        return Err(Stop::Malformed);
+    };
+    let site = read(alloc, shelf, site)?;
+    do_all(alloc, shelf, site.as_slice(), jobs)
 }
 
 /// Does the jobs of the command line, whose first word names the site, and writes what they found.
 fn walk_rows<R: Env + Files + Print + AllocGlobal>(rt: &R) -> Result<(), Stop> {
     let words = take_words(rt)?;
-    let Some((site, jobs)) = words.as_slice().split_first() else {
-        return Err(Stop::Malformed);
-    };
-    let mut shelf = StdShelf::new(rt);
-    let said = do_jobs(rt.alloc(), &mut shelf, site, jobs)?;
-    let mut sink = StdSink::new(rt);
-    match write_all(&mut sink, said.as_slice()) {
+    let said = say_all(rt.alloc(), &mut StdShelf::new(rt), words.as_slice())?;
+    match write_all(&mut StdSink::new(rt), said.as_slice()) {
         Ok(()) => Ok(()),
         Err(_) => Err(Stop::Unread),
     }

@@ -24,10 +24,12 @@ pub fn decimal(text: &[u8]) -> Result<u32, Stop> {
 
 /// An address.
 pub fn address(text: &[u8]) -> Result<u32, Stop> {
-    match read_quad(text) {
-        Some(a) => Ok(a),
-        None => Err(Stop::Malformed),
-    }
+    read_quad(text).ok_or(Stop::Malformed)
+}
+
+/// A number, in decimal or as an address.
+pub fn number(text: &[u8]) -> Result<u32, Stop> {
+    decimal(text).or(address(text))
 }
 
 /// The entry number of this name.

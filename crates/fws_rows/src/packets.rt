@@ -1,17 +1,36 @@
-//! What becomes of packets by their connections, outcomes and conditions, against cases.
+//! Calls on what becomes of packets by their connections, outcomes and conditions.
 
 ghost use Rattle.fws_net.specs.Routes.{IsSound};
 
+use crate::calls::Call;
 use crate::conditions::judge_holds;
-use crate::found::{Found, fields_of};
+use crate::found::Found;
 use crate::numbers::{address, decimal, short};
 use crate::stop::Stop;
 use crate::table::read_outcome;
-use crate::tally::Tally;
 use fws_net::{Fate, Kind, Outcome, Packet, Rec, Site, class};
-use fws_num::{Text, Word, split_once, words};
+use fws_num::{Memory, Word, value_named, words};
 use fws_trace::{read_conns, read_packets};
 use std::alloc::Global;
+
+/// What is asked of a packet.
+#[derive(Clone, Copy)]
+enum Asks {
+    Class,
+    Leave,
+    Apply,
+    Fate,
+    Holds,
+}
+
+/// The names of calls.
+const CALLS: [(&[u8], Asks); 5] = [
+    (b"class", Asks::Class),
+    (b"leave", Asks::Leave),
+    (b"apply", Asks::Apply),
+    (b"fate", Asks::Fate),
+    (b"holds", Asks::Holds),
+];
 
 /// The ends of an established packet: destination, its port, source and its port.
 fn read_ends(words: &[Word]) -> Result<Rec, Stop> {
@@ -27,83 +46,100 @@ fn read_ends(words: &[Word]) -> Result<Rec, Stop> {
 }
 
 /// The class `new`, or `est` and the ends.
-fn read_kind(alloc: Global, text: &[u8]) -> Result<Kind, Stop> {
-    match words(alloc, text, 1)?.as_slice() {
+fn read_kind(words: &[Word]) -> Result<Kind, Stop> {
+    match words {
         [state] if state.is(b"new") => Ok(Kind::New),
         [state, ends @ ..] if state.is(b"est") => Ok(Kind::Est(read_ends(ends)?)),
         _ => Err(Stop::Malformed),
     }
 }
 
+/// Adds a word, and ends: destination, its port, source and its port.
+fn put_ends(found: &mut Found, word: &[u8], ends: &Rec) -> Result<(), Memory> {
+    found.put(word)?;
+    found.put_address(ends.rdst)?;
+    found.put_number(u64::from(ends.rdport))?;
+    found.put_address(ends.rsrc)?;
+    found.put_number(u64::from(ends.rsport))
+}
+
 /// Adds the class `new`, or `est` and the ends.
-fn put_kind(found: &mut Found, kind: &Kind) -> Result<(), Stop> {
+fn put_kind(found: &mut Found, kind: &Kind) -> Result<(), Memory> {
     match kind {
-        Kind::New => found.put(b"new")?,
-        Kind::Est(ends) => {
-            found.put(b"est")?;
-            found.put_address(ends.rdst)?;
-            found.put_number(u64::from(ends.rdport))?;
-            found.put_address(ends.rsrc)?;
-            found.put_number(u64::from(ends.rsport))?;
-        }
+        Kind::New => found.put(b"new"),
+        Kind::Est(ends) => put_ends(found, b"est", ends),
     }
-    Ok(())
 }
 
 /// Adds `dropped`, or `sent` and the ends.
-fn put_fate(found: &mut Found, fate: &Fate) -> Result<(), Stop> {
-    match fate {
-        Fate::Dropped => found.put(b"dropped")?,
+fn put_fate(found: &mut Found, fate: &Fate) -> Result<(), Memory> {
+    match *fate {
+        Fate::Dropped => found.put(b"dropped"),
         Fate::Sent {
             dst,
             dport,
             src,
             sport,
         } => {
-            found.put(b"sent")?;
-            found.put_address(*dst)?;
-            found.put_number(u64::from(*dport))?;
-            found.put_address(*src)?;
-            found.put_number(u64::from(*sport))?;
+            let ends = Rec {
+                rdst: dst,
+                rdport: dport,
+                rsrc: src,
+                rsport: sport,
+            };
+            put_ends(found, b"sent", &ends)
         }
     }
-    Ok(())
+}
+
+/// Adds the class of the packet among the connections of a text.
+fn put_class(found: &mut Found, text: &[u8], packet: &Packet) -> Result<(), Stop> {
+    let connections = read_conns(found.alloc, text)?;
+    Ok(put_kind(found, &class(connections.as_slice(), packet))?)
+}
+
+/// The outcome of a text.
+fn outcome_of(alloc: Global, text: &[u8]) -> Result<Outcome, Stop> {
+    let words = words(alloc, text, 1)?;
+    read_outcome(words.as_slice())
+}
+
+/// The class of a text.
+fn kind_of(alloc: Global, text: &[u8]) -> Result<Kind, Stop> {
+    let words = words(alloc, text, 1)?;
+    read_kind(words.as_slice())
+}
+
+/// The ends of a text.
+fn ends_of(alloc: Global, text: &[u8]) -> Result<Rec, Stop> {
+    let words = words(alloc, text, 1)?;
+    read_ends(words.as_slice())
 }
 
 /// Adds what becomes of the packet where this outcome accepts it as a new one.
-fn put_applied(found: &mut Found, text: &[u8], packet: &Packet) -> Result<(), Stop> {
-    let words = words(found.alloc, text, 1)?;
-    let Outcome::Accept(rewrite) = read_outcome(words.as_slice())? else {
-        return Err(Stop::Malformed);
-    };
-    put_fate(found, &rewrite.apply(packet))
+fn put_applied(found: &mut Found, outcome: Outcome, packet: &Packet) -> Result<(), Stop> {
+    match outcome {
+        Outcome::Accept(rewrite) => Ok(put_fate(found, &rewrite.apply(packet))?),
+        Outcome::Drop => Err(Stop::Malformed),
+    }
 }
 
-/// Adds what a call gives of a text and a packet.
-fn call_packet(
-    found: &mut Found,
-    call: &[u8],
-    with: &[u8],
-    text: &[u8],
-    packet: &Packet,
-) -> Result<(), Stop> {
+/// Adds what is asked of a packet.
+fn put_asked(found: &mut Found, asks: Asks, call: &Call, packet: &Packet) -> Result<(), Stop> {
     let alloc = found.alloc;
-    match call {
-        b"class" => {
-            let connections = read_conns(alloc, text)?;
-            put_kind(found, &class(connections.as_slice(), packet))
+    match asks {
+        Asks::Class => put_class(found, call.text, packet),
+        Asks::Leave => Ok(put_fate(found, &ends_of(alloc, call.text)?.apply(packet))?),
+        Asks::Apply => put_applied(found, outcome_of(alloc, call.text)?, packet),
+        Asks::Fate => {
+            let kind = kind_of(alloc, call.with)?;
+            let fate = outcome_of(alloc, call.text)?.fate(packet, &kind);
+            Ok(put_fate(found, &fate)?)
         }
-        b"leave" => {
-            let ends = read_ends(words(alloc, text, 1)?.as_slice())?;
-            put_fate(found, &ends.apply(packet))
+        Asks::Holds => {
+            let holds = judge_holds(alloc, call.with, call.text, packet)?;
+            Ok(found.put_answer(holds)?)
         }
-        b"apply" => put_applied(found, text, packet),
-        b"fate" => {
-            let outcome = read_outcome(words(alloc, text, 1)?.as_slice())?;
-            put_fate(found, &outcome.fate(packet, &read_kind(alloc, with)?))
-        }
-        b"holds" => Ok(found.put_answer(judge_holds(alloc, with, text, packet)?)?),
-        _ => Err(Stop::Malformed),
     }
 }
 
@@ -111,37 +147,20 @@ fn call_packet(
 fn read_packet(alloc: Global, site: &Site, text: &[u8]) -> Result<Packet, Stop>
     requires { IsSound site.now }
 {
-    match read_packets(alloc, text, site)?.as_slice() {
+    let packets = read_packets(alloc, text, site)?;
+    match packets.as_slice() {
         [packet] => Ok(*packet),
         _ => Err(Stop::Malformed),
     }
 }
 
-/// Whether a case `CALL|TEXT|PACKET|VALUE|..` is so: what the call gives of the text and the packet are
-/// these values. Behind a blank the first field may have what the call is given besides.
-fn agrees(alloc: Global, site: &Site, case: &[u8]) -> Result<bool, Stop>
+/// Adds what a call gives of its first text and the packet of its second one.
+pub fn call_packets(found: &mut Found, site: &Site, call: &Call) -> Result<(), Stop>
     requires { IsSound site.now }
 {
-    let fields = fields_of(alloc, case)?;
-    let [call, text, packet, wanted @ ..] = fields.as_slice() else {
-        return Err(Stop::Malformed);
-    };
-    let (call, with) = split_once(call.as_slice(), b' ').unwrap_or((call.as_slice(), b""));
-    let packet = read_packet(alloc, site, packet.as_slice())?;
-    let mut found = Found::new(alloc);
-    call_packet(&mut found, call, with, text.as_slice(), &packet)?;
-    Ok(found.values.as_slice() == wanted)
-}
-
-/// Tries each case of a text, a line each, and says how many agree.
-pub fn judge_packets(alloc: Global, site: &Site, cases: &[u8]) -> Result<Text, Stop>
-    requires { IsSound site.now }
-{
-    let mut tally = Tally::new(alloc);
-    for case in cases.split(|c: &u8| *c == b'\n') {
-        if !case.is_empty() {
-            tally.count(agrees(alloc, site, case)?)?;
-        }
+    let packet = read_packet(found.alloc, site, call.second)?;
+    match value_named(&CALLS, call.name) {
+        Some(asks) => put_asked(found, asks, call, &packet),
+        None => Err(Stop::Malformed),
     }
-    Ok(tally.into_text()?)
 }

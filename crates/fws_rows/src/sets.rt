@@ -1,20 +1,78 @@
-//! Calls on sets of numbers, against cases.
+//! Calls on sets of numbers.
 
 ghost use Rattle.std.specs.Prelude.{◌≡◌, ◌<◌, ℕ, true, IfOk};
 ghost use Rattle.fws_iv.specs.Ivs.{has};
 
-use crate::found::{Found, fields_of};
-use crate::numbers::{address, decimal};
+use crate::calls::Call;
+use crate::found::{Found, Spelling};
+use crate::numbers::number;
 use crate::stop::Stop;
-use crate::tally::Tally;
 use fws_iv::{Iv, Ivs, Overlap, cubes, has_number, one, overlap, prefixes};
-use fws_num::{Items, Memory, Text, pieces, split_once};
+use fws_num::{Items, Memory, pieces, split_once, value_named};
 use std::alloc::Global;
 
-/// A number, in decimal or as an address.
-fn number(text: &[u8]) -> Result<u32, Stop> {
-    decimal(text).or(address(text))
+/// How a set is made of ranges.
+#[derive(Clone, Copy)]
+enum Made {
+    Of,
+    Extended,
+    One,
 }
+
+/// What is asked of a set alone.
+#[derive(Clone, Copy)]
+enum Alone {
+    Copy,
+    Empty,
+    Parts,
+    Prefixes,
+    Cubes,
+}
+
+/// What is asked of a set and a number or a range.
+#[derive(Clone, Copy)]
+enum Beside {
+    Has,
+    Overlap,
+    With,
+}
+
+/// What is asked of two sets.
+#[derive(Clone, Copy)]
+enum Both {
+    Union,
+    Inter,
+    Minus,
+    Equal,
+}
+
+/// What a call asks.
+#[derive(Clone, Copy)]
+enum Asks {
+    Made(Made),
+    Alone(Alone),
+    Beside(Beside),
+    Both(Both),
+}
+
+/// The names of calls.
+const CALLS: [(&[u8], Asks); 15] = [
+    (b"of", Asks::Made(Made::Of)),
+    (b"extended", Asks::Made(Made::Extended)),
+    (b"one", Asks::Made(Made::One)),
+    (b"copy", Asks::Alone(Alone::Copy)),
+    (b"empty", Asks::Alone(Alone::Empty)),
+    (b"parts", Asks::Alone(Alone::Parts)),
+    (b"prefixes", Asks::Alone(Alone::Prefixes)),
+    (b"cubes", Asks::Alone(Alone::Cubes)),
+    (b"has", Asks::Beside(Beside::Has)),
+    (b"overlap", Asks::Beside(Beside::Overlap)),
+    (b"with", Asks::Beside(Beside::With)),
+    (b"union", Asks::Both(Both::Union)),
+    (b"inter", Asks::Both(Both::Inter)),
+    (b"minus", Asks::Both(Both::Minus)),
+    (b"equal", Asks::Both(Both::Equal)),
+];
 
 /// The numbers of a range `lo-hi`.
 fn range(text: &[u8]) -> Result<Iv, Stop> {
@@ -46,13 +104,19 @@ fn with_range(alloc: Global, set: &Ivs, range: &Iv) -> Result<Ivs, Stop> {
     Ok(set.with_range(alloc, range.lo, range.hi)?)
 }
 
-/// The set of a text `lo-hi,lo-hi`.
-pub fn set_of(alloc: Global, text: &[u8]) -> Result<Ivs, Stop> {
+/// The set of ranges.
+fn united(alloc: Global, ranges: &[Iv]) -> Result<Ivs, Stop> {
     let mut set = Ivs::none(alloc);
-    for range in ranges(alloc, text)?.as_slice() {
+    for range in ranges {
         set = with_range(alloc, &set, range)?;
     }
     Ok(set)
+}
+
+/// The set of a text `lo-hi,lo-hi`.
+pub fn set_of(alloc: Global, text: &[u8]) -> Result<Ivs, Stop> {
+    let ranges = ranges(alloc, text)?;
+    united(alloc, ranges.as_slice())
 }
 
 /// The set of at most three ranges.
@@ -80,6 +144,14 @@ fn extended(alloc: Global, ranges: &[Iv]) -> Result<Ivs, Stop> {
     }
 }
 
+/// The set of one range.
+fn set_of_one(alloc: Global, ranges: &[Iv]) -> Result<Ivs, Stop> {
+    match ranges {
+        [a] if a.lo <= a.hi => Ok(one(alloc, a.lo, a.hi)?),
+        _ => Err(Stop::Malformed),
+    }
+}
+
 /// Adds how much of a range lies in a set: `none`, `some` or `all`.
 fn put_overlap(found: &mut Found, set: &Ivs, range: &Iv) -> Result<(), Stop> {
     if range.lo > range.hi {
@@ -93,45 +165,12 @@ fn put_overlap(found: &mut Found, set: &Ivs, range: &Iv) -> Result<(), Stop> {
     Ok(found.put(said)?)
 }
 
-/// Adds what a call gives of ranges; says whether there is such a call.
-fn call_ranges(found: &mut Found, call: &[u8], text: &[u8]) -> Result<bool, Stop> {
-    let alloc = found.alloc;
-    match call {
-        b"of" => {
-            let set = set_of_ranges(alloc, ranges(alloc, text)?.as_slice())?;
-            found.put_numbers(set.parts())?;
-        }
-        b"extended" => {
-            let set = extended(alloc, ranges(alloc, text)?.as_slice())?;
-            found.put_numbers(set.parts())?;
-        }
-        b"one" => {
-            let range = range(text)?;
-            if range.lo > range.hi {
-                return Err(Stop::Malformed);
-            }
-            found.put_numbers(one(alloc, range.lo, range.hi)?.parts())?;
-        }
-        _ => return Ok(false),
+/// Adds the prefixes of a set.
+fn put_prefixes(found: &mut Found, set: &Ivs) -> Result<(), Memory> {
+    for prefix in &prefixes(found.alloc, set)? {
+        found.put_prefix(prefix)?;
     }
-    Ok(true)
-}
-
-/// Adds what a call gives of a set and a number or a range; says whether there is such a call.
-fn call_set(found: &mut Found, call: &[u8], set: &Ivs, text: &[u8]) -> Result<bool, Stop> {
-    let alloc = found.alloc;
-    match call {
-        b"copy" => found.put_numbers(set.copy(alloc)?.parts())?,
-        b"empty" => found.put_answer(set.is_empty())?,
-        b"has" => {
-            let v = number(text)?;
-            found.put_answer(set.has(v) && has_number(set.parts(), v))?;
-        }
-        b"overlap" => put_overlap(found, set, &range(text)?)?,
-        b"with" => found.put_numbers(with_range(alloc, set, &range(text)?)?.parts())?,
-        _ => return Ok(false),
-    }
-    Ok(true)
+    Ok(())
 }
 
 /// The members below 64.
@@ -142,69 +181,96 @@ fn low_members(alloc: Global, set: &Ivs) -> Result<Ivs, Memory>
     set.inter(alloc, &low)
 }
 
-/// Adds the parts into which a call divides a set; says whether there is such a call.
-fn call_parts(found: &mut Found, call: &[u8], set: &Ivs) -> Result<bool, Stop> {
+/// Adds the cubes of a set's members below 64.
+fn put_cubes(found: &mut Found, set: &Ivs) -> Result<(), Memory> {
+    let low = low_members(found.alloc, set)?;
+    for cube in &cubes(found.alloc, &low)? {
+        found.put_cube(cube)?;
+    }
+    Ok(())
+}
+
+/// The set that is made of ranges.
+fn made_of(alloc: Global, made: Made, ranges: &[Iv]) -> Result<Ivs, Stop> {
+    match made {
+        Made::Of => set_of_ranges(alloc, ranges),
+        Made::Extended => extended(alloc, ranges),
+        Made::One => set_of_one(alloc, ranges),
+    }
+}
+
+/// Adds the set that is made of the ranges of a text.
+fn put_made(found: &mut Found, made: Made, text: &[u8]) -> Result<(), Stop> {
+    let ranges = ranges(found.alloc, text)?;
+    let set = made_of(found.alloc, made, ranges.as_slice())?;
+    Ok(found.put_parts(Spelling::Decimal, set.parts())?)
+}
+
+/// Adds what is asked of a set alone.
+fn put_alone(found: &mut Found, asks: Alone, set: &Ivs) -> Result<(), Memory> {
     let alloc = found.alloc;
-    match call {
-        b"parts" => found.put_numbers(Ivs::of_parts(alloc, set.parts())?.parts())?,
-        b"prefixes" => {
-            for prefix in &prefixes(alloc, set)? {
-                found.put_prefix(prefix)?;
-            }
-        }
-        b"cubes" => {
-            let low = low_members(alloc, set)?;
-            for cube in &cubes(alloc, &low)? {
-                found.put_cube(cube)?;
-            }
-        }
-        _ => return Ok(false),
+    match asks {
+        Alone::Copy => found.put_set(Spelling::Decimal, set.copy(alloc)),
+        Alone::Empty => found.put_answer(set.is_empty()),
+        Alone::Parts => found.put_set(Spelling::Decimal, Ivs::of_parts(alloc, set.parts())),
+        Alone::Prefixes => put_prefixes(found, set),
+        Alone::Cubes => put_cubes(found, set),
     }
-    Ok(true)
 }
 
-/// Adds what a call gives of two sets; says whether there is such a call.
-fn call_sets(found: &mut Found, call: &[u8], a: &Ivs, text: &[u8]) -> Result<bool, Stop> {
+/// Adds the set and the numbers of a range.
+fn put_with(found: &mut Found, set: &Ivs, range: &Iv) -> Result<(), Stop> {
+    let set = with_range(found.alloc, set, range)?;
+    Ok(found.put_parts(Spelling::Decimal, set.parts())?)
+}
+
+/// Adds what is asked of a set and the number or range of a text.
+fn put_beside(found: &mut Found, asks: Beside, set: &Ivs, text: &[u8]) -> Result<(), Stop> {
+    match asks {
+        Beside::Has => {
+            let n = number(text)?;
+            Ok(found.put_answer(set.has(n) && has_number(set.parts(), n))?)
+        }
+        Beside::Overlap => put_overlap(found, set, &range(text)?),
+        Beside::With => put_with(found, set, &range(text)?),
+    }
+}
+
+/// Adds what is asked of two sets.
+fn put_both(found: &mut Found, asks: Both, a: &Ivs, b: &Ivs) -> Result<(), Memory> {
     let alloc = found.alloc;
-    let b = set_of(alloc, text)?;
-    match call {
-        b"union" => found.put_numbers(a.union(alloc, &b)?.parts())?,
-        b"inter" => found.put_numbers(a.inter(alloc, &b)?.parts())?,
-        b"minus" => found.put_numbers(a.minus(alloc, &b)?.parts())?,
-        b"equal" => found.put_answer(*a == b)?,
-        _ => return Ok(false),
+    match asks {
+        Both::Union => found.put_set(Spelling::Decimal, a.union(alloc, b)),
+        Both::Inter => found.put_set(Spelling::Decimal, a.inter(alloc, b)),
+        Both::Minus => found.put_set(Spelling::Decimal, a.minus(alloc, b)),
+        Both::Equal => found.put_answer(*a == *b),
     }
-    Ok(true)
 }
 
-/// Whether a case `CALL|TEXT|TEXT|VALUE|` is so: what the call gives of the texts is this value.
-fn agrees(alloc: Global, case: &[u8]) -> Result<bool, Stop> {
-    let fields = fields_of(alloc, case)?;
-    let [call, first, second, wanted @ ..] = fields.as_slice() else {
-        return Err(Stop::Malformed);
-    };
-    let call = call.as_slice();
-    let mut found = Found::new(alloc);
-    if call_ranges(&mut found, call, first.as_slice())? {
-        return Ok(found.values.as_slice() == wanted);
-    }
-    let set = set_of(alloc, first.as_slice())?;
-    if call_parts(&mut found, call, &set)?
-        || call_set(&mut found, call, &set, second.as_slice())?
-        || call_sets(&mut found, call, &set, second.as_slice())?
-    {
-        return Ok(found.values.as_slice() == wanted);
-    }
-    Err(Stop::Malformed)
+/// Adds what is asked of a set and the set of a text.
+fn put_sets(found: &mut Found, asks: Both, a: &Ivs, text: &[u8]) -> Result<(), Stop> {
+    let b = set_of(found.alloc, text)?;
+    Ok(put_both(found, asks, a, &b)?)
 }
 
-/// Tries each case of a text, a line each, and says how many agree.
-pub fn judge_sets(alloc: Global, cases: &[u8]) -> Result<Text, Stop> {
-    let mut tally = Tally::new(alloc);
-    for case in cases.split(|c: &u8| *c == b'\n') {
-        if !case.is_empty() {
-            tally.count(agrees(alloc, case)?)?;
+/// Adds what a call gives of a set, and of its second text.
+fn put_of_set(found: &mut Found, asks: Asks, set: &Ivs, text: &[u8]) -> Result<(), Stop> {
+    match asks {
+        Asks::Alone(asks) => Ok(put_alone(found, asks, set)?),
+        Asks::Beside(asks) => put_beside(found, asks, set, text),
+        Asks::Both(asks) => put_sets(found, asks, set, text),
+        Asks::Made(_) => Err(Stop::Malformed),
+    }
+}
+
+/// Adds what a call gives.
+pub fn call_sets(found: &mut Found, call: &Call) -> Result<(), Stop> {
+    match value_named(&CALLS, call.name) {
+        Some(Asks::Made(made)) => put_made(found, made, call.text),
+        Some(asks) => {
+            let set = set_of(found.alloc, call.text)?;
+            put_of_set(found, asks, &set, call.second)
         }
+        None => Err(Stop::Malformed),
     }
-    Ok(tally.into_text()?)
 }

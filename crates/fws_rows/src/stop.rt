@@ -5,7 +5,7 @@ use fws_num::Memory;
 use fws_trace::LineAnswer;
 
 /// Why a job can't be done.
-#[derive(Clone, Copy, Debug, PartialEq, Eq)]
+#[derive(Clone, Copy)]
 pub enum Stop {
     /// Memory was wanting.
     Memory,

@@ -3,7 +3,9 @@
 use crate::numbers::{address, decimal, entry, short};
 use crate::stop::Stop;
 use fws_net::{End, Outcome, Rewrite, Site};
-use fws_num::{Comments, Items, Line, Word, pieces, read_lines, read_prefix, split_once};
+use fws_num::{
+    Comments, Items, Line, Memory, Text, Word, pieces, read_lines, read_prefix, split_once,
+};
 use std::alloc::Global;
 
 /// A row: for each field the ends of its intervals, and what becomes of the row's packets.
@@ -72,57 +74,83 @@ fn put_item(values: &mut Items<u32>, site: &Site, field: Field, item: &[u8]) -> 
     Ok(())
 }
 
-/// The ends of the whole range; every entry is an end.
-fn whole_range(alloc: Global, site: &Site, field: Field) -> Result<Items<u32>, Stop> {
-    let mut values = Items::new(alloc);
+/// Adds the ends of the whole range; every entry is an end.
+fn put_whole_range(values: &mut Items<u32>, site: &Site, field: Field) -> Result<(), Memory> {
     values.put(0)?;
     match field {
         Field::Entry => {
-            values.put(1)?;
-            let mut number: u32 = 2;
-            for _ in site.faces.as_slice() {
-                values.put(number)?;
-                number = number.saturating_add(1);
+            for entry in 1..site.faces.len().saturating_add(2) {
+                values.put(u32::try_from(entry).unwrap_or(u32::MAX))?;
             }
+            Ok(())
         }
-        Field::Address => values.put(u32::MAX)?,
-        Field::Number { top } => values.put(top)?,
+        Field::Address => values.put(u32::MAX),
+        Field::Number { top } => values.put(top),
     }
-    Ok(values)
+}
+
+/// Adds the ends of the items of a list.
+fn put_items(
+    values: &mut Items<u32>,
+    site: &Site,
+    field: Field,
+    items: &[Text],
+) -> Result<(), Stop> {
+    for item in items {
+        put_item(values, site, field, item.as_slice())?;
+    }
+    Ok(())
 }
 
 /// The ends of the intervals that a word has.
-fn read_values(alloc: Global, site: &Site, place: usize, word: &Word) -> Result<Items<u32>, Stop> {
-    let field = field_at(place);
-    if word.is(b"*") {
-        return whole_range(alloc, site, field);
-    }
+fn read_values(alloc: Global, site: &Site, field: Field, word: &Word) -> Result<Items<u32>, Stop> {
+    let items = pieces(alloc, b',', word.text.as_slice())?;
     let mut values = Items::new(alloc);
-    for item in pieces(alloc, b',', word.text.as_slice())?.as_slice() {
-        put_item(&mut values, site, field, item.as_slice())?;
+    if word.is(b"*") {
+        put_whole_range(&mut values, site, field)?;
+    } else {
+        put_items(&mut values, site, field, items.as_slice())?;
     }
     Ok(values)
 }
 
 /// The end of a network `A/n`, of a length from 1.
 fn read_net_end(text: &[u8]) -> Result<End, Stop> {
-    let Some(net) = read_prefix(text) else {
-        return Err(Stop::Malformed);
-    };
-    if net.len == 0 {
-        return Err(Stop::Malformed);
+    match read_prefix(text) {
+        Some(net) if net.len > 0 => Ok(End::net(net)),
+        _ => Err(Stop::Malformed),
     }
-    Ok(End::net(net))
 }
 
 /// An end `A`, `A:port` or `A/n`.
-pub fn read_end(text: &[u8]) -> Result<End, Stop> {
+fn read_end(text: &[u8]) -> Result<End, Stop> {
     if text.contains(&b'/') {
         return read_net_end(text);
     }
     match split_once(text, b':') {
         Some((a, port)) => Ok(End::host(address(a)?, Some(short(decimal(port)?)))),
         None => Ok(End::host(address(text)?, None)),
+    }
+}
+
+/// What is written, with what `src=END` or `dst=END` writes.
+fn with_end(wrote: Rewrite, text: &[u8]) -> Result<Rewrite, Stop> {
+    let Some((side, end)) = split_once(text, b'=') else {
+        return Err(Stop::Malformed);
+    };
+    let end = Some(read_end(end)?);
+    if side == b"src".as_slice() {
+        Ok(Rewrite {
+            src: end,
+            dst: wrote.dst,
+        })
+    } else if side == b"dst".as_slice() {
+        Ok(Rewrite {
+            src: wrote.src,
+            dst: end,
+        })
+    } else {
+        Err(Stop::Malformed)
     }
 }
 
@@ -134,51 +162,68 @@ pub fn read_outcome(words: &[Word]) -> Result<Outcome, Stop> {
     if verdict.is(b"drop") {
         return Ok(Outcome::Drop);
     }
-    let mut wrote = Rewrite {
-        src: None,
-        dst: None,
-    };
-    for word in ends {
-        match split_once(word.text.as_slice(), b'=') {
-            Some((b"src", end)) => wrote.src = Some(read_end(end)?),
-            Some((b"dst", end)) => wrote.dst = Some(read_end(end)?),
-            _ => return Err(Stop::Malformed),
-        }
+    let mut wrote = Rewrite::nothing();
+    for end in ends {
+        wrote = with_end(wrote, end.text.as_slice())?;
     }
     Ok(Outcome::Accept(wrote))
 }
 
+/// The ends of the intervals of fields, a word for each.
+fn read_fields(alloc: Global, site: &Site, words: &[Word]) -> Result<Items<Items<u32>>, Stop> {
+    let mut values = Items::new(alloc);
+    for (place, word) in words.iter().enumerate() {
+        values.put(read_values(alloc, site, field_at(place), word)?)?;
+    }
+    Ok(values)
+}
+
 /// A row of so many fields.
 fn read_row(alloc: Global, site: &Site, fields: usize, line: &Line) -> Result<Row, Stop> {
-    let words = line.words.as_slice();
-    let mut values = Items::new(alloc);
-    for (place, word) in words.iter().take(fields).enumerate() {
-        values.put(read_values(alloc, site, place, word)?)?;
+    let Some((words, [colon, outcome @ ..])) = line.words.as_slice().split_at_checked(fields) else {
+        return Err(Stop::Malformed);
+    };
+    if !colon.is(b":") {
+        return Err(Stop::Malformed);
     }
-    match words.get(fields..) {
-        Some([colon, outcome @ ..]) if colon.is(b":") => Ok(Row {
-            values,
-            outcome: read_outcome(outcome)?,
-        }),
-        _ => Err(Stop::Malformed),
+    let outcome = read_outcome(outcome)?;
+    Ok(Row {
+        values: read_fields(alloc, site, words)?,
+        outcome,
+    })
+}
+
+/// Whether the table of this first line is about packets of tracked connections.
+fn is_est(state: &Word) -> Result<bool, Stop> {
+    if state.is(b"est") {
+        Ok(true)
+    } else if state.is(b"new") {
+        Ok(false)
+    } else {
+        Err(Stop::Malformed)
     }
 }
 
 /// The state that the first line names, and the number of rows.
 fn read_head(line: &Line) -> Result<(bool, u32), Stop> {
     match line.words.as_slice() {
-        [_, state, rows] => {
-            let rows = decimal(rows.text.as_slice())?;
-            if state.is(b"est") {
-                Ok((true, rows))
-            } else if state.is(b"new") {
-                Ok((false, rows))
-            } else {
-                Err(Stop::Malformed)
-            }
-        }
+        [_, state, rows] => Ok((is_est(state)?, decimal(rows.text.as_slice())?)),
         _ => Err(Stop::Malformed),
     }
+}
+
+/// The rows of lines.
+fn read_rows(
+    alloc: Global,
+    site: &Site,
+    fields: usize,
+    lines: &[Line],
+) -> Result<Items<Row>, Stop> {
+    let mut rows = Items::new(alloc);
+    for line in lines {
+        rows.put(read_row(alloc, site, fields, line)?)?;
+    }
+    Ok(rows)
 }
 
 /// The table of a text.
@@ -188,11 +233,7 @@ pub fn read_table(alloc: Global, site: &Site, text: &[u8]) -> Result<Table, Stop
         return Err(Stop::Malformed);
     };
     let (est, promised) = read_head(head)?;
-    let fields = if est { 12 } else { 8 };
-    let mut rows = Items::new(alloc);
-    for line in body {
-        rows.put(read_row(alloc, site, fields, line)?)?;
-    }
+    let rows = read_rows(alloc, site, if est { 12 } else { 8 }, body)?;
     Ok(Table {
         est,
         promised,

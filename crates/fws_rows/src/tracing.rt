@@ -1,15 +1,29 @@
 //! Traces by the slow model and by tables.
 
+ghost use Rattle.std.specs.Prelude.{◌≡◌};
+ghost use Rattle.fws_net.specs.Points.{tops_of};
 ghost use Rattle.fws_net.specs.Routes.{IsSound};
 
 use crate::forms::Forms;
+use crate::judging::verdict;
 use crate::stop::Stop;
 use crate::trees::read_tree;
-use fws_net::{Fate, Kind, Packet, Site, State, class};
+use fws_net::{Conn, Fate, Kind, Packet, Site, State, class};
 use fws_num::{Memory, Text, put_dec, put_quad};
 use fws_trace::{read_conns, read_packets, trace};
 use fws_tree::Tables;
 use std::alloc::Global;
+
+/// The texts of a trace.
+#[derive(Clone, Copy)]
+pub struct Traced<'a> {
+    /// The tracked connections.
+    pub connections: &'a [u8],
+    /// The packets.
+    pub packets: &'a [u8],
+    /// What becomes of them.
+    pub expected: &'a [u8],
+}
 
 /// Adds an address, and for TCP and UDP a port.
 fn put_end(text: &mut Text, proto: u8, a: u32, port: u16) -> Result<(), Memory> {
@@ -23,10 +37,7 @@ fn put_end(text: &mut Text, proto: u8, a: u32, port: u16) -> Result<(), Memory> 
 
 /// Adds the line of a packet's fate.
 fn put_fate(text: &mut Text, packet: &Packet, kind: &Kind, fate: &Fate) -> Result<(), Memory> {
-    match kind {
-        Kind::New => text.put(b"new ")?,
-        Kind::Est(_) => text.put(b"est ")?,
-    }
+    text.put(if kind.is_est() { b"est " } else { b"new " })?;
     match fate {
         Fate::Dropped => text.put(b"drop")?,
         Fate::Sent {
@@ -44,63 +55,91 @@ fn put_fate(text: &mut Text, packet: &Packet, kind: &Kind, fate: &Fate) -> Resul
     text.put(b"\n")
 }
 
-/// Says whether a trace is the expected one.
-fn judge(alloc: Global, trace: &Text, expected: &[u8]) -> Result<Text, Stop> {
-    let said: &[u8] = if trace.as_slice() == expected {
-        b"agrees"
-    } else {
-        b"differs"
-    };
-    Ok(Text::of(alloc, said)?)
-}
-
-/// Walks the packets of a text against the connections of another, and says whether the trace is the expected one.
-pub fn judge_trace(
+/// Adds a line for each packet; says whether the forms agree.
+fn put_trace(
     alloc: Global,
     site: &Site,
     forms: &Forms,
-    connections: &[u8],
-    packets: &[u8],
-    expected: &[u8],
-) -> Result<Text, Stop>
+    text: &mut Text,
+    connections: &[Conn],
+    packets: &[Packet],
+) -> Result<bool, Memory>
     requires { IsSound site.now }
 {
-    let connections = read_conns(alloc, connections)?;
-    let mut trace = Text::new(alloc);
-    for packet in &read_packets(alloc, packets, site)? {
-        let kind = class(connections.as_slice(), packet);
+    for packet in packets {
+        let kind = class(connections, packet);
         let Some(outcome) = forms.walk(alloc, site, packet, &kind)? else {
-            return Ok(Text::of(alloc, b"the forms differ")?);
+            return Ok(false);
         };
-        put_fate(&mut trace, packet, &kind, &outcome.fate(packet, &kind))?;
+        put_fate(text, packet, &kind, &outcome.fate(packet, &kind))?;
     }
-    judge(alloc, &trace, expected)
+    Ok(true)
+}
+
+/// Says whether the trace of packets against connections is the expected one.
+fn judge_listed(
+    alloc: Global,
+    site: &Site,
+    forms: &Forms,
+    connections: &[Conn],
+    packets: &[Packet],
+    expected: &[u8],
+) -> Result<Text, Memory>
+    requires { IsSound site.now }
+{
+    let mut trace = Text::new(alloc);
+    if put_trace(alloc, site, forms, &mut trace, connections, packets)? {
+        verdict(alloc, trace.as_slice() == expected)
+    } else {
+        Text::of(alloc, b"the forms differ")
+    }
+}
+
+/// Walks packets against connections, and says whether the trace is the expected one.
+pub fn judge_trace(alloc: Global, site: &Site, forms: &Forms, traced: &Traced) -> Result<Text, Stop>
+    requires { IsSound site.now }
+{
+    let connections = read_conns(alloc, traced.connections)?;
+    let packets = read_packets(alloc, traced.packets, site)?;
+    Ok(judge_listed(
+        alloc,
+        site,
+        forms,
+        connections.as_slice(),
+        packets.as_slice(),
+        traced.expected,
+    )?)
+}
+
+/// Looks packets up in the trees of tables, and says whether the trace is the expected one.
+fn judge_found(alloc: Global, site: &Site, tables: &Tables, traced: &Traced) -> Result<Text, Stop>
+    requires sound { IsSound site.now }
+    requires fresh { tables.now.fresh.0 ≡ tops_of site.now }
+    requires est { tables.now.est.0 ≡ tops_of site.now }
+{
+    let connections = read_conns(alloc, traced.connections)?;
+    let packets = read_packets(alloc, traced.packets, site)?;
+    let found = trace(
+        alloc,
+        site,
+        tables,
+        connections.as_slice(),
+        packets.as_slice(),
+    )?;
+    Ok(verdict(alloc, found.as_slice() == traced.expected)?)
 }
 
 /// Looks the packets of a text up in the trees of two tables, and says whether the trace is the expected one.
 pub fn judge_looked_up(
     alloc: Global,
     site: &Site,
-    tables: [&[u8]; 2],
-    connections: &[u8],
-    packets: &[u8],
-    expected: &[u8],
+    fresh: &[u8],
+    est: &[u8],
+    traced: &Traced,
 ) -> Result<Text, Stop>
     requires { IsSound site.now }
 {
-    let [fresh, est] = tables;
-    let tables = Tables {
-        fresh: read_tree(alloc, site, State::Fresh, fresh)?,
-        est: read_tree(alloc, site, State::Est, est)?,
-    };
-    let connections = read_conns(alloc, connections)?;
-    let packets = read_packets(alloc, packets, site)?;
-    let found = trace(
-        alloc,
-        site,
-        &tables,
-        connections.as_slice(),
-        packets.as_slice(),
-    )?;
-    judge(alloc, &found, expected)
+    let fresh = read_tree(alloc, site, State::Fresh, fresh)?;
+    let est = read_tree(alloc, site, State::Est, est)?;
+    judge_found(alloc, site, &Tables { fresh, est }, traced)
 }

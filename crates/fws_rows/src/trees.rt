@@ -10,19 +10,38 @@ use crate::table::{Field, field_at, read_outcome, value};
 use fws_box::whole_sides;
 use fws_iv::{Ivs, one};
 use fws_net::{Outcome, Site, State, tops};
-use fws_num::{Comments, Items, Line, Word, pieces, read_lines, split_once};
+use fws_num::{Comments, Items, Line, Text, Word, pieces, read_lines, split_once};
 use fws_tree::{Row, Tree, from_rows};
 use std::alloc::Global;
 
 /// The least and the greatest value of an item `v` or `lo-hi`.
 fn read_item(site: &Site, field: Field, item: &[u8]) -> Result<(u32, u32), Stop> {
-    match split_once(item, b'-') {
-        Some((lo, hi)) => Ok((value(site, field, lo)?, value(site, field, hi)?)),
-        None => {
-            let v = value(site, field, item)?;
-            Ok((v, v))
-        }
+    let (lo, hi) = split_once(item, b'-').unwrap_or((item, item));
+    Ok((value(site, field, lo)?, value(site, field, hi)?))
+}
+
+/// The set, and the values of an item.
+fn with_item(
+    alloc: Global,
+    site: &Site,
+    field: Field,
+    set: &Ivs,
+    item: &[u8],
+) -> Result<Ivs, Stop> {
+    let (lo, hi) = read_item(site, field, item)?;
+    if lo > hi {
+        return Err(Stop::Malformed);
     }
+    Ok(set.with_range(alloc, lo, hi)?)
+}
+
+/// The values of a list of items.
+fn set_of(alloc: Global, site: &Site, field: Field, items: &[Text]) -> Result<Ivs, Stop> {
+    let mut set = Ivs::none(alloc);
+    for item in items {
+        set = with_item(alloc, site, field, &set, item.as_slice())?;
+    }
+    Ok(set)
 }
 
 /// The values that a word has of a field with this greatest value.
@@ -30,15 +49,24 @@ fn read_side(alloc: Global, site: &Site, field: Field, top: u32, word: &Word) ->
     if word.is(b"*") {
         return Ok(one(alloc, 0, top)?);
     }
-    let mut side = Ivs::none(alloc);
-    for item in pieces(alloc, b',', word.text.as_slice())?.as_slice() {
-        let (lo, hi) = read_item(site, field, item.as_slice())?;
-        if lo > hi {
-            return Err(Stop::Malformed);
+    let items = pieces(alloc, b',', word.text.as_slice())?;
+    set_of(alloc, site, field, items.as_slice())
+}
+
+/// The sides of these words; those of fields that the words don't show are whole.
+fn read_sides(
+    alloc: Global,
+    site: &Site,
+    tops: &[u32; 12],
+    words: &[Word],
+) -> Result<[Ivs; 12], Stop> {
+    let mut sides = whole_sides(alloc, tops)?;
+    for place in 0..12 {
+        if let Some(word) = words.get(place) {
+            sides[place] = read_side(alloc, site, field_at(place), tops[place], word)?;
         }
-        side = side.with_range(alloc, lo, hi)?;
     }
-    Ok(side)
+    Ok(sides)
 }
 
 /// How many fields a row shows: 8 for a new packet, 12 for an established one.
@@ -57,24 +85,33 @@ fn read_row(
     state: State,
     line: &Line,
 ) -> Result<Row<Outcome>, Stop> {
-    let words = line.words.as_slice();
     let shown = shown_fields(state);
-    let mut sides = whole_sides(alloc, tops)?;
-    for place in 0..12 {
-        match words.get(place) {
-            Some(word) if place < shown => {
-                sides[place] = read_side(alloc, site, field_at(place), tops[place], word)?;
-            }
-            _ => {}
-        }
+    let Some((words, [colon, outcome @ ..])) = line.words.as_slice().split_at_checked(shown) else {
+        return Err(Stop::Malformed);
+    };
+    if !colon.is(b":") {
+        return Err(Stop::Malformed);
     }
-    match words.get(shown..) {
-        Some([colon, outcome @ ..]) if colon.is(b":") => Ok(Row {
-            sides,
-            leaf: read_outcome(outcome)?,
-        }),
-        _ => Err(Stop::Malformed),
+    let leaf = read_outcome(outcome)?;
+    Ok(Row {
+        sides: read_sides(alloc, site, tops, words)?,
+        leaf,
+    })
+}
+
+/// The rows of lines.
+fn read_rows(
+    alloc: Global,
+    site: &Site,
+    tops: &[u32; 12],
+    state: State,
+    lines: &[Line],
+) -> Result<Items<Row<Outcome>>, Stop> {
+    let mut rows = Items::new(alloc);
+    for line in lines {
+        rows.put(read_row(alloc, site, tops, state, line)?)?;
     }
+    Ok(rows)
 }
 
 /// The tree of a text that has a first line of its own and then a row on each line.
@@ -89,9 +126,9 @@ pub fn read_tree(
 {
     let tops = tops(site);
     let lines = read_lines(alloc, Comments::HashLine, text)?;
-    let mut rows = Items::new(alloc);
-    for line in lines.lines.as_slice().iter().skip(1) {
-        rows.put(read_row(alloc, site, &tops, state, line)?)?;
-    }
+    let rows = match lines.lines.as_slice() {
+        [_, body @ ..] => read_rows(alloc, site, &tops, state, body)?,
+        [] => Items::new(alloc),
+    };
     Ok(from_rows(alloc, &tops, rows.as_slice(), Outcome::Drop)?)
 }

@@ -1,10 +1,12 @@
 //! Trees made of other trees.
 
+ghost use Rattle.std.specs.Prelude.{◌≡◌};
+
 use crate::agreeing::has_values;
 use crate::leaves::{Tag, tag};
 use crate::meaning::holds;
 use crate::points::point_at;
-use crate::trial::Trial;
+use crate::trial::Given;
 use fws_num::Memory;
 use fws_tree::Relabelling;
 use std::alloc::Global;
@@ -12,43 +14,49 @@ use std::alloc::Global;
 /// The values of the points, but for this one outside the sides, or else within them.
 fn changed_values(
     alloc: Global,
-    trial: &Trial,
+    given: &Given,
     value: Tag,
     outside: bool,
 ) -> Result<Vec<Tag>, Memory> {
     let mut changed = Vec::new(alloc);
-    for (number, old) in trial.values(alloc)?.iter().enumerate() {
-        let inside = holds(&trial.sides, &point_at(&trial.tops, number));
+    for (number, old) in given.values.iter().enumerate() {
+        let inside = holds(&given.trial.sides, &point_at(&given.trial.tops, number));
         changed.push(if inside == outside { *old } else { value })?;
     }
     Ok(changed)
 }
 
 /// Whether restricting a tree changes the points outside the sides alone.
-pub fn restrict_agrees(alloc: Global, trial: &Trial) -> Result<bool, Memory> {
+pub fn restrict_agrees(alloc: Global, given: &Given) -> Result<bool, Memory> {
     let off = tag(15);
-    let tree = trial.tree(alloc)?.restrict(alloc, &trial.sides, off)?;
-    let values = changed_values(alloc, trial, off, true)?;
-    Ok(has_values(&tree, &trial.tops, values.as_slice()))
+    let tree = given.tree.restrict(alloc, &given.trial.sides, off)?;
+    let values = changed_values(alloc, given, off, true)?;
+    Ok(has_values(&tree, &given.trial.tops, values.as_slice()))
 }
 
 /// Whether painting a tree changes the points within the sides alone.
-pub fn paint_agrees(alloc: Global, trial: &Trial) -> Result<bool, Memory> {
+pub fn paint_agrees(alloc: Global, given: &Given) -> Result<bool, Memory> {
     let on = tag(1);
-    let tree = trial.tree(alloc)?.paint(alloc, &trial.sides, on)?;
-    let values = changed_values(alloc, trial, on, false)?;
-    Ok(has_values(&tree, &trial.tops, values.as_slice()))
+    let tree = given.tree.paint(alloc, &given.trial.sides, on)?;
+    let values = changed_values(alloc, given, on, false)?;
+    Ok(has_values(&tree, &given.trial.tops, values.as_slice()))
+}
+
+/// For each value whether it is the wanted one.
+pub fn wanted_values(alloc: Global, values: &[Tag], wanted: &Tag) -> Result<Vec<bool>, Memory> {
+    let mut are_wanted = Vec::new(alloc);
+    for value in values {
+        are_wanted.push(*value == *wanted)?;
+    }
+    Ok(are_wanted)
 }
 
 /// Whether the selected tree is true where the value is the wanted one.
-pub fn select_agrees(alloc: Global, trial: &Trial) -> Result<bool, Memory> {
+pub fn select_agrees(alloc: Global, given: &Given) -> Result<bool, Memory> {
     let wanted = tag(1);
-    let tree = trial.tree(alloc)?.select(alloc, &wanted)?;
-    let mut values = Vec::new(alloc);
-    for value in trial.values(alloc)?.as_slice() {
-        values.push(*value == wanted)?;
-    }
-    Ok(has_values(&tree, &trial.tops, values.as_slice()))
+    let tree = given.tree.select(alloc, &wanted)?;
+    let values = wanted_values(alloc, given.values, &wanted)?;
+    Ok(has_values(&tree, &given.trial.tops, values.as_slice()))
 }
 
 /// The second bit of each leaf, so that different leaves become equal.
@@ -62,25 +70,43 @@ impl Relabelling<Tag, bool> for SecondBit {
     }
 }
 
-/// Whether the relabelled tree has what is made of the values.
-pub fn relabel_agrees(alloc: Global, trial: &Trial) -> Result<bool, Memory> {
-    let tree = trial.tree(alloc)?.relabel(alloc, &SecondBit)?;
-    let mut values = Vec::new(alloc);
-    for value in trial.values(alloc)?.as_slice() {
-        values.push(value.0.1)?;
+/// The second bit of each value.
+fn second_bits(alloc: Global, values: &[Tag]) -> Result<Vec<bool>, Memory> {
+    let mut bits = Vec::new(alloc);
+    for value in values {
+        bits.push(value.0.1)?;
     }
-    Ok(has_values(&tree, &trial.tops, values.as_slice()))
+    Ok(bits)
+}
+
+/// Whether the relabelled tree has what is made of the values.
+pub fn relabel_agrees(alloc: Global, given: &Given) -> Result<bool, Memory> {
+    let tree = given.tree.relabel(alloc, &SecondBit)?;
+    let values = second_bits(alloc, given.values)?;
+    Ok(has_values(&tree, &given.trial.tops, values.as_slice()))
+}
+
+/// The pairs of values.
+fn pairs(alloc: Global, values: &[Tag], others: &[Tag]) -> Result<Vec<(Tag, Tag)>, Memory> {
+    let mut pairs = Vec::new(alloc);
+    for (value, other) in values.iter().zip(others) {
+        pairs.push((*value, *other))?;
+    }
+    Ok(pairs)
+}
+
+/// What both rows say of each point.
+fn paired_values(alloc: Global, given: &Given) -> Result<Vec<(Tag, Tag)>, Memory> {
+    let others = given.trial.others.values(alloc, &given.trial.tops)?;
+    pairs(alloc, given.values, others.as_slice())
 }
 
 /// Whether the pair of two trees has the values of both.
-pub fn pair_agrees(alloc: Global, trial: &Trial) -> Result<bool, Memory> {
-    let first = trial.tree(alloc)?;
-    let second = trial.others.tree(alloc, &trial.tops)?;
-    let tree = first.pair(alloc, &second)?;
-    let others = trial.others.values(alloc, &trial.tops)?;
-    let mut values = Vec::new(alloc);
-    for (value, other) in trial.values(alloc)?.iter().zip(others.as_slice()) {
-        values.push((*value, *other))?;
-    }
-    Ok(has_values(&tree, &trial.tops, values.as_slice()))
+pub fn pair_agrees(alloc: Global, given: &Given) -> Result<bool, Memory>
+    requires { given.now.tree.now.0 ≡ given.now.trial.now.tops }
+{
+    let other = given.trial.others.tree(alloc, &given.trial.tops)?;
+    let tree = given.tree.pair(alloc, &other)?;
+    let values = paired_values(alloc, given)?;
+    Ok(has_values(&tree, &given.trial.tops, values.as_slice()))
 }

@@ -1,9 +1,16 @@
 //! Trees of a list of rules, of which the nodes were counted.
 
+ghost use Rattle.std.specs.Prelude.{◌≡◌, true};
+ghost use Rattle.fws_flat.specs.Soundness.{flat_ok};
+ghost use Rattle.fws_ifcl.specs.Soundness.{ifcl_ok};
+ghost use Rattle.fws_ipt.specs.Soundness.{is_fitting};
 ghost use Rattle.fws_net.specs.Routes.{IsSound};
 
 use crate::tally::Tally;
 use fws_exec::execute_tree;
+use fws_flat::Flat;
+use fws_ifcl::Ifcl;
+use fws_ipt::IptConfig;
 use fws_ipt_ifcl::to_ifcl;
 use fws_ipt_read::read;
 use fws_net::{Outcome, ReadAnswer, Site, SiteAnswer, State, read_site};
@@ -64,25 +71,49 @@ fn rules_text(alloc: Global, rules: u32) -> Result<Text, Memory> {
     Ok(text)
 }
 
-/// The tree of what rules make of new packets; none where a text is refused.
-fn new_tree(alloc: Global, site: &Site, text: &[u8]) -> Result<Option<Tree<Outcome>>, Memory>
-    requires { IsSound site.now }
+/// Whether a tree has as many nodes and paths as were counted.
+fn is_counted(alloc: Global, tree: &Tree<Outcome>, counted: &Counted) -> Result<bool, Memory> {
+    Ok(tree.nodes() == counted.nodes && tree.paths(alloc)?.len() == counted.paths)
+}
+
+/// Whether the tree of what code makes of new packets has as many nodes and paths as were counted.
+fn code_agrees(alloc: Global, site: &Site, flat: &Flat, counted: &Counted) -> Result<bool, Memory>
+    requires sound { IsSound site.now }
+    requires ok { flat_ok flat.now ≡ true }
 {
-    let config = match read(alloc, text, site) {
-        Ok(config) => config,
-        Err(ReadAnswer::Memory) => return Err(Memory),
-        Err(ReadAnswer::Refused { .. }) => return Ok(None),
-    };
-    let diagram = to_ifcl(alloc, &config, site)?;
-    let flat = match unfold(alloc, &diagram) {
-        Ok(flat) => flat,
-        Err(UnfoldAnswer::Memory) => return Err(Memory),
-        Err(UnfoldAnswer::Loop(_) | UnfoldAnswer::Deep(_) | UnfoldAnswer::Long(_)) => {
-            return Ok(None);
-        }
-    };
-    let tree = execute_tree(alloc, &flat, site, State::Fresh)?;
-    Ok(Some(tree))
+    let tree = execute_tree(alloc, flat, site, State::Fresh)?;
+    is_counted(alloc, &tree, counted)
+}
+
+/// The same of the code of a diagram.
+fn diagram_agrees(
+    alloc: Global,
+    site: &Site,
+    diagram: &Ifcl,
+    counted: &Counted,
+) -> Result<bool, Memory>
+    requires sound { IsSound site.now }
+    requires ok { ifcl_ok diagram.now ≡ true }
+{
+    match unfold(alloc, diagram) {
+        Ok(flat) => code_agrees(alloc, site, &flat, counted),
+        Err(UnfoldAnswer::Memory) => Err(Memory),
+        Err(UnfoldAnswer::Loop(_) | UnfoldAnswer::Deep(_) | UnfoldAnswer::Long(_)) => Ok(false),
+    }
+}
+
+/// The same of the diagram of a configuration.
+fn config_agrees(
+    alloc: Global,
+    site: &Site,
+    config: &IptConfig,
+    counted: &Counted,
+) -> Result<bool, Memory>
+    requires sound { IsSound site.now }
+    requires fits { is_fitting config.now ≡ true }
+{
+    let diagram = to_ifcl(alloc, config, site)?;
+    diagram_agrees(alloc, site, &diagram, counted)
 }
 
 /// Whether the tree of so many rules has as many nodes and paths as were counted.
@@ -90,25 +121,30 @@ fn agrees(alloc: Global, site: &Site, counted: &Counted) -> Result<bool, Memory>
     requires { IsSound site.now }
 {
     let text = rules_text(alloc, counted.rules)?;
-    let Some(tree) = new_tree(alloc, site, text.as_slice())? else {
-        return Ok(false);
-    };
-    Ok(tree.nodes() == counted.nodes && tree.paths(alloc)?.len() == counted.paths)
+    match read(alloc, text.as_slice(), site) {
+        Ok(config) => config_agrees(alloc, site, &config, counted),
+        Err(ReadAnswer::Memory) => Err(Memory),
+        Err(ReadAnswer::Refused { .. }) => Ok(false),
+    }
+}
+
+/// Tries the trees of lists of rules at a site.
+fn try_at(alloc: Global, site: &Site, tally: &mut Tally) -> Result<(), Memory>
+    requires { IsSound site.now }
+{
+    for counted in &COUNTED {
+        tally.count(agrees(alloc, site, counted)?);
+    }
+    Ok(())
 }
 
 /// Tries the trees of lists of rules.
 pub fn try_counts(alloc: Global) -> Result<Tally, Memory> {
     let mut tally = Tally::new();
-    let site = match read_site(alloc, SITE) {
-        Ok(site) => site,
+    match read_site(alloc, SITE) {
+        Ok(site) => try_at(alloc, &site, &mut tally)?,
         Err(SiteAnswer::Memory) => return Err(Memory),
-        Err(SiteAnswer::Refused { .. }) => {
-            tally.count(false);
-            return Ok(tally);
-        }
-    };
-    for counted in &COUNTED {
-        tally.count(agrees(alloc, &site, counted)?);
+        Err(SiteAnswer::Refused { .. }) => tally.count(false),
     }
     Ok(tally)
 }

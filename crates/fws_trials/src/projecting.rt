@@ -1,9 +1,10 @@
 //! Where a tree is true somewhere in some of the fields.
 
 use crate::agreeing::has_values;
+use crate::changes::wanted_values;
 use crate::leaves::tag;
 use crate::points::{count_points, number_of, point_at};
-use crate::trial::Trial;
+use crate::trial::Given;
 use fws_box::Point;
 use fws_num::Memory;
 use fws_tree::Tree;
@@ -22,6 +23,35 @@ fn without(point: &Point, fields: u16) -> Point {
     left
 }
 
+/// So many truth values that are false.
+fn falses(alloc: Global, count: usize) -> Result<Vec<bool>, Memory> {
+    let mut falses = Vec::new(alloc);
+    for _ in 0..count {
+        falses.push(false)?;
+    }
+    Ok(falses)
+}
+
+/// Marks for each true value the number of its point with 0 in place of the fields.
+fn mark(found: &mut [bool], tops: &Point, values: &[bool], fields: u16) {
+    for (number, value) in values.iter().enumerate() {
+        let first = number_of(tops, &without(&point_at(tops, number), fields));
+        if *value && first < found.len() {
+            found[first] = true;
+        }
+    }
+}
+
+/// For each point whether it has a mark, with 0 in place of the fields.
+fn marked(alloc: Global, tops: &Point, found: &[bool], fields: u16) -> Result<Vec<bool>, Memory> {
+    let mut all = Vec::new(alloc);
+    for number in 0..count_points(tops) {
+        let first = number_of(tops, &without(&point_at(tops, number), fields));
+        all.push(found.get(first) == Some(&true))?;
+    }
+    Ok(all)
+}
+
 /// Where a point has this value that agrees in the other fields.
 fn somewhere(
     alloc: Global,
@@ -29,22 +59,9 @@ fn somewhere(
     values: &[bool],
     fields: u16,
 ) -> Result<Vec<bool>, Memory> {
-    let mut found = Vec::new(alloc);
-    for _ in values {
-        found.push(false)?;
-    }
-    for (number, value) in values.iter().enumerate() {
-        let first = number_of(tops, &without(&point_at(tops, number), fields));
-        if *value && first < found.len() {
-            found[first] = true;
-        }
-    }
-    let mut all = Vec::new(alloc);
-    for number in 0..count_points(tops) {
-        let first = number_of(tops, &without(&point_at(tops, number), fields));
-        all.push(found.get(first) == Some(&true))?;
-    }
-    Ok(all)
+    let mut found = falses(alloc, values.len())?;
+    mark(found.as_mut_slice(), tops, values, fields);
+    marked(alloc, tops, found.as_slice(), fields)
 }
 
 /// Whether the tree of these values is true somewhere in the fields where a value is.
@@ -60,18 +77,27 @@ fn agrees_in(
     Ok(has_values(&tree, tops, wanted.as_slice()))
 }
 
-/// Whether a tree is true somewhere in no field, in all, in those of the trial and in the others where it should be.
-pub fn exists_agrees(alloc: Global, trial: &Trial) -> Result<bool, Memory> {
-    let wanted = tag(1);
-    let tree = trial.tree(alloc)?.select(alloc, &wanted)?;
-    let mut values = Vec::new(alloc);
-    for value in trial.values(alloc)?.as_slice() {
-        values.push(*value == wanted)?;
-    }
-    for fields in [0, 0x0fff, trial.fields, trial.fields ^ 0x0fff] {
-        if !agrees_in(alloc, &trial.tops, &tree, values.as_slice(), fields)? {
+/// Whether a tree is true somewhere in no field, in all, in these and in the others where it should be.
+fn agrees_everywhere(
+    alloc: Global,
+    tops: &Point,
+    tree: &Tree<bool>,
+    values: &[bool],
+    chosen: u16,
+) -> Result<bool, Memory> {
+    for fields in [0, 0x0fff, chosen, chosen ^ 0x0fff] {
+        if !agrees_in(alloc, tops, tree, values, fields)? {
             return Ok(false);
         }
     }
     Ok(true)
+}
+
+/// Whether a tree is true somewhere in no field, in all, in those of the trial and in the others where it should be.
+pub fn exists_agrees(alloc: Global, given: &Given) -> Result<bool, Memory> {
+    let wanted = tag(1);
+    let tree = given.tree.select(alloc, &wanted)?;
+    let values = wanted_values(alloc, given.values, &wanted)?;
+    let trial = given.trial;
+    agrees_everywhere(alloc, &trial.tops, &tree, values.as_slice(), trial.fields)
 }

@@ -3,7 +3,7 @@
 use fws_num::{Memory, Text, put_dec};
 
 /// The cases of a group that were tried so far.
-#[derive(Drop)]
+#[derive(Clone, Copy)]
 pub struct Tally {
     tried: u64,
     agreeing: u64,

@@ -147,32 +147,51 @@ impl Trial {
             fields,
         })
     }
+}
 
-    /// The tree of the rows.
-    pub fn tree(&self, alloc: Global) -> Result<Tree<Tag>, Memory>
-        ensures { IfOk result (λ t. t.0 ≡ self.now.tops) }
-    {
-        self.rows.tree(alloc, &self.tops)
-    }
+/// A trial, with the tree of its rows and what these say.
+#[derive(Clone, Copy)]
+pub struct Given<'a> {
+    /// The trial.
+    pub trial: &'a Trial,
+    /// The tree of its rows.
+    pub tree: &'a Tree<Tag>,
+    /// What its rows say of each point within the tops, by the points' numbers.
+    pub values: &'a [Tag],
+}
 
-    /// What the rows say of each point within the tops, by the points' numbers.
-    pub fn values(&self, alloc: Global) -> Result<Vec<Tag>, Memory> {
-        self.rows.values(alloc, &self.tops)
+/// Whether what is tried agrees at what is given.
+fn agrees_at(alloc: Global, group: Group, given: &Given) -> Result<bool, Memory>
+    requires { given.now.tree.now.0 ≡ given.now.trial.now.tops }
+{
+    match group {
+        Group::Rows => Ok(rows_agree(given)),
+        Group::Paths => paths_agree(alloc, given),
+        Group::Shared => Ok(shared_agrees(given)),
+        Group::Restrict => restrict_agrees(alloc, given),
+        Group::Paint => paint_agrees(alloc, given),
+        Group::Select => select_agrees(alloc, given),
+        Group::Relabel => relabel_agrees(alloc, given),
+        Group::Pair => pair_agrees(alloc, given),
+        Group::Exists => exists_agrees(alloc, given),
+        Group::Recolour => canvas_agrees(alloc, given.trial),
     }
 }
 
-/// Whether what is tried agrees at the trees of a seed.
-pub fn agrees(alloc: Global, group: Group, trial: &Trial) -> Result<bool, Memory> {
-    match group {
-        Group::Rows => rows_agree(alloc, trial),
-        Group::Paths => paths_agree(alloc, trial),
-        Group::Shared => shared_agrees(alloc, trial),
-        Group::Restrict => restrict_agrees(alloc, trial),
-        Group::Paint => paint_agrees(alloc, trial),
-        Group::Select => select_agrees(alloc, trial),
-        Group::Relabel => relabel_agrees(alloc, trial),
-        Group::Pair => pair_agrees(alloc, trial),
-        Group::Exists => exists_agrees(alloc, trial),
-        Group::Recolour => canvas_agrees(alloc, trial),
-    }
+/// Whether what is tried agrees at a trial.
+fn agrees_in(alloc: Global, group: Group, trial: &Trial) -> Result<bool, Memory> {
+    let tree = trial.rows.tree(alloc, &trial.tops)?;
+    let values = trial.rows.values(alloc, &trial.tops)?;
+    let given = Given {
+        trial,
+        tree: &tree,
+        values: values.as_slice(),
+    };
+    agrees_at(alloc, group, &given)
+}
+
+/// Whether what is tried agrees at what a seed gives.
+pub fn agrees(alloc: Global, group: Group, seed: u64) -> Result<bool, Memory> {
+    let trial = Trial::new(alloc, seed)?;
+    agrees_in(alloc, group, &trial)
 }

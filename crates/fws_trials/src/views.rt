@@ -4,17 +4,15 @@ use crate::agreeing::{has_values, value_near};
 use crate::leaves::Tag;
 use crate::meaning::holds;
 use crate::points::{count_points, point_at};
-use crate::trial::Trial;
+use crate::trial::Given;
 use fws_box::Point;
 use fws_num::Memory;
 use fws_tree::{Kid, Node, Row, Shared};
 use std::alloc::Global;
 
 /// Whether the tree of the rows has what they say.
-pub fn rows_agree(alloc: Global, trial: &Trial) -> Result<bool, Memory> {
-    let tree = trial.tree(alloc)?;
-    let values = trial.values(alloc)?;
-    Ok(has_values(&tree, &trial.tops, values.as_slice()))
+pub fn rows_agree(given: &Given) -> bool {
+    has_values(given.tree, &given.trial.tops, given.values)
 }
 
 /// How many of the paths hold the point, where all that do have this leaf; else none.
@@ -31,17 +29,22 @@ fn paths_with(paths: &[Row<Tag>], point: &Point, leaf: &Tag) -> usize {
     count
 }
 
-/// Whether each point lies in one path, with its value.
-pub fn paths_agree(alloc: Global, trial: &Trial) -> Result<bool, Memory> {
-    let tree = trial.tree(alloc)?;
-    let paths = tree.paths(alloc)?;
-    for number in 0..count_points(&trial.tops) {
-        let point = point_at(&trial.tops, number);
-        if paths_with(paths.as_slice(), &point, value_near(&tree, &point)) != 1 {
-            return Ok(false);
+/// Whether each point lies in one of the paths, with its value.
+fn are_paths(given: &Given, paths: &[Row<Tag>]) -> bool {
+    let tops = &given.trial.tops;
+    for number in 0..count_points(tops) {
+        let point = point_at(tops, number);
+        if paths_with(paths, &point, value_near(given.tree, &point)) != 1 {
+            return false;
         }
     }
-    Ok(true)
+    true
+}
+
+/// Whether each point lies in one path of the tree, with its value.
+pub fn paths_agree(alloc: Global, given: &Given) -> Result<bool, Memory> {
+    let paths = given.tree.paths(alloc)?;
+    Ok(are_paths(given, paths.as_slice()))
 }
 
 /// The node of the kid that has a value.
@@ -102,16 +105,15 @@ fn leads_to(shared: &Shared<'_, Tag>, point: &Point, leaf: &Tag) -> bool {
 }
 
 /// Whether the nodes lead each point to its value, no two of them are equal, and they are counted.
-pub fn shared_agrees(alloc: Global, trial: &Trial) -> Result<bool, Memory> {
-    let tree = trial.tree(alloc)?;
-    let shared = tree.shared();
-    if tree.nodes() != shared.nodes.len() || !are_different(shared.nodes) {
-        return Ok(false);
+pub fn shared_agrees(given: &Given) -> bool {
+    let shared = given.tree.shared();
+    if given.tree.nodes() != shared.nodes.len() || !are_different(shared.nodes) {
+        return false;
     }
-    for (number, leaf) in trial.values(alloc)?.iter().enumerate() {
-        if !leads_to(&shared, &point_at(&trial.tops, number), leaf) {
-            return Ok(false);
+    for (number, leaf) in given.values.iter().enumerate() {
+        if !leads_to(&shared, &point_at(&given.trial.tops, number), leaf) {
+            return false;
         }
     }
-    Ok(true)
+    true
 }

@@ -3,18 +3,32 @@
 //! what a stage shows and ends with.
 
 use crate::rules::{Scope, chain_named, rules_of};
+use crate::shown::{WAYS, Way, shown_of};
 use crate::stop::Stop;
-use crate::values::decimal;
+use crate::words::decimal;
 use fws_ifcl::{Act, Chain, Ifcl, Rule, Stage};
 use fws_net::{Cond, Site};
-use fws_num::{Items, Line, Text, Word, put_dec};
+use fws_num::{Items, Line, Memory, Text, Word, put_dec, value_named};
 use std::alloc::Global;
 
 /// The name of a ladder's chain with this number.
-fn rung_name(alloc: Global, name: &Word, number: u32) -> Result<Text, Stop> {
+fn rung_name(alloc: Global, name: &Word, number: u32) -> Result<Text, Memory> {
     let mut rung = name.text.copy(alloc)?;
     put_dec(&mut rung, u64::from(number))?;
     Ok(rung)
+}
+
+/// Adds the names of so many chains of a ladder.
+fn put_rung_names(
+    alloc: Global,
+    names: &mut Items<Text>,
+    name: &Word,
+    count: u32,
+) -> Result<(), Memory> {
+    for number in 1..=count {
+        names.put(rung_name(alloc, name, number)?)?;
+    }
+    Ok(())
 }
 
 /// Adds the names of the chains of a line.
@@ -22,9 +36,7 @@ fn put_names(alloc: Global, names: &mut Items<Text>, line: &Line) -> Result<(), 
     match line.words.as_slice() {
         [kind, name, ..] if kind.is(b"chain") => names.put(name.text.copy(alloc)?)?,
         [kind, name, count, _] if kind.is(b"ladder") => {
-            for number in 1..=decimal(count.text.as_slice())? {
-                names.put(rung_name(alloc, name, number)?)?;
-            }
+            put_rung_names(alloc, names, name, decimal(count.text.as_slice())?)?;
         }
         _ => {}
     }
@@ -40,12 +52,8 @@ pub fn names_of(alloc: Global, lines: &[Line]) -> Result<Items<Text>, Stop> {
     Ok(names)
 }
 
-/// The rules of a ladder's chain: so many calls of the chain with the next name, and an accept where there is none.
-fn rung_rules(alloc: Global, scope: &Scope, next: &Text, times: u32) -> Result<Items<Rule>, Stop> {
-    let (act, times) = match chain_named(scope.chains, next.as_slice()) {
-        Ok(c) => (Act::Call(c), times),
-        Err(_) => (Act::Accept, 1),
-    };
+/// So many rules that hold always and do this.
+fn same_rules(alloc: Global, act: Act, times: u32) -> Result<Items<Rule>, Memory> {
     let mut rules = Items::new(alloc);
     for _ in 0..times {
         rules.put(Rule {
@@ -56,6 +64,35 @@ fn rung_rules(alloc: Global, scope: &Scope, next: &Text, times: u32) -> Result<I
     Ok(rules)
 }
 
+/// The rules of a ladder's chain: so many calls of the chain with the next name, and an accept where there is none.
+fn rung_rules(
+    alloc: Global,
+    scope: &Scope,
+    next: &Text,
+    times: u32,
+) -> Result<Items<Rule>, Memory> {
+    match chain_named(scope.chains, next.as_slice()) {
+        Ok(c) => same_rules(alloc, Act::Call(c), times),
+        Err(_) => same_rules(alloc, Act::Accept, 1),
+    }
+}
+
+/// The chain of a ladder with this number, which calls the next so often.
+fn rung(
+    alloc: Global,
+    scope: &Scope,
+    name: &Word,
+    number: u32,
+    times: u32,
+) -> Result<Chain, Memory> {
+    let next = rung_name(alloc, name, number.saturating_add(1))?;
+    let rules = rung_rules(alloc, scope, &next, times)?;
+    Ok(Chain {
+        name: rung_name(alloc, name, number)?,
+        rules,
+    })
+}
+
 /// Adds the chains of a ladder of so many, of which each calls the next so often.
 fn put_ladder(
     alloc: Global,
@@ -64,42 +101,52 @@ fn put_ladder(
     name: &Word,
     count: u32,
     times: u32,
-) -> Result<(), Stop> {
+) -> Result<(), Memory> {
     for number in 1..=count {
-        let next = rung_name(alloc, name, number.saturating_add(1))?;
-        chains.put(Chain {
-            name: rung_name(alloc, name, number)?,
-            rules: rung_rules(alloc, scope, &next, times)?,
-        })?;
+        chains.put(rung(alloc, scope, name, number, times)?)?;
     }
     Ok(())
 }
 
-/// The stage of these words: the name of a chain, and then `recv`, `xmit` or `outward` for what it shows, and `accept` or
-/// `drop` for its end.
+/// Adds a chain of this name with the rules of these words.
+fn put_chain(
+    alloc: Global,
+    scope: &Scope,
+    chains: &mut Items<Chain>,
+    name: &Word,
+    rules: &[Word],
+) -> Result<(), Stop> {
+    let rules = rules_of(alloc, scope, rules)?;
+    chains.put(Chain {
+        name: name.text.copy(alloc)?,
+        rules,
+    })?;
+    Ok(())
+}
+
+/// The stage of these words: the name of a chain, and what is shown.
 fn stage_of(scope: &Scope, words: &[Word]) -> Result<Stage, Stop> {
-    let [name, shown @ .., end] = words else {
+    let [name, shown @ ..] = words else {
         return Err(Stop::Malformed);
     };
-    let mut stage = Stage {
+    let shown = shown_of(shown)?;
+    Ok(Stage {
         chain: chain_named(scope.chains, name.text.as_slice())?,
-        shows_recv: false,
-        shows_xmit: false,
-        outward: false,
-        end: end.is(b"accept"),
-    };
-    if !stage.end && !end.is(b"drop") {
-        return Err(Stop::Malformed);
+        shows_recv: shown.recv,
+        shows_xmit: shown.xmit,
+        outward: shown.outward,
+        end: shown.end,
+    })
+}
+
+/// Adds a stage to a way.
+fn put_stage(diagram: &mut Ifcl, way: Way, stage: Stage) -> Result<(), Memory> {
+    match way {
+        Way::Arrive => diagram.arrive.put(stage),
+        Way::Deliver => diagram.deliver.put(stage),
+        Way::Forward => diagram.forward.put(stage),
+        Way::Send => diagram.send.put(stage),
     }
-    for word in shown {
-        match word.text.as_slice() {
-            b"recv" => stage.shows_recv = true,
-            b"xmit" => stage.shows_xmit = true,
-            b"outward" => stage.outward = true,
-            _ => return Err(Stop::Malformed),
-        }
-    }
-    Ok(stage)
 }
 
 /// Adds what a line says of the diagram; a line that says something else adds nothing.
@@ -107,26 +154,20 @@ fn put_line(alloc: Global, scope: &Scope, diagram: &mut Ifcl, line: &Line) -> Re
     let Some((kind, words)) = line.words.as_slice().split_first() else {
         return Ok(());
     };
-    match (kind.text.as_slice(), words) {
-        (b"chain", [name, rules @ ..]) => diagram.chains.put(Chain {
-            name: name.text.copy(alloc)?,
-            rules: rules_of(alloc, scope, rules)?,
-        })?,
-        (b"ladder", [name, count, times]) => put_ladder(
-            alloc,
-            scope,
-            &mut diagram.chains,
-            name,
-            decimal(count.text.as_slice())?,
-            decimal(times.text.as_slice())?,
-        )?,
-        (b"arrive", words) => diagram.arrive.put(stage_of(scope, words)?)?,
-        (b"deliver", words) => diagram.deliver.put(stage_of(scope, words)?)?,
-        (b"forward", words) => diagram.forward.put(stage_of(scope, words)?)?,
-        (b"send", words) => diagram.send.put(stage_of(scope, words)?)?,
-        _ => {}
+    if let Some(way) = value_named(&WAYS, kind.text.as_slice()) {
+        return Ok(put_stage(diagram, way, stage_of(scope, words)?)?);
     }
-    Ok(())
+    match words {
+        [name, rules @ ..] if kind.is(b"chain") => {
+            put_chain(alloc, scope, &mut diagram.chains, name, rules)
+        }
+        [name, count, times] if kind.is(b"ladder") => {
+            let count = decimal(count.text.as_slice())?;
+            let times = decimal(times.text.as_slice())?;
+            Ok(put_ladder(alloc, scope, &mut diagram.chains, name, count, times)?)
+        }
+        _ => Ok(()),
+    }
 }
 
 /// The diagram of these lines, whose chains have these names.

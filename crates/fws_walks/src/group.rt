@@ -1,148 +1,158 @@
-//! Groups of diagrams: the packets that go through them, and for each diagram its chains and stages and what it must do.
+//! Groups of cases: the packets that go through them, and the cases one behind the other.
 
 ghost use Rattle.fws_net.specs.Routes.{IsSound};
 
-use crate::case::{Drawn, Named, is_so};
-use crate::diagrams::{diagram_of, names_of};
+use crate::cases::{Scene, Tally, packets_of};
+use crate::rows::judge_code;
 use crate::stop::Stop;
-use crate::values::packet_of;
-use fws_ifcl::ifcl_ok;
-use fws_net::Site;
-use fws_num::{Comments, Items, Line, Memory, Text, put_dec, read_lines};
-use fws_unfold::{UnfoldAnswer, unfold_from};
+use crate::walks::judge_diagram;
+use fws_net::{Site, read_site};
+use fws_num::{Comments, Line, Memory, Text, put_dec, read_lines, value_named};
 use std::alloc::Global;
 
-/// How many diagrams there were, and how many of the lines on what they do agree.
-#[derive(Drop)]
-struct Tally {
-    diagrams: u64,
-    lines: u64,
-    agreeing: u64,
-    differing: Text,
+/// What the cases of a group are.
+#[derive(Clone, Copy)]
+enum Kind {
+    /// Diagrams.
+    Diagrams,
+    /// Flat codes.
+    Codes,
 }
 
-/// Whether a line begins with this word.
-fn is_kind(line: &Line, kind: &[u8]) -> bool {
-    match line.words.as_slice() {
-        [first, ..] => first.is(kind),
-        [] => false,
-    }
-}
+/// The names of kinds.
+const KINDS: [(&[u8], Kind); 2] = [(b"diagrams", Kind::Diagrams), (b"codes", Kind::Codes)];
 
-/// The packets of lines `packet NAME` and eight fields.
-fn packets_of(alloc: Global, site: &Site, lines: &[Line]) -> Result<Items<Named>, Stop> {
-    let mut packets = Items::new(alloc);
-    for line in lines {
-        match line.words.as_slice() {
-            [kind, name, fields @ ..] if kind.is(b"packet") => packets.put(Named {
-                name: name.text.copy(alloc)?,
-                packet: packet_of(site, fields)?,
-            })?,
-            _ => {}
+impl Kind {
+    /// Whether a line is a case's first one: `diagram NAME ..` or `code NAME ..`.
+    fn begins(self, line: &Line) -> bool {
+        match (self, line.words.as_slice()) {
+            (Kind::Diagrams, [first, ..]) => first.is(b"diagram"),
+            (Kind::Codes, [first, ..]) => first.is(b"code"),
+            _ => false,
         }
     }
-    Ok(packets)
 }
 
-/// The diagram of these lines, and what its unfolding gives.
-fn drawn_of(alloc: Global, site: &Site, lines: &[Line]) -> Result<Drawn, Stop> {
-    let names = names_of(alloc, lines)?;
-    let diagram = diagram_of(alloc, site, names.as_slice(), lines)?;
-    if !ifcl_ok(&diagram) {
-        return Err(Stop::Malformed);
+/// The lines ahead of the next case.
+fn until_next(kind: Kind, lines: &[Line]) -> &[Line] {
+    for at in 0..lines.len() {
+        if kind.begins(&lines[at]) {
+            return &lines[..at];
+        }
     }
-    let unfolded = unfold_from(alloc, &diagram);
-    match unfolded {
-        Err(UnfoldAnswer::Memory) => Err(Stop::Memory),
-        unfolded => Ok(Drawn {
-            names,
-            diagram,
-            unfolded,
-        }),
-    }
+    lines
 }
 
-/// Names a line that isn't so, by its number and the words of the diagram's first line.
-fn put_differing(out: &mut Text, head: &Line, line: &Line) -> Result<(), Memory> {
-    out.put(b"line ")?;
-    put_dec(out, u64::from(line.number))?;
-    out.put(b" differs in")?;
-    for word in head.words.as_slice() {
-        out.put(b" ")?;
-        out.put(word.text.as_slice())?;
-    }
-    out.put(b"\n")
-}
-
-/// Tries a diagram: the lines behind its first one, `diagram NAME ..`.
-fn judge_diagram(
+/// Tries the case of a first line and the lines behind it.
+fn judge_case(
     alloc: Global,
-    site: &Site,
-    packets: &[Named],
+    scene: &Scene,
+    kind: Kind,
     tally: &mut Tally,
     head: &Line,
     lines: &[Line],
 ) -> Result<(), Stop>
-    requires { IsSound site.now }
+    requires { IsSound scene.now.site.now }
 {
-    let drawn = drawn_of(alloc, site, lines)?;
-    tally.diagrams = tally.diagrams.saturating_add(1);
-    for line in lines {
-        if let Some(agrees) = is_so(alloc, site, packets, &drawn, line)? {
-            tally.lines = tally.lines.saturating_add(1);
-            if agrees {
-                tally.agreeing = tally.agreeing.saturating_add(1);
-            } else {
-                put_differing(&mut tally.differing, head, line)?;
+    tally.cases = tally.cases.saturating_add(1);
+    match kind {
+        Kind::Diagrams => judge_diagram(alloc, scene, tally, head, lines),
+        Kind::Codes => judge_code(alloc, scene, tally, head, lines),
+    }
+}
+
+/// Tries each case of the lines.
+fn judge_cases(
+    alloc: Global,
+    scene: &Scene,
+    kind: Kind,
+    tally: &mut Tally,
+    lines: &[Line],
+) -> Result<(), Stop>
+    requires { IsSound scene.now.site.now }
+{
+    for at in 0..lines.len() {
+        if let [head, rest @ ..] = &lines[at..] {
+            if kind.begins(head) {
+                judge_case(alloc, scene, kind, tally, head, until_next(kind, rest))?;
             }
         }
     }
     Ok(())
 }
 
-/// The lines ahead of the next diagram.
-fn until_next(lines: &[Line]) -> &[Line] {
-    lines
-        .split(|line: &Line| is_kind(line, b"diagram"))
-        .next()
-        .unwrap_or(&[])
+/// Adds a number and what it counts.
+fn put_count(out: &mut Text, count: u64, what: &[u8]) -> Result<(), Memory> {
+    out.put(b" ")?;
+    put_dec(out, count)?;
+    out.put(b" ")?;
+    out.put(what)
 }
 
-/// Tries the diagrams of a text, and says how many lines on what they do agree; the others are named.
-pub fn judge_group(alloc: Global, site: &Site, name: &Text, text: &[u8]) -> Result<Text, Stop>
+/// Adds how many diagrams there were, and how many of their lines agree.
+fn put_diagrams(out: &mut Text, tally: &Tally) -> Result<(), Memory> {
+    put_count(out, tally.cases, b"diagrams,")?;
+    put_count(out, tally.lines.saturating_sub(tally.differences), b"of")?;
+    put_count(out, tally.lines, b"agree\n")
+}
+
+/// Adds how many codes there were, what was tried of them, and how much differs.
+fn put_codes(out: &mut Text, tally: &Tally) -> Result<(), Memory> {
+    put_count(out, tally.cases, b"codes,")?;
+    put_count(out, tally.lines, b"packets,")?;
+    put_count(out, tally.rows, b"rows,")?;
+    put_count(out, tally.points, b"points,")?;
+    put_count(out, tally.differences, b"differences\n")
+}
+
+/// Adds a line for each difference, and one with the counts.
+fn put_tally(said: &mut Text, kind: Kind, name: &Text, tally: &Tally) -> Result<(), Memory> {
+    said.put(tally.differing.as_slice())?;
+    said.put(name.as_slice())?;
+    said.put(b":")?;
+    match kind {
+        Kind::Diagrams => put_diagrams(said, tally),
+        Kind::Codes => put_codes(said, tally),
+    }
+}
+
+/// Tries the cases of a text on a site, and adds what it found.
+fn judge_group(
+    alloc: Global,
+    said: &mut Text,
+    kind: Kind,
+    site: &Site,
+    name: &Text,
+    cases: &[u8],
+) -> Result<(), Stop>
     requires { IsSound site.now }
 {
-    let read = read_lines(alloc, Comments::HashLine, text)?;
+    let read = read_lines(alloc, Comments::HashLine, cases)?;
     let lines = read.lines.as_slice();
     let packets = packets_of(alloc, site, lines)?;
-    let mut tally = Tally {
-        diagrams: 0,
-        lines: 0,
-        agreeing: 0,
-        differing: Text::new(alloc),
+    let scene = Scene {
+        site,
+        packets: packets.as_slice(),
     };
-    for at in 0..lines.len() {
-        if let [head, rest @ ..] = &lines[at..] {
-            if is_kind(head, b"diagram") {
-                judge_diagram(
-                    alloc,
-                    site,
-                    packets.as_slice(),
-                    &mut tally,
-                    head,
-                    until_next(rest),
-                )?;
-            }
-        }
+    let mut tally = Tally::new(alloc);
+    judge_cases(alloc, &scene, kind, &mut tally, lines)?;
+    Ok(put_tally(said, kind, name, &tally)?)
+}
+
+/// Tries the cases of this kind of a text on the site of another, and adds what it found.
+pub fn judge_texts(
+    alloc: Global,
+    said: &mut Text,
+    kind: &[u8],
+    site: &[u8],
+    name: &Text,
+    cases: &[u8],
+) -> Result<(), Stop> {
+    let Some(kind) = value_named(&KINDS, kind) else {
+        return Err(Stop::Malformed);
+    };
+    match read_site(alloc, site) {
+        Ok(site) => judge_group(alloc, said, kind, &site, name, cases),
+        Err(_) => Err(Stop::Malformed),
     }
-    let mut said = tally.differing;
-    said.put(name.as_slice())?;
-    said.put(b": ")?;
-    put_dec(&mut said, tally.diagrams)?;
-    said.put(b" diagrams, ")?;
-    put_dec(&mut said, tally.agreeing)?;
-    said.put(b" of ")?;
-    put_dec(&mut said, tally.lines)?;
-    said.put(b" agree\n")?;
-    Ok(said)
 }

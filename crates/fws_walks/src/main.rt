@@ -1,20 +1,26 @@
 //! Walks packets through diagrams made by hand and through their flat code, and compares what becomes of them, and which
-//! rules they use, with what was worked out by hand; and tries diagrams that can't be unfolded. The command line has pairs
-//! of a site file and a file with a group of diagrams.
+//! rules they use, with what was worked out by hand; tries diagrams that can't be unfolded; and executes flat codes made
+//! by hand, and compares the rows with walks through the code. The command line has three words for each group: `diagrams`
+//! or `codes`, a site file, and a file with the group.
 #![tactic(auto)]
 
-mod case;
+mod cases;
+mod codes;
+mod conditions;
 mod diagrams;
 mod group;
+mod points;
+mod rows;
 mod rules;
+mod shown;
 mod stop;
-mod values;
+mod walks;
+mod words;
 
-use crate::group::judge_group;
+use crate::group::judge_texts;
 use crate::stop::Stop;
 use fws_io::{Shelf, StdShelf, StdSink, write_all};
-use fws_net::read_site;
-use fws_num::{Items, Text};
+use fws_num::{Items, Memory, Text};
 use std::alloc::Global;
 use std::env;
 use std::process::ExitCode;
@@ -23,6 +29,11 @@ use std::rt::{Env, Files};
 /// The most bytes of a file.
 const LIMIT: usize = 4_194_304;
 
+/// Adds a word.
+fn put_word(alloc: Global, words: &mut Items<Text>, word: &[u8]) -> Result<(), Memory> {
+    words.put(Text::of(alloc, word)?)
+}
+
 /// The words behind the program's name.
 fn take_words<R: Env + AllocGlobal>(rt: &R) -> Result<Items<Text>, Stop> {
     let Ok(arguments) = env::args(rt) else {
@@ -30,34 +41,43 @@ fn take_words<R: Env + AllocGlobal>(rt: &R) -> Result<Items<Text>, Stop> {
     };
     let mut words = Items::new(rt.alloc());
     for argument in arguments.skip(1) {
-        words.put(Text::of(rt.alloc(), argument.as_bytes())?)?;
+        put_word(rt.alloc(), &mut words, argument.as_bytes())?;
     }
     Ok(words)
 }
 
-/// Tries a group of diagrams on a site, and says what it found.
-fn try_group<S: Shelf>(
-    alloc: Global,
-    shelf: &mut S,
-    site: &Text,
-    group: &Text,
-) -> Result<Text, Stop> {
-    let text = shelf.read(alloc, site.as_slice(), LIMIT)?;
-    let Ok(site) = read_site(alloc, text.as_slice()) else {
-        return Err(Stop::Malformed);
-    };
-    let cases = shelf.read(alloc, group.as_slice(), LIMIT)?;
-    judge_group(alloc, &site, group, cases.as_slice())
+/// The bytes of a file.
+fn read<S: Shelf>(alloc: Global, shelf: &mut S, name: &Text) -> Result<Text, Stop> {
+    Ok(shelf.read(alloc, name.as_slice(), LIMIT)?)
 }
 
-/// Tries the groups of the words, two words for each, and says what was found.
+/// Tries a group on a site, and adds what it found.
+fn put_group<S: Shelf>(
+    alloc: Global,
+    shelf: &mut S,
+    said: &mut Text,
+    words: &[Text],
+) -> Result<(), Stop> {
+    let [kind, site, group] = words else {
+        return Err(Stop::Malformed);
+    };
+    let site = read(alloc, shelf, site)?;
+    let cases = read(alloc, shelf, group)?;
+    judge_texts(
+        alloc,
+        said,
+        kind.as_slice(),
+        site.as_slice(),
+        group,
+        cases.as_slice(),
+    )
+}
+
+/// Tries the groups of the words, three words for each, and says what was found.
 fn try_groups<S: Shelf>(alloc: Global, shelf: &mut S, words: &[Text]) -> Result<Text, Stop> {
     let mut said = Text::new(alloc);
-    for pair in words.chunks(2) {
-        let [site, group] = pair else {
-            return Err(Stop::Malformed);
-        };
-        said.put(try_group(alloc, shelf, site, group)?.as_slice())?;
+    for group in words.chunks(3) {
+        put_group(alloc, shelf, &mut said, group)?;
     }
     Ok(said)
 }
@@ -65,10 +85,8 @@ fn try_groups<S: Shelf>(alloc: Global, shelf: &mut S, words: &[Text]) -> Result<
 /// Tries the groups of the command line, and writes what was found.
 fn walk_all<R: Env + Files + Print + AllocGlobal>(rt: &R) -> Result<(), Stop> {
     let words = take_words(rt)?;
-    let mut shelf = StdShelf::new(rt);
-    let said = try_groups(rt.alloc(), &mut shelf, words.as_slice())?;
-    let mut sink = StdSink::new(rt);
-    match write_all(&mut sink, said.as_slice()) {
+    let said = try_groups(rt.alloc(), &mut StdShelf::new(rt), words.as_slice())?;
+    match write_all(&mut StdSink::new(rt), said.as_slice()) {
         Ok(()) => Ok(()),
         Err(_) => Err(Stop::Unread),
     }

@@ -1,10 +1,12 @@
 //! Rules as words spell them: `LITERAL .. -> ACT`, or the act alone.
 
+use crate::conditions::{condition_of, halves};
 use crate::stop::Stop;
-use crate::values::{decimal, end_of, set_of};
+use crate::words::{decimal, end_of};
+use fws_flat::FlatAct;
 use fws_ifcl::{Act, Rule};
-use fws_net::{Cond, Lit, Site, Test};
-use fws_num::{Items, Text, Word, split_once};
+use fws_net::Site;
+use fws_num::{Items, Text, Word, value_named};
 use std::alloc::Global;
 
 /// What the names in a diagram stand for.
@@ -15,6 +17,40 @@ pub struct Scope<'a> {
     /// The names of the chains, in their order.
     pub chains: &'a [Text],
 }
+
+/// What an act does, and what its value is.
+#[derive(Clone, Copy)]
+enum Does {
+    /// It has no value.
+    Plain(Act),
+    Call,
+    Goto,
+    Skip,
+    Src,
+    Dst,
+    AddTag,
+    OnlyTag,
+    DelTag,
+}
+
+/// The names of acts.
+const ACTS: [(&[u8], Does); 15] = [
+    (b"accept", Does::Plain(Act::Accept)),
+    (b"drop", Does::Plain(Act::Drop)),
+    (b"hold-accept", Does::Plain(Act::Hold(true))),
+    (b"hold-drop", Does::Plain(Act::Hold(false))),
+    (b"return", Does::Plain(Act::Return)),
+    (b"rec-src", Does::Plain(Act::RecSrc)),
+    (b"rec-dst", Does::Plain(Act::RecDst)),
+    (b"call", Does::Call),
+    (b"goto", Does::Goto),
+    (b"skip", Does::Skip),
+    (b"src", Does::Src),
+    (b"dst", Does::Dst),
+    (b"add-tag", Does::AddTag),
+    (b"only-tag", Does::OnlyTag),
+    (b"del-tag", Does::DelTag),
+];
 
 /// The number of the chain with this name.
 pub fn chain_named(chains: &[Text], name: &[u8]) -> Result<u32, Stop> {
@@ -28,86 +64,59 @@ pub fn chain_named(chains: &[Text], name: &[u8]) -> Result<u32, Stop> {
     Err(Stop::Malformed)
 }
 
-/// The test of this name with its values.
-fn test_of(alloc: Global, site: &Site, name: &[u8], values: &[u8]) -> Result<Test, Stop> {
-    Ok(match name {
-        b"src" => Test::Src(set_of(alloc, site, values)?),
-        b"dst" => Test::Dst(set_of(alloc, site, values)?),
-        b"sport" => Test::Sport(set_of(alloc, site, values)?),
-        b"dport" => Test::Dport(set_of(alloc, site, values)?),
-        b"proto" => Test::Proto(set_of(alloc, site, values)?),
-        b"recv" => Test::Recv(set_of(alloc, site, values)?),
-        b"xmit" => Test::Xmit(set_of(alloc, site, values)?),
-        b"via" => Test::Via(set_of(alloc, site, values)?),
-        b"tag" => Test::Tag(decimal(values)?),
-        b"outward" => Test::Outward,
-        b"est" => Test::Est,
-        b"never" => Test::Never,
-        _ => return Err(Stop::Malformed),
-    })
-}
-
-/// The literal `NAME` or `NAME=VALUES`, which `!` ahead negates.
-fn literal_of(alloc: Global, site: &Site, text: &[u8]) -> Result<Lit, Stop> {
-    let (not, text) = match text {
-        [b'!', rest @ ..] => (true, rest),
-        _ => (false, text),
-    };
-    let (name, values) = split_once(text, b'=').unwrap_or((text, b""));
-    Ok(Lit {
-        not,
-        test: test_of(alloc, site, name, values)?,
-    })
+/// The act of this name with its value.
+fn act_named(chains: &[Text], name: &[u8], value: &[u8]) -> Result<Act, Stop> {
+    match value_named(&ACTS, name) {
+        Some(Does::Plain(act)) => Ok(act),
+        Some(Does::Call) => Ok(Act::Call(chain_named(chains, value)?)),
+        Some(Does::Goto) => Ok(Act::Goto(chain_named(chains, value)?)),
+        Some(Does::Skip) => Ok(Act::Skip(decimal(value)?)),
+        Some(Does::Src) => Ok(Act::Src(end_of(value)?)),
+        Some(Does::Dst) => Ok(Act::Dst(end_of(value)?)),
+        Some(Does::AddTag) => Ok(Act::AddTag(decimal(value)?)),
+        Some(Does::OnlyTag) => Ok(Act::OnlyTag(decimal(value)?)),
+        Some(Does::DelTag) => Ok(Act::DelTag(decimal(value)?)),
+        None => Err(Stop::Malformed),
+    }
 }
 
 /// The act of a name and a value.
 fn act_of(chains: &[Text], words: &[Word]) -> Result<Act, Stop> {
-    let (name, value): (&Word, &[u8]) = match words {
-        [name] => (name, b""),
-        [name, value] => (name, value.text.as_slice()),
-        _ => return Err(Stop::Malformed),
-    };
-    Ok(match name.text.as_slice() {
-        b"accept" => Act::Accept,
-        b"drop" => Act::Drop,
-        b"hold-accept" => Act::Hold(true),
-        b"hold-drop" => Act::Hold(false),
-        b"call" => Act::Call(chain_named(chains, value)?),
-        b"goto" => Act::Goto(chain_named(chains, value)?),
-        b"return" => Act::Return,
-        b"skip" => Act::Skip(decimal(value)?),
-        b"src" => Act::Src(end_of(value)?),
-        b"dst" => Act::Dst(end_of(value)?),
-        b"rec-src" => Act::RecSrc,
-        b"rec-dst" => Act::RecDst,
-        b"add-tag" => Act::AddTag(decimal(value)?),
-        b"only-tag" => Act::OnlyTag(decimal(value)?),
-        b"del-tag" => Act::DelTag(decimal(value)?),
-        _ => return Err(Stop::Malformed),
-    })
+    match words {
+        [name] => act_named(chains, name.text.as_slice(), b""),
+        [name, value] => act_named(chains, name.text.as_slice(), value.text.as_slice()),
+        _ => Err(Stop::Malformed),
+    }
 }
 
-/// The words of the literals, and those of the act.
-fn halves(words: &[Word]) -> (&[Word], &[Word]) {
-    let mut parts = words.split(|word: &Word| word.is(b"->"));
-    let first = parts.next().unwrap_or(&[]);
-    match parts.next() {
-        Some(act) => (first, act),
-        None => (&[], first),
+/// The act of flat code `jump PLACE`, or one that rules have too.
+pub fn flat_act_of(words: &[Word]) -> Result<FlatAct, Stop> {
+    if let [name, place] = words {
+        if name.is(b"jump") {
+            return Ok(FlatAct::Jump(decimal(place.text.as_slice())?));
+        }
+    }
+    match act_of(&[], words)? {
+        Act::Accept => Ok(FlatAct::Accept),
+        Act::Drop => Ok(FlatAct::Drop),
+        Act::Hold(accepts) => Ok(FlatAct::Hold(accepts)),
+        Act::Src(end) => Ok(FlatAct::Src(end)),
+        Act::Dst(end) => Ok(FlatAct::Dst(end)),
+        Act::RecSrc => Ok(FlatAct::RecSrc),
+        Act::RecDst => Ok(FlatAct::RecDst),
+        Act::AddTag(tag) => Ok(FlatAct::AddTag(tag)),
+        Act::OnlyTag(tag) => Ok(FlatAct::OnlyTag(tag)),
+        Act::DelTag(tag) => Ok(FlatAct::DelTag(tag)),
+        Act::Call(_) | Act::Goto(_) | Act::Return | Act::Skip(_) => Err(Stop::Malformed),
     }
 }
 
 /// The rule of these words.
 fn rule_of(alloc: Global, scope: &Scope, words: &[Word]) -> Result<Rule, Stop> {
     let (literals, act) = halves(words);
-    let mut cond = Cond::new(alloc);
-    for word in literals {
-        cond.put(literal_of(alloc, scope.site, word.text.as_slice())?)?;
-    }
-    Ok(Rule {
-        cond,
-        act: act_of(scope.chains, act)?,
-    })
+    let act = act_of(scope.chains, act)?;
+    let cond = condition_of(alloc, scope.site, literals)?;
+    Ok(Rule { cond, act })
 }
 
 /// Adds the rule of these words, so often as `N times` ahead of it says.
@@ -130,11 +139,10 @@ fn put_rules(
 /// The rules of these words, between which `;` stands.
 pub fn rules_of(alloc: Global, scope: &Scope, words: &[Word]) -> Result<Items<Rule>, Stop> {
     let mut rules = Items::new(alloc);
-    if words.is_empty() {
-        return Ok(rules);
-    }
-    for rule in words.split(|word: &Word| word.is(b";")) {
-        put_rules(alloc, scope, &mut rules, rule)?;
+    if !words.is_empty() {
+        for rule in words.split(|word: &Word| word.is(b";")) {
+            put_rules(alloc, scope, &mut rules, rule)?;
+        }
     }
     Ok(rules)
 }

@@ -4,7 +4,7 @@ use fws_io::ShelfAnswer;
 use fws_num::Memory;
 
 /// Why a job can't be done.
-#[derive(Clone, Copy, Debug, PartialEq, Eq)]
+#[derive(Clone, Copy)]
 pub enum Stop {
     /// Memory was wanting.
     Memory,

@@ -1,7 +1,7 @@
 //! Points at the ends of a row's intervals.
 
 use crate::stop::Stop;
-use crate::values::{byte, short};
+use crate::words::{byte, short};
 use fws_box::Point;
 use fws_iv::Ivs;
 use fws_net::{Kind, Outcome, Packet, Rec, State};
@@ -76,21 +76,9 @@ impl Ends {
         self.choices().min(MOST)
     }
 
-    /// The point that has of each field the end with this number, counted round.
-    fn abreast(&self, number: u64) -> Point {
-        let mut point = [0; 12];
-        for (place, ends) in self.fields.as_slice().iter().take(12).enumerate() {
-            let ends = ends.as_slice();
-            let length = ends.len().max(1) as u64;
-            if let Some(end) = ends.get((number % length) as usize) {
-                point[place] = *end;
-            }
-        }
-        point
-    }
-
-    /// The point of the choice with this number.
-    fn chosen(&self, number: u64) -> Point {
+    /// The point of the choice with this number; or where the ends go abreast, the one that has of each field the end with
+    /// this number, counted round.
+    fn chosen(&self, number: u64, abreast: bool) -> Point {
         let mut left = number;
         let mut point = [0; 12];
         for (place, ends) in self.fields.as_slice().iter().take(12).enumerate() {
@@ -99,7 +87,9 @@ impl Ends {
             if let Some(end) = ends.get((left % length) as usize) {
                 point[place] = *end;
             }
-            left /= length;
+            if !abreast {
+                left /= length;
+            }
         }
         point
     }
@@ -119,9 +109,9 @@ impl Ends {
     /// points that have each end of each field, and then choices that are spread evenly over all.
     pub fn point_at(&self, index: u64) -> Point {
         if self.choices() > MOST && index < self.longest() {
-            self.abreast(index)
+            self.chosen(index, true)
         } else {
-            self.chosen(self.spread(index))
+            self.chosen(self.spread(index), false)
         }
     }
 }
