@@ -10,32 +10,22 @@ use Rattle.fws_net.specs.Points.{tops_of}
 use Rattle.fws_tree.specs.Changed.{Agree}
 use Rattle.fws_tree.specs.Plain.{Plain, value}
 use Rattle.fws_place.specs.Apart.{flags_alone, AreTrueNear, NoneTrueNear}
-use Rattle.fws_place.specs.ByAck.{acknowledges, acknowledges_as, arrives_at, is_found, AreAheadAt, AreToldByMore}
+use Rattle.fws_place.specs.ByAck.{acknowledges, acknowledges_as, arrives_at, is_found, AreAheadAt, AreFalseNear, AreToldByMore}
 use Rattle.fws_place.proofs.FieldSides.{kept_back, kept_true}
 use Rattle.fws_place.proofs.PairPoints.{within_top}
 use Rattle.fws_place.proofs.Passing.{from_one}
 use Rattle.fws_place.proofs.Viewing.{some_once}
 
 -- what trees have that are made of another one
-abbrev pub IsKeptWhere : List ℕ → (List ℕ → Bool) → Plain Bool → Plain Bool → Type 0
-IsKeptWhere tops test t u = (q : List ℕ) → IsWithin tops q → value u q ≡ (if test q then value t q else Some false)
+abbrev pub IsKept : List ℕ → (List ℕ → Bool) → (List ℕ → Option Bool) → Plain Bool → Type 0
+IsKept tops test v u = (q : List ℕ) → IsWithin tops q → value u q ≡ (if test q then v q else Some false)
 
-abbrev pub IsOther : List ℕ → Plain Bool → Plain Bool → Type 0
-IsOther tops t u = (q : List ℕ) → IsWithin tops q → (b : Bool) × (value t q ≡ Some b) × (value u q ≡ Some (not b))
+abbrev pub IsKeptWhere : List ℕ → (List ℕ → Bool) → Plain Bool → Plain Bool → Type 0
+IsKeptWhere tops test t u = IsKept tops test (λ q. value t q) u
 
 -- flags as they are asked
 abbrev pub flags_pass : Bool → List ℕ → Bool
 flags_pass asked q = acknowledges_as asked (slice_index q 6)
-
-other_true : (tops : List ℕ) (t u : Plain Bool) (q : List ℕ) → IsOther tops t u → IsWithin tops q → value u q ≡ Some true → value t q ≡ Some false
-other_true tops t u q other w e =
-    let here = other q w in
-    here.1 ∙ ap Some (not-true here.0 (some_once (not here.0) true (sym here.2 ∙ e)))
-
-other_back : (tops : List ℕ) (t u : Plain Bool) (q : List ℕ) → IsOther tops t u → IsWithin tops q → value t q ≡ Some false → value u q ≡ Some true
-other_back tops t u q other w e =
-    let here = other q w in
-    here.2 ∙ ap Some (not_from_false here.0 (some_once here.0 false (sym here.1 ∙ e)))
 
 -- of points that agree in all but flags either both arrive or neither
 pub both_arrive : (p q : List ℕ) → Agree flags_alone p q → arrives_at p ≡ true → arrives_at q ≡ true
@@ -43,48 +33,71 @@ both_arrive p q near e = ap (λ x. not (nat_eq x 0)) (sym (near 0 refl)) ∙ e
 
 -- Flags that tell more
 
-pub told_found : (asked : Bool) (tops : List ℕ) (t arriving first other second : Plain Bool) → IsKeptWhere tops arrives_at t arriving → IsKeptWhere tops (flags_pass asked) arriving first
-    → IsOther tops t other → IsKeptWhere tops (flags_pass asked) other second → (p q : List ℕ) → AreTrueNear flags_alone tops first second p q → AreToldByMore asked tops t p q
-told_found asked tops t arriving first other second ar fi ot se p q h =
-    let w = h.first.0 in
-    let v = h.second.0 in
-    let a = kept_true (flags_pass asked p) (value arriving p) (value first p) (fi p w) h.first.1 in
-    let b = kept_true (arrives_at p) (value t p) (value arriving p) (ar p w) a.1 in
-    let c = kept_true (flags_pass asked q) (value other q) (value second q) (se q v) h.second.1 in
-    record {
-      first = (w, b.1);
-      within = v;
-      second = other_true tops t other q ot v c.1;
-      arrives = b.0;
-      flags = a.0;
-      other_flags = c.0;
-      near = h.near;
-    }
+-- what the trees of the first and of the second points have
+abbrev pub IsArrivingWith : Bool → List ℕ → Plain Bool → Plain Bool → Type 0
+IsArrivingWith asked tops t first = IsKept tops (flags_pass asked) (λ q. if arrives_at q then value t q else Some false) first
 
-pub told_none : (asked : Bool) (tops : List ℕ) (t arriving first other second : Plain Bool) → IsKeptWhere tops arrives_at t arriving → IsKeptWhere tops (flags_pass asked) arriving first
-    → IsOther tops t other → IsKeptWhere tops (flags_pass asked) other second → NoneTrueNear flags_alone tops first second → (p q : List ℕ) → AreToldByMore asked tops t p q → ⊥
-told_none asked tops t arriving first other second ar fi ot se none p q h =
-    let w = h.first.0 in
-    let v = h.within in
-    none p q (record {
-      first = (
-        w,
-        kept_back (flags_pass asked p) (value arriving p) (value first p) (fi p w) h.flags
-            (kept_back (arrives_at p) (value t p) (value arriving p) (ar p w) h.arrives h.first.1),
-      );
-      second = (v, kept_back (flags_pass asked q) (value other q) (value second q) (se q v) h.other_flags (other_back tops t other q ot v h.second));
-      near = h.near;
-    })
+abbrev pub IsFalseWith : Bool → List ℕ → Plain Bool → Plain Bool → Type 0
+IsFalseWith asked tops t second = (q : List ℕ) → IsWithin tops q → (b : Bool) × (value t q ≡ Some b) × (value second q ≡ (if flags_pass asked q then Some (not b) else Some false))
+
+false_there : (asked : Bool) (tops : List ℕ) (t second : Plain Bool) → IsFalseWith asked tops t second → (q : List ℕ) → IsWithin tops q → value second q ≡ Some true
+    → (flags_pass asked q ≡ true) × (value t q ≡ Some false)
+false_there asked tops t second se q v e =
+    let here = se q v in
+    let c = kept_true (flags_pass asked q) (Some (not here.0)) (value second q) here.2 e in
+    (c.0, here.1 ∙ ap Some (not-true here.0 (some_once (not here.0) true c.1)))
+
+false_back : (asked : Bool) (tops : List ℕ) (t second : Plain Bool) → IsFalseWith asked tops t second → (q : List ℕ) → IsWithin tops q → flags_pass asked q ≡ true → value t q ≡ Some false
+    → value second q ≡ Some true
+false_back asked tops t second se q v flags e =
+    let here = se q v in
+    kept_back (flags_pass asked q) (Some (not here.0)) (value second q) here.2 flags (ap Some (not_from_false here.0 (some_once here.0 false (sym here.1 ∙ e))))
+
+-- no two points are such
+abbrev pub NoneFalseNear : Bool → List ℕ → Plain Bool → Plain Bool → Type 0
+NoneFalseNear asked tops t u = (p q : List ℕ) → AreFalseNear asked tops t u p q → ⊥
+
+-- what was found where the one tree is true and the other false
+pub false_sought : (asked : Bool) (tops others : List ℕ) (t u second : Plain Bool) → others ≡ tops → IsFalseWith asked tops u second → (found : Option (List ℕ × List ℕ))
+    → MatchOption found (NoneTrueNear flags_alone others t second) (λ pair. AreTrueNear flags_alone others t second pair.0 pair.1)
+    → MatchOption found (NoneFalseNear asked tops t u) (λ pair. AreFalseNear asked tops t u pair.0 pair.1)
+false_sought asked tops others t u second e se None h = λ p q near.
+    let none : NoneTrueNear flags_alone tops t second = subst (λ ts. NoneTrueNear flags_alone ts t second) e h in
+    none p q (record { first = near.first; second = (near.within, false_back asked tops u second se q near.within near.flags near.second); near = near.near })
+false_sought asked tops others t u second e se (Some pair) h =
+    let near : AreTrueNear flags_alone tops t second pair.0 pair.1 = subst (λ ts. AreTrueNear flags_alone ts t second pair.0 pair.1) e h in
+    let c = false_there asked tops u second se pair.1 near.second.0 near.second.1 in
+    record { first = near.first; within = near.second.0; second = c.1; flags = c.0; near = near.near }
 
 -- what was found
-pub told_sought : (asked : Bool) (tops others : List ℕ) (t arriving first other second : Plain Bool) → others ≡ tops → IsKeptWhere tops arrives_at t arriving
-    → IsKeptWhere tops (flags_pass asked) arriving first → IsOther tops t other → IsKeptWhere tops (flags_pass asked) other second → (found : Option (List ℕ × List ℕ))
-    → MatchOption found (NoneTrueNear flags_alone others first second) (λ pair. AreTrueNear flags_alone others first second pair.0 pair.1)
+pub told_sought : (asked : Bool) (tops : List ℕ) (t first : Plain Bool) → IsArrivingWith asked tops t first → (found : Option (List ℕ × List ℕ))
+    → MatchOption found (NoneFalseNear asked tops first t) (λ pair. AreFalseNear asked tops first t pair.0 pair.1)
     → MatchOption found ((p q : List ℕ) → AreToldByMore asked tops t p q → ⊥) (λ pair. AreToldByMore asked tops t pair.0 pair.1)
-told_sought asked tops others t arriving first other second e ar fi ot se None h =
-    told_none asked tops t arriving first other second ar fi ot se (subst (λ ts. NoneTrueNear flags_alone ts first second) e h)
-told_sought asked tops others t arriving first other second e ar fi ot se (Some pair) h =
-    told_found asked tops t arriving first other second ar fi ot se pair.0 pair.1 (subst (λ ts. AreTrueNear flags_alone ts first second pair.0 pair.1) e h)
+told_sought asked tops t first fi None none = λ p q h.
+    let w = h.first.0 in
+    let arriving : Option Bool = if arrives_at p then value t p else Some false in
+    none p q (record {
+      first = (w, kept_back (flags_pass asked p) arriving (value first p) (fi p w) h.flags (kept_back (arrives_at p) (value t p) arriving refl h.arrives h.first.1));
+      within = h.within;
+      second = h.second;
+      flags = h.other_flags;
+      near = h.near;
+    })
+told_sought asked tops t first fi (Some pair) h =
+    let p : List ℕ = pair.0 in
+    let w = h.first.0 in
+    let arriving : Option Bool = if arrives_at p then value t p else Some false in
+    let a = kept_true (flags_pass asked p) arriving (value first p) (fi p w) h.first.1 in
+    let b = kept_true (arrives_at p) (value t p) arriving refl a.1 in
+    record {
+      first = (w, b.1);
+      within = h.within;
+      second = h.second;
+      arrives = b.0;
+      flags = a.0;
+      other_flags = h.flags;
+      near = h.near;
+    }
 
 -- either as it is asked
 pub told_either : (tops : List ℕ) (t : Plain Bool) (found : Option (List ℕ × List ℕ)) → ((p q : List ℕ) → AreToldByMore true tops t p q → ⊥)
@@ -99,74 +112,69 @@ told_either tops t (Some pair) none h = (false, h)
 
 -- Packets that are accepted without ACK and RST
 
+-- a packet of TCP arrives and isn't lost
+abbrev pub is_first_test : Site → List ℕ → Bool
+is_first_test site q = arrives_at q && (nat_eq (slice_index q 1) 6 && is_found site (slice_index q 2))
+
 -- what the tree of the first points has
 abbrev pub IsFirstOf : Site → Plain Bool → Plain Bool → Plain Bool → Type 0
 IsFirstOf site sometimes new such = (q : List ℕ) → IsWithin (tops_of site) q
+    → (a : Bool) × (b : Bool) × (value sometimes q ≡ Some a) × (value new q ≡ Some b) × (value such q ≡ (if is_first_test site q then Some (a && not b) else Some false))
+
+-- and that of those with ACK or RST
+abbrev pub IsFirstWithAck : Site → Plain Bool → Plain Bool → Plain Bool → Type 0
+IsFirstWithAck site sometimes new first = (q : List ℕ) → IsWithin (tops_of site) q
     → (a : Bool) × (b : Bool) × (value sometimes q ≡ Some a) × (value new q ≡ Some b)
-    × (value such q ≡ (if arrives_at q && (nat_eq (slice_index q 1) 6 && is_found site (slice_index q 2)) then Some (a && not b) else Some false))
+    × (value first q ≡ (if flags_pass true q then (if is_first_test site q then Some (a && not b) else Some false) else Some false))
 
-pub ahead_found : (site : Site) (sometimes new such first never second : Plain Bool) → IsFirstOf site sometimes new such → IsKeptWhere (tops_of site) (flags_pass true) such first
-    → IsOther (tops_of site) sometimes never → IsKeptWhere (tops_of site) (flags_pass false) never second → (p q : List ℕ)
-    → AreTrueNear flags_alone (tops_of site) first second p q → AreAheadAt site sometimes new p q
-ahead_found site sometimes new such first never second su fi ne se p q h =
+pub ahead_sought : (site : Site) (sometimes new first : Plain Bool) → IsFirstWithAck site sometimes new first → (found : Option (List ℕ × List ℕ))
+    → MatchOption found (NoneFalseNear false (tops_of site) first sometimes) (λ pair. AreFalseNear false (tops_of site) first sometimes pair.0 pair.1)
+    → MatchOption found ((p q : List ℕ) → AreAheadAt site sometimes new p q → ⊥) (λ pair. AreAheadAt site sometimes new pair.0 pair.1)
+ahead_sought site sometimes new first fi None none = λ p q h.
     let w = h.first.0 in
-    let v = h.second.0 in
-    let here = su p w in
+    let here = fi p w in
     let test : Bool = nat_eq (slice_index p 1) 6 && is_found site (slice_index p 2) in
-    let a = kept_true (flags_pass true p) (value such p) (value first p) (fi p w) h.first.1 in
-    let b = kept_true (arrives_at p && test) (Some (here.0 && not here.1)) (value such p) here.4 a.1 in
-    let tests = and_parts (arrives_at p) test b.0 in
-    let more = and_parts (nat_eq (slice_index p 1) 6) (is_found site (slice_index p 2)) tests.1 in
-    let both = and_parts here.0 (not here.1) (some_once (here.0 && not here.1) true b.1) in
-    let c = kept_true (flags_pass false q) (value never q) (value second q) (se q v) h.second.1 in
-    record {
-      first = (w, here.2 ∙ ap Some both.0);
-      dropped = here.3 ∙ ap Some (not-true here.1 both.1);
-      within = v;
-      never = other_true (tops_of site) sometimes never q ne v c.1;
-      arrives = tests.0;
-      tcp = more.0;
-      found = more.1;
-      flags = a.0;
-      other_flags = not-true (acknowledges (slice_index q 6)) c.0;
-      near = h.near;
-    }
-
-pub ahead_none : (site : Site) (sometimes new such first never second : Plain Bool) → IsFirstOf site sometimes new such → IsKeptWhere (tops_of site) (flags_pass true) such first
-    → IsOther (tops_of site) sometimes never → IsKeptWhere (tops_of site) (flags_pass false) never second → NoneTrueNear flags_alone (tops_of site) first second
-    → (p q : List ℕ) → AreAheadAt site sometimes new p q → ⊥
-ahead_none site sometimes new such first never second su fi ne se none p q h =
-    let w = h.first.0 in
-    let v = h.within in
-    let here = su p w in
-    let test : Bool = nat_eq (slice_index p 1) 6 && is_found site (slice_index p 2) in
+    let alone : Option Bool = Some (here.0 && not here.1) in
+    let such : Option Bool = if arrives_at p && test then alone else Some false in
     let on : here.0 ≡ true = some_once here.0 true (sym here.2 ∙ h.first.1) in
     let off : here.1 ≡ false = some_once here.1 false (sym here.3 ∙ h.dropped) in
     none p q (record {
       first = (
         w,
-        kept_back (flags_pass true p) (value such p) (value first p) (fi p w) h.flags
-            (kept_back (arrives_at p && test) (Some (here.0 && not here.1)) (value such p) here.4
+        kept_back (flags_pass true p) such (value first p) here.4 h.flags
+            (kept_back (arrives_at p && test) alone such refl
             (and_from (arrives_at p) test h.arrives (and_from (nat_eq (slice_index p 1) 6) (is_found site (slice_index p 2)) h.tcp h.found))
             (ap Some (and_from here.0 (not here.1) on (not_from_false here.1 off)))),
       );
-      second = (
-        v,
-        kept_back (flags_pass false q) (value never q) (value second q) (se q v) (not_from_false (acknowledges (slice_index q 6)) h.other_flags)
-            (other_back (tops_of site) sometimes never q ne v h.never),
-      );
+      within = h.within;
+      second = h.never;
+      flags = not_from_false (acknowledges (slice_index q 6)) h.other_flags;
       near = h.near;
     })
-
-pub ahead_sought : (site : Site) (others : List ℕ) (sometimes new such first never second : Plain Bool) → others ≡ tops_of site → IsFirstOf site sometimes new such
-    → IsKeptWhere (tops_of site) (flags_pass true) such first → IsOther (tops_of site) sometimes never → IsKeptWhere (tops_of site) (flags_pass false) never second
-    → (found : Option (List ℕ × List ℕ))
-    → MatchOption found (NoneTrueNear flags_alone others first second) (λ pair. AreTrueNear flags_alone others first second pair.0 pair.1)
-    → MatchOption found ((p q : List ℕ) → AreAheadAt site sometimes new p q → ⊥) (λ pair. AreAheadAt site sometimes new pair.0 pair.1)
-ahead_sought site others sometimes new such first never second e su fi ne se None h =
-    ahead_none site sometimes new such first never second su fi ne se (subst (λ ts. NoneTrueNear flags_alone ts first second) e h)
-ahead_sought site others sometimes new such first never second e su fi ne se (Some pair) h =
-    ahead_found site sometimes new such first never second su fi ne se pair.0 pair.1 (subst (λ ts. AreTrueNear flags_alone ts first second pair.0 pair.1) e h)
+ahead_sought site sometimes new first fi (Some pair) h =
+    let p : List ℕ = pair.0 in
+    let w = h.first.0 in
+    let here = fi p w in
+    let test : Bool = nat_eq (slice_index p 1) 6 && is_found site (slice_index p 2) in
+    let alone : Option Bool = Some (here.0 && not here.1) in
+    let such : Option Bool = if arrives_at p && test then alone else Some false in
+    let a = kept_true (flags_pass true p) such (value first p) here.4 h.first.1 in
+    let b = kept_true (arrives_at p && test) alone such refl a.1 in
+    let tests = and_parts (arrives_at p) test b.0 in
+    let more = and_parts (nat_eq (slice_index p 1) 6) (is_found site (slice_index p 2)) tests.1 in
+    let both = and_parts here.0 (not here.1) (some_once (here.0 && not here.1) true b.1) in
+    record {
+      first = (w, here.2 ∙ ap Some both.0);
+      dropped = here.3 ∙ ap Some (not-true here.1 both.1);
+      within = h.within;
+      never = h.second;
+      arrives = tests.0;
+      tcp = more.0;
+      found = more.1;
+      flags = a.0;
+      other_flags = not-true (acknowledges (slice_index pair.1 6)) h.flags;
+      near = h.near;
+    }
 
 -- one test of both
 pub both_tests : (a c d : Bool) (x y z : Option Bool) → y ≡ (if c && d then x else Some false) → z ≡ (if a then y else Some false) → z ≡ (if a && (c && d) then x else Some false)
@@ -213,11 +221,19 @@ kept_twice true d e f x y z same also first second =
     second ∙ ap (λ b. if b then y else Some false) same ∙ first ∙ ap (λ b. if b then x else Some false) also
 kept_twice false d e f x y z same also first second = second ∙ ap (λ b. if b then y else Some false) same
 
--- the tree of the first points, step by step
-pub first_there : (a c d : Bool) (s n m b f v : Option Bool) → (x : Bool) × (n ≡ Some x) × (m ≡ Some (not x)) → (x : Bool) × (y : Bool) × (s ≡ Some x) × (m ≡ Some y) × (b ≡ Some (x && y))
-    → f ≡ (if c && d then b else Some false) → v ≡ (if a then f else Some false)
-    → (x : Bool) × (y : Bool) × (s ≡ Some x) × (n ≡ Some y) × (v ≡ (if a && (c && d) then Some (x && not y) else Some false))
-first_there a c d s n m b f v dropped both found last =
+-- the tree that is true where one is and the other isn't
+pub alone_there : (s n m b : Option Bool) → (x : Bool) × (n ≡ Some x) × (m ≡ Some (not x)) → (x : Bool) × (y : Bool) × (s ≡ Some x) × (m ≡ Some y) × (b ≡ Some (x && y))
+    → (x : Bool) × (y : Bool) × (s ≡ Some x) × (n ≡ Some y) × (b ≡ Some (x && not y))
+alone_there s n m b dropped both =
     let other : both.1 ≡ not dropped.0 = some_once both.1 (not dropped.0) (sym both.3 ∙ dropped.2) in
-    let is : b ≡ Some (both.0 && not dropped.0) = both.4 ∙ ap (λ y. Some (both.0 && y)) other in
-    (both.0, dropped.0, both.2, dropped.1, both_tests a c d (Some (both.0 && not dropped.0)) f v (found ∙ ap (λ x. if c && d then x else Some false) is) last)
+    (both.0, dropped.0, both.2, dropped.1, both.4 ∙ ap (λ y. Some (both.0 && y)) other)
+
+-- and what is kept of a tree that is made of two
+pub kept_there : (a : Bool) (s n b v : Option Bool) (f : Bool → Bool → Option Bool) → (x : Bool) × (y : Bool) × (s ≡ Some x) × (n ≡ Some y) × (b ≡ f x y)
+    → v ≡ (if a then b else Some false) → (x : Bool) × (y : Bool) × (s ≡ Some x) × (n ≡ Some y) × (v ≡ (if a then f x y else Some false))
+kept_there a s n b v f told last = (told.0, told.1, told.2, told.3, last ∙ ap (λ x. if a then x else Some false) told.4)
+
+-- and of the other one of a tree
+pub other_there : (a : Bool) (t m v : Option Bool) → (x : Bool) × (t ≡ Some x) × (m ≡ Some (not x)) → v ≡ (if a then m else Some false)
+    → (x : Bool) × (t ≡ Some x) × (v ≡ (if a then Some (not x) else Some false))
+other_there a t m v other last = (other.0, other.1, last ∙ ap (λ x. if a then x else Some false) other.2)

@@ -1,6 +1,6 @@
 -- How many different leaves rows show.
-use Rattle.std.proofs.Common.{◌≡◌, ◌≢◌, ℕ, zero, suc, ◌+◌, ◌-◌, ◌<◌, ◌≤◌, Bool, true, false, cond, eqb, Option, Some, None, List, [], ◌∷◌, ◌++◌, ◌⊎◌, inl, inr, refl, sym, ◌∙◌, ap, subst, arith, length, length-append, get_or, take, All}
-use Rattle.std.proofs.lemmas.Bool.{eqb-true, or_cases, cases_Bool, both_ways, false_from_ne_true, cond-true, cond-false}
+use Rattle.std.proofs.Common.{◌≡◌, ◌≢◌, ℕ, zero, suc, ◌+◌, ◌-◌, ◌<◌, ◌≤◌, Bool, true, false, eqb, Option, Some, None, List, [], ◌∷◌, ◌++◌, ◌⊎◌, inl, inr, refl, sym, ◌∙◌, ap, subst, arith, length, length-append, get_or, take, All}
+use Rattle.std.proofs.lemmas.Bool.{eqb-true, or_cases, both_ways, false_from_ne_true, cond-true, cond-false}
 use Rattle.std.proofs.lemmas.List.{map-append, take_all, take_more}
 use Rattle.std.proofs.lemmas.List.Elements.{All-nil, All-cons, All-append, All-push, All-weaker, All-contains, Contains-push, Contains-append_left, recursion_from_All}
 use Rattle.std.proofs.lemmas.Map.Keys.{apart_from_distinct, IsDistinct-cons}
@@ -115,29 +115,25 @@ found eq exact (y ∷ ys) x e = elim (or_cases (eq x y) (list_any (eq x) ys) e) 
   | inr there ↦ let at = found eq exact ys x there in (suc at.0, let lt : at.0 < length ys = at.1 in omega arith, at.2)
 ]
 
--- one more leaf, that is put among the keys unless it is there
-pub counted_more : {L : Type 0} (eq : L → L → Bool) → ((x y : L) → eq x y ≡ true → x ≡ y) → (leaves keys new : List L) (x : L)
-    → new ≡ insert_key eq keys x → AreCounted leaves keys → AreCounted (leaves ++ x ∷ []) new
-counted_more eq exact leaves keys new x e old = elim (cases_Bool (list_any (eq x) keys)) [
-  | inl there ↦ let same : new ≡ keys = e ∙ cond-true (list_any (eq x) keys) keys (keys ++ x ∷ []) there in
-      subst (λ ks. AreCounted (leaves ++ x ∷ []) ks) (sym same) (record { shown = shown; covered = All-push (Contains keys) leaves x old.covered (found eq exact keys x there) })
-  | inr absent ↦ let same : new ≡ keys ++ x ∷ [] = e ∙ cond-false (list_any (eq x) keys) keys (keys ++ x ∷ []) absent in
-      subst (λ ks. AreCounted (leaves ++ x ∷ []) ks) (sym same) (record {
-        shown = All-push (Contains (leaves ++ x ∷ [])) keys x shown (Contains-push leaves x);
-        covered = All-push (Contains (keys ++ x ∷ [])) leaves x
-            (All-weaker (Contains keys) (Contains (keys ++ x ∷ [])) (λ y h. Contains-append_left keys (x ∷ []) y h) leaves old.covered) (Contains-push keys x);
-      })
+-- one more leaf, that was put behind the keys unless it was there
+counted_put : {L : Type 0} (leaves keys new : List L) (x : L) → ((new ≡ keys) × Contains keys x) ⊎ (new ≡ keys ++ x ∷ []) → AreCounted leaves keys → AreCounted (leaves ++ x ∷ []) new
+counted_put leaves keys new x put old = elim put [
+  | inl there ↦ subst (λ ks. AreCounted (leaves ++ x ∷ []) ks) (sym there.0) (record { shown = shown; covered = All-push (Contains keys) leaves x old.covered there.1 })
+  | inr behind ↦ subst (λ ks. AreCounted (leaves ++ x ∷ []) ks) (sym behind) (record {
+    shown = All-push (Contains (leaves ++ x ∷ [])) keys x shown (Contains-push leaves x);
+    covered = All-push (Contains (keys ++ x ∷ [])) leaves x
+        (All-weaker (Contains keys) (Contains (keys ++ x ∷ [])) (λ y h. Contains-append_left keys (x ∷ []) y h) leaves old.covered) (Contains-push keys x);
+  })
 ]
   where
     shown : All (Contains (leaves ++ x ∷ [])) keys
     shown = All-weaker (Contains leaves) (Contains (leaves ++ x ∷ [])) (λ y h. Contains-append_left leaves (x ∷ []) y h) keys old.shown
 
--- one more leaf of a list, that is put among the keys unless it is there
-pub counted_leaf : {L : Type 0} (eq : L → L → Bool) → ((x y : L) → eq x y ≡ true → x ≡ y) → (leaves : List L) (at : ℕ) (item : L) (keys new : List L) (x : L)
-    → at < length leaves → item ≡ get_or leaves at item → x ≡ item → new ≡ insert_key eq keys x → AreCounted (take at leaves) keys → AreCounted (take (at + 1) leaves) new
-counted_leaf eq exact leaves at item keys new x lt is e grown old =
-    subst (λ ls. AreCounted ls new) (ap (λ y. take at leaves ++ y ∷ []) (e ∙ is) ∙ sym (take_more leaves at item lt))
-    (counted_more eq exact (take at leaves) keys new x grown old)
+-- and is that of one more place of a list
+pub leaf_put : {L : Type 0} (leaves : List L) (at : ℕ) (item : L) (keys new : List L) → at < length leaves → item ≡ get_or leaves at item → IsPut keys new item
+    → AreCounted (take at leaves) keys → AreCounted (take (at + 1) leaves) new
+leaf_put leaves at item keys new lt is put old =
+    subst (λ ls. AreCounted ls new) (ap (λ y. take at leaves ++ y ∷ []) is ∙ sym (take_more leaves at item lt)) (counted_put (take at leaves) keys new item put.put old)
 
 -- a key that was put behind others unless it was there
 pub key_put : {X : Type 0} (eq : X → X → Bool) → ((x y : X) → eq x y ≡ true → x ≡ y) → IsEquivalence eq → (old new : List X) (x : X) → new ≡ insert_key eq old x → IsDistinct eq new
@@ -164,20 +160,17 @@ few_shown n rows keys covered few s =
     let many : length s.leaves ≡ n + 1 = s.many in
     omega arith
 
--- the leaf of one more row, that is put among the keys unless it is there
-pub counted_row : {L : Type 0} (eq : L → L → Bool) → ((x y : L) → eq x y ≡ true → x ≡ y) → (rows : List (Row L)) (at : ℕ) (row : Row L) (keys new : List L) (x : L)
-    → at < length rows → row ≡ get_or rows at row → x ≡ row.leaf → new ≡ insert_key eq keys x → AreCounted (leaves_of (take at rows)) keys → AreCounted (leaves_of (take (at + 1) rows)) new
-counted_row eq exact rows at row keys new x lt is e grown old =
-    subst (λ ls. AreCounted ls new) (ap (λ y. leaves_of (take at rows) ++ y ∷ []) e ∙ sym (leaves_more rows at row lt is))
-    (counted_more eq exact (leaves_of (take at rows)) keys new x grown old)
+-- the leaf of one more row, that was put behind the keys unless it was there
+pub row_put : {L : Type 0} (rows : List (Row L)) (at : ℕ) (row : Row L) (keys new : List L) → at < length rows → row ≡ get_or rows at row → IsPut keys new row.leaf
+    → AreCounted (leaves_of (take at rows)) keys → AreCounted (leaves_of (take (at + 1) rows)) new
+row_put rows at row keys new lt is put old = subst (λ ls. AreCounted ls new) (sym (leaves_more rows at row lt is)) (counted_put (leaves_of (take at rows)) keys new row.leaf put.put old)
 
 -- at most one key more
-pub one_more : {L : Type 0} (eq : L → L → Bool) (keys new : List L) (x : L) → new ≡ insert_key eq keys x → length new ≤ length keys + 1
-one_more eq keys new x e = subst (λ ks. length ks ≤ length keys + 1) (sym e) (by (list_any (eq x) keys))
-  where
-    by : (b : Bool) → length (cond b keys (keys ++ x ∷ [])) ≤ length keys + 1
-    by true = omega arith
-    by false = omega (arith, length-append keys (x ∷ []))
+pub one_put : {L : Type 0} (keys new : List L) (x : L) → IsPut keys new x → length new ≤ length keys + 1
+one_put keys new x put = elim put.put [
+  | inl there ↦ let same : length new ≡ length keys = ap length there.0 in omega arith
+  | inr behind ↦ let more : length new ≡ length (keys ++ x ∷ []) = ap length behind in omega (arith, length-append keys (x ∷ []))
+]
 
 -- with this row there are more leaves than n
 pub first_at : {L : Type 0} (n : ℕ) (rows : List (Row L)) (at : ℕ) (keys new : List L) → at < length rows → AreCounted (leaves_of (take at rows)) keys → length keys ≤ n

@@ -123,6 +123,12 @@ at_point site tables keeps t regular sources q w within back there =
       at.0,
     )
 
+pub twelve_of_paths : (tree : List ℕ × Plain Outcome) (rows : List (Row Outcome)) → length tree.0 ≡ 12 → IsReduced tree.0 tree.1 → rows ≡ paths_of tree.0 tree.1
+    → All (λ row. length row.sides ≡ 12) rows
+twelve_of_paths tree rows twelve reduced e =
+    let sides : All (λ row. AreSidesOf tree.0 row.sides) rows = subst (λ l. All (λ row. AreSidesOf tree.0 row.sides) l) (sym e) (rows_have_sides tree.0 tree.1 reduced) in
+    λ k d lt. sides_length tree.0 (get_or rows k d).sides (sides k d lt) ∙ twelve
+
 pub twelve_sides : (site : Site) (t : Plain Outcome) (rows : List (Row Outcome)) → AreItsRows site t rows → All (λ row. length row.sides ≡ 12) rows
 twelve_sides site t rows its = λ k d lt. sides_length (tops_of site) (get_or rows k d).sides (its.sides k d lt)
 

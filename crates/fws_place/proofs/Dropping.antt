@@ -234,18 +234,15 @@ pub none_passing : (site : Site) (tables : Tables) → site.forwarding ≡ false
 none_passing site tables off = λ p r here breaks.
     breaks.dropped.found (lost_is site p r (and_from (not site.forwarding) (passes site p r) (not_from_false site.forwarding off) here))
 
--- where no pair of the host breaks the clause, none that is delivered and none that passes, the clause is met
-pub none_at_all : (site : Site) (tables : Tables) → IsSoughtAmong site tables (λ p r. is_host p) None → IsSoughtAmong site tables (stays site) None
-    → IsSoughtAmong site tables (passes site) None → Meets site tables DropsAheadOfLookup
-none_at_all site tables host staying passing first second named =
+-- where neither a pair of the host nor one that arrives breaks the clause, it is met
+pub none_at_all : (site : Site) (tables : Tables) → IsSoughtAmong site tables (λ p r. is_host p) None → IsSoughtAmong site tables (λ p r. not (is_host p)) None
+    → Meets site tables DropsAheadOfLookup
+none_at_all site tables host arriving first second named =
     let p : Packet = first.packet in
     let r : Rec = named.ends in
     elim (cases_Bool (is_host p)) [
       | inl h ↦ host p r h named.such
-      | inr arrives ↦ elim (cases_Bool (is_local site r.rdst)) [
-        | inl here ↦ staying p r (and_from (not (is_host p)) (is_local site r.rdst) (not_from_false (is_host p) arrives) here) named.such
-        | inr elsewhere ↦ passing p r (and_from (not (is_host p)) (not (is_local site r.rdst)) (not_from_false (is_host p) arrives) (not_from_false (is_local site r.rdst) elsewhere)) named.such
-      ]
+      | inr arrives ↦ arriving p r (not_from_false (is_host p) arrives) named.such
     ]
 
 -- where nothing was found, there is none
@@ -254,8 +251,18 @@ pub none_found : (site : Site) (tables : Tables) (among : Packet → Rec → Boo
 none_found site tables among None n h = h
 none_found site tables among (Some x) n h = absurd (n x refl)
 
--- what is found among the pairs that pass, where no others break the clause, is what was looked for
-pub found_last : (site : Site) (tables : Tables) → IsSoughtAmong site tables (λ p r. is_host p) None → IsSoughtAmong site tables (stays site) None
-    → (found : Option (Pair × Option Pair)) → IsSoughtAmong site tables (passes site) found → IsSought site tables DropsAheadOfLookup found
-found_last site tables host staying None h = none_at_all site tables host staying h
-found_last site tables host staying (Some x) h = h
+-- what is found among the pairs that pass, where none that is delivered breaks the clause, is what was looked for among those
+-- that arrive
+pub found_arriving : (site : Site) (tables : Tables) → IsSoughtAmong site tables (stays site) None → (found : Option (Pair × Option Pair))
+    → IsSoughtAmong site tables (passes site) found → IsSoughtAmong site tables (λ p r. not (is_host p)) found
+found_arriving site tables staying None passing = λ p r arrives breaks. elim (cases_Bool (is_local site r.rdst)) [
+  | inl here ↦ staying p r (and_from (not (is_host p)) (is_local site r.rdst) arrives here) breaks
+  | inr elsewhere ↦ passing p r (and_from (not (is_host p)) (not (is_local site r.rdst)) arrives (not_from_false (is_local site r.rdst) elsewhere)) breaks
+]
+found_arriving site tables staying (Some x) h = h
+
+-- what is found among these, where no pair of the host breaks the clause, is what was looked for
+pub found_last : (site : Site) (tables : Tables) → IsSoughtAmong site tables (λ p r. is_host p) None → (found : Option (Pair × Option Pair))
+    → IsSoughtAmong site tables (λ p r. not (is_host p)) found → IsSought site tables DropsAheadOfLookup found
+found_last site tables host None h = none_at_all site tables host h
+found_last site tables host (Some x) h = h

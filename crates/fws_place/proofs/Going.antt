@@ -64,6 +64,11 @@ goes_alone site (Accept w) q = refl
 some_true : (b : Bool) → Some b ≡ Some true → b ≡ true
 some_true b e = cc
 
+-- what one set keeps of a tree that tells of an outcome
+pub coming_at : (entries : List Iv) (e : ℕ) (o : Outcome) (outcomes : Option Outcome) (u v : Option Bool) (b : Bool) → u ≡ Some b → (IsTrue b ↔ (outcomes ≡ Some o))
+    → v ≡ (if has entries e then u else Some false) → (c : Bool) × ((c ≡ true) ↔ (outcomes ≡ Some o)) × (v ≡ (if has entries e then Some c else Some false))
+coming_at entries e o outcomes u v b at is kept = (b, is, kept ∙ ap (λ x. if has entries e then x else Some false) at)
+
 -- what two sets keep of a tree that tells of an outcome
 pub with_one : (site : Site) (inside : List Iv) (set : List Iv) (o : Outcome) (q : List ℕ) (outcomes : Option Outcome) (u v w : Option Bool) (b : Bool) → AreInside site inside
     → IsWithin (tops_of site) q → ((d : ℕ) → d < 2 ^ 32 → has set d ≡ ends_outside site o d) → u ≡ Some b → (IsTrue b ↔ (outcomes ≡ Some o))
@@ -94,32 +99,39 @@ pub none_so_far : (site : Site) (outcomes : Plain Outcome) (leaves : List Outcom
     → ((q : List ℕ) → IsWithin (tops_of site) q → (o : Outcome) × (value outcomes q ≡ Some o) × (value all q ≡ Some false)) → IsSoFar site outcomes leaves 0 all
 none_so_far site outcomes leaves all at q w = (false, (at q w).2, ((λ e. absurd (cc)), λ is. absurd (omega (arith, is.1.1))))
 
+-- one more outcome beside what was tried
+pub with_such : (site : Site) (o : Outcome) (q : List ℕ) (outcomes : Option Outcome) (all such v : Option Bool)
+    → (b : Bool) × (such ≡ Some b) × ((b ≡ true) ↔ ((outcomes ≡ Some o) × (goes_out site o q ≡ true)))
+    → (a : Bool) × (b : Bool) × (all ≡ Some a) × (such ≡ Some b) × (v ≡ Some (a || b))
+    → (a : Bool) × (b : Bool) × (all ≡ Some a) × ((b ≡ true) ↔ ((outcomes ≡ Some o) × (goes_out site o q ≡ true))) × (v ≡ Some (a || b))
+with_such site o q outcomes all such v new two =
+    let second : two.1 ≡ new.0 = some_once two.1 new.0 (sym two.3 ∙ new.1) in
+    (two.0, new.0, two.2, new.2, two.4 ∙ ap (λ b. Some (two.0 || b)) second)
+
 -- the tree tells of one more
-pub more_so_far : (site : Site) (outcomes : Plain Outcome) (leaves : List Outcome) (k : ℕ) (item : Outcome) (all such both : Plain Bool) → k < length leaves → get_or leaves k Drop ≡ item
+pub more_so_far : (site : Site) (outcomes : Plain Outcome) (leaves : List Outcome) (k : ℕ) (item : Outcome) (all both : Plain Bool) → k < length leaves → get_or leaves k Drop ≡ item
     → IsSoFar site outcomes leaves k all
-    → ((q : List ℕ) → IsWithin (tops_of site) q → (b : Bool) × (value such q ≡ Some b) × ((b ≡ true) ↔ ((value outcomes q ≡ Some item) × (goes_out site item q ≡ true))))
-    → ((q : List ℕ) → IsWithin (tops_of site) q → (a : Bool) × (b : Bool) × (value all q ≡ Some a) × (value such q ≡ Some b) × (value both q ≡ Some (a || b)))
+    → ((q : List ℕ) → IsWithin (tops_of site) q
+    → (a : Bool) × (b : Bool) × (value all q ≡ Some a) × ((b ≡ true) ↔ ((value outcomes q ≡ Some item) × (goes_out site item q ≡ true))) × (value both q ≡ Some (a || b)))
     → IsSoFar site outcomes leaves (k + 1) both
-more_so_far site outcomes leaves k item all such both lt stands before here either q w =
+more_so_far site outcomes leaves k item all both lt stands before either q w =
     let old = before q w in
-    let new = here q w in
     let two = either q w in
-    let first : old.0 ≡ two.0 = some_once old.0 two.0 (sym old.1 ∙ two.2) in
-    let second : new.0 ≡ two.1 = some_once new.0 two.1 (sym new.1 ∙ two.3) in (
-      old.0 || new.0,
-      two.4 ∙ ap (λ a. Some (a || two.1)) (sym first) ∙ ap (λ b. Some (old.0 || b)) (sym second),
+    let first : old.0 ≡ two.0 = some_once old.0 two.0 (sym old.1 ∙ two.2) in (
+      old.0 || two.1,
+      two.4 ∙ ap (λ a. Some (a || two.1)) (sym first),
       (
-        (λ e. elim (or_cases old.0 new.0 e) [
+        (λ e. elim (or_cases old.0 two.1 e) [
           | inl on ↦ let is = old.2.0 on in (is.0, (is.1.0, (let below : is.1.0 < k = is.1.1 in omega arith), is.1.2), is.2, is.3)
-          | inr on ↦ let is = new.2.0 on in (item, (k, omega arith, stands), is.0, is.1)
+          | inr on ↦ let is = two.3.0 on in (item, (k, omega arith, stands), is.0, is.1)
         ]),
         λ is. elim (cases_lt is.1.0 k) [
-          | inl less ↦ or_left old.0 new.0 (old.2.1 (is.0, (is.1.0, less, is.1.2), is.2, is.3))
+          | inl less ↦ or_left old.0 two.1 (old.2.1 (is.0, (is.1.0, less, is.1.2), is.2, is.3))
           | inr late ↦
               let below : is.1.0 < k + 1 = is.1.1 in
               let last : is.1.0 ≡ k = omega arith in
               let same : item ≡ is.0 = sym stands ∙ ap (λ i. get_or leaves i Drop) (sym last) ∙ is.1.2 in
-              or_right old.0 new.0 (new.2.1 (is.2 ∙ ap Some (sym same), ap (λ o. goes_out site o q) same ∙ is.3))
+              or_right old.0 two.1 (two.3.1 (is.2 ∙ ap Some (sym same), ap (λ o. goes_out site o q) same ∙ is.3))
         ],
       ),
     )

@@ -1,5 +1,5 @@
 -- Points that agree in all fields but some, and trees that are true at them.
-use Rattle.std.proofs.Common.{◌≡◌, ℕ, zero, suc, ◌^◌, ◌<◌, ◌≤◌, Bool, true, false, ◌&&◌, not, Some, List, [], ◌∷◌, inl, inr, refl, sym, ◌∙◌, ap, arith, length, get_or, IsTrue}
+use Rattle.std.proofs.Common.{◌≡◌, ℕ, zero, suc, ◌^◌, ◌<◌, ◌≤◌, Bool, true, false, ◌&&◌, not, Option, Some, None, List, [], ◌∷◌, inl, inr, refl, sym, ◌∙◌, ap, arith, length, get_or, subst, IsTrue, MatchOption}
 use Rattle.std.proofs.lemmas.Bool.{and_left, and_parts, and_from, cases_lt, false≢true, le-leb, le-ltb, leb-true, or_cases, or_left}
 use Rattle.std.proofs.lemmas.List.{get_or_past}
 use Rattle.std.specs.Prelude.{◌↔◌, bit_and, nat_eq, nat_le, nat_lt}
@@ -8,7 +8,7 @@ use Rattle.fws_iv.specs.Ivs.{has}
 use Rattle.fws_box.specs.Sides.{IsWithin, sides_have}
 use Rattle.fws_tree.specs.Changed.{is_free, Agree, IsTrueSomewhere}
 use Rattle.fws_tree.specs.Plain.{Plain, value}
-use Rattle.fws_place.specs.Apart.{near_side, NoneTrueNear}
+use Rattle.fws_place.specs.Apart.{near_side, IsFirstNear, NoneTrueNear}
 use Rattle.fws_place.specs.Found.{IsTrueAt, IsTrueNowhere}
 use Rattle.fws_place.proofs.PairPoints.{within_length, within_top}
 use Rattle.fws_place.proofs.Viewing.{same_told}
@@ -90,20 +90,22 @@ TellsNear fields tops u s = (p : List ℕ) → IsWithin tops p → (b : Bool) ×
 abbrev pub IsBoth : List ℕ → Plain Bool → Plain Bool → Plain Bool → Type 0
 IsBoth tops t s both = (p : List ℕ) → IsWithin tops p → (a : Bool) × (b : Bool) × (value t p ≡ Some a) × (value s p ≡ Some b) × (value both p ≡ Some (a && b))
 
-pub true_somewhere : (fields : ℕ) (tops : List ℕ) (t u s both : Plain Bool) (p : List ℕ) → TellsNear fields tops u s → IsBoth tops t s both → IsTrueAt tops both p
-    → IsTrueAt tops t p × IsTrueSomewhere tops fields u p
-true_somewhere fields tops t u s both p near at here =
-    let two = at p here.0 in
-    let parts = and_parts two.0 two.1 (same_told (value both p) (two.0 && two.1) true two.4 here.1) in
-    let told = near p here.0 in (
-      (here.0, two.2 ∙ ap Some parts.0),
-      told.2.0 (same_told (value s p) told.0 two.1 told.1 two.3 ∙ parts.1),
+-- it is true at the first of two points that agree
+pub first_both : (fields : ℕ) (tops : List ℕ) (t u s both : Plain Bool) → TellsNear fields tops u s → IsBoth tops t s both → (p : List ℕ) → IsWithin tops p
+    → (value both p ≡ Some true) ↔ IsFirstNear fields tops t u p
+first_both fields tops t u s both near at p w =
+    let two = at p w in
+    let told = near p w in (
+      (λ e. let parts = and_parts two.0 two.1 (same_told (value both p) (two.0 && two.1) true two.4 e) in
+          ((w, two.2 ∙ ap Some parts.0), told.2.0 (same_told (value s p) told.0 two.1 told.1 two.3 ∙ parts.1))),
+      λ first. two.4
+          ∙ ap Some (and_from two.0 two.1 (same_told (value t p) two.0 true two.2 first.0.1) (same_told (value s p) two.1 told.0 two.3 told.1 ∙ told.2.1 first.1)),
     )
 
-pub none_together : (fields : ℕ) (tops : List ℕ) (t u s both : Plain Bool) → TellsNear fields tops u s → IsBoth tops t s both → IsTrueNowhere tops both → NoneTrueNear fields tops t u
-none_together fields tops t u s both near at none p q h =
-    let two = at p h.first.0 in
-    let told = near p h.first.0 in
-    let a : two.0 ≡ true = same_told (value t p) two.0 true two.2 h.first.1 in
-    let b : two.1 ≡ true = same_told (value s p) two.1 told.0 two.3 told.1 ∙ told.2.1 (q, h.second.0, h.near, h.second.1) in
-    none p (h.first.0, two.4 ∙ ap Some (and_from two.0 two.1 a b))
+-- what is found in such a tree
+pub first_found : (fields : ℕ) (tops others : List ℕ) (t u both : Plain Bool) → others ≡ tops
+    → ((p : List ℕ) → IsWithin tops p → (value both p ≡ Some true) ↔ IsFirstNear fields tops t u p) → (found : Option (List ℕ))
+    → MatchOption found (IsTrueNowhere others both) (IsTrueAt others both) → MatchOption found (NoneTrueNear fields tops t u) (IsFirstNear fields tops t u)
+first_found fields tops others t u both e at None none = λ p q h.
+    none p (subst (λ ts. IsWithin ts p) (sym e) h.first.0, (at p h.first.0).1 (h.first, (q, h.second.0, h.near, h.second.1)))
+first_found fields tops others t u both e at (Some p) here = (at p (subst (λ ts. IsWithin ts p) e here.0)).0 here.1

@@ -237,13 +237,12 @@ pub some_once : {X : Type 0} (x y : X) → Some x ≡ Some y → x ≡ y
 some_once x y e = cc
 
 -- the value of a tree that was made of three
-pub mixed_at : (l : Bool) (va vb vc vm vt : Option Bool) (both : Option (Bool × Bool)) (all : Option (Bool × (Bool × Bool)))
+pub alone_at : (va vb vc vt : Option Bool) (both : Option (Bool × Bool)) (all : Option (Bool × (Bool × Bool)))
     → ((b : Bool) × (c : Bool) × (vb ≡ Some b) × (vc ≡ Some c) × (both ≡ Some (b, c)))
     → ((a : Bool) × (bc : Bool × Bool) × (va ≡ Some a) × (both ≡ Some bc) × (all ≡ Some (a, bc)))
-    → ((x : Bool × (Bool × Bool)) × (all ≡ Some x) × (vm ≡ Some (not x.0 && x.1.0 && x.1.1)))
-    → vt ≡ (if l then Some false else vm)
-    → (a : Bool) × (b : Bool) × (c : Bool) × (va ≡ Some a) × (vb ≡ Some b) × (vc ≡ Some c) × (vt ≡ (if l then Some false else Some (not a && b && c)))
-mixed_at l va vb vc vm vt both all two three mixed last =
+    → ((x : Bool × (Bool × Bool)) × (all ≡ Some x) × (vt ≡ Some (not x.0 && x.1.0 && x.1.1)))
+    → (a : Bool) × (b : Bool) × (c : Bool) × (va ≡ Some a) × (vb ≡ Some b) × (vc ≡ Some c) × (vt ≡ Some (not a && b && c))
+alone_at va vb vc vt both all two three mixed =
     let a : Bool = three.0 in
     let b : Bool = two.0 in
     let c : Bool = two.1 in
@@ -253,7 +252,14 @@ mixed_at l va vb vc vm vt both all two three mixed last =
     let there : Bool × Bool → Bool × (Bool × Bool) = λ y. (a, y) in
     let same : mixed.0 ≡ whole = some_once mixed.0 whole (sym mixed.1 ∙ three.4 ∙ ap (λ y. Some (there y)) pairs) in
     let seen : Bool × (Bool × Bool) → Option Bool = λ x. Some (not x.0 && x.1.0 && x.1.1) in
-    (a, b, c, three.2, two.2, two.3, last ∙ ap (λ v. if l then Some false else v) (mixed.2 ∙ ap seen same))
+    (a, b, c, three.2, two.2, two.3, mixed.2 ∙ ap seen same)
+
+-- and where pairs that are lost are left out of it
+pub found_alone : (l : Bool) (va vb vc vm vt : Option Bool)
+    → ((a : Bool) × (b : Bool) × (c : Bool) × (va ≡ Some a) × (vb ≡ Some b) × (vc ≡ Some c) × (vm ≡ Some (not a && b && c)))
+    → vt ≡ (if l then Some false else vm)
+    → (a : Bool) × (b : Bool) × (c : Bool) × (va ≡ Some a) × (vb ≡ Some b) × (vc ≡ Some c) × (vt ≡ (if l then Some false else Some (not a && b && c)))
+found_alone l va vb vc vm vt three last = (three.0, three.1, three.2, three.3, three.4, three.5, last ∙ ap (λ v. if l then Some false else v) three.6)
 
 -- Laws
 

@@ -2,7 +2,7 @@
 use Rattle.std.specs.Prelude.{◌≡◌, ◌≢◌, ℕ, ◌/◌, ◌%◌, Bool, ◌&&◌, not, nat_eq, Some, List, [], ◌∷◌, unwrap_or, position, Contains, if◌then◌else◌}
 use Rattle.fws_iv.specs.declared.iv.Iv.{Iv}
 use Rattle.fws_box.specs.Sides.{IsWithin}
-use Rattle.fws_tree.specs.Changed.{Agree}
+use Rattle.fws_tree.specs.Changed.{Agree, IsTrueSomewhere}
 use Rattle.fws_tree.specs.Plain.{Plain, value}
 use Rattle.fws_place.specs.Found.{IsTrueAt}
 
@@ -29,6 +29,10 @@ pub record AreTrueNear (fields : ℕ) (tops : List ℕ) (t u : Plain Bool) (p q 
   pub first : IsTrueAt tops t p
   pub second : IsTrueAt tops u q
   pub near : Agree fields p q
+
+-- the one tree is true at the point, and the other at one that agrees with it in all fields whose bits aren't set
+abbrev pub IsFirstNear : ℕ → List ℕ → Plain Bool → Plain Bool → List ℕ → Type 0
+IsFirstNear fields tops t u p = IsTrueAt tops t p × IsTrueSomewhere tops fields u p
 
 -- there are no two points that are such
 abbrev pub NoneTrueNear : ℕ → List ℕ → Plain Bool → Plain Bool → Type 0

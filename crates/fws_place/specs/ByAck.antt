@@ -23,6 +23,15 @@ acknowledges_as asked flags = if asked then acknowledges flags else not (acknowl
 abbrev pub arrives_at : List ℕ → Bool
 arrives_at q = not (nat_eq (slice_index q 0) 0)
 
+-- of two points that agree in all but flags one tree is true at the first, and the other false at the second, where flags
+-- have ACK or RST, or neither, as it is asked
+pub record AreFalseNear (asked : Bool) (tops : List ℕ) (t u : Plain Bool) (p q : List ℕ) : Type 0 where
+  pub first : IsTrueAt tops t p
+  pub within : IsWithin tops q
+  pub second : value u q ≡ Some false
+  pub flags : acknowledges_as asked (slice_index q 6) ≡ true
+  pub near : Agree flags_alone p q
+
 -- two points of arriving packets agree in all but flags; both have ACK or RST, or neither has, as it is asked; the tree is
 -- true at the first and false at the second
 pub record AreToldByMore (asked : Bool) (tops : List ℕ) (t : Plain Bool) (p q : List ℕ) : Type 0 where

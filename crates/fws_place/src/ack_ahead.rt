@@ -1,17 +1,16 @@
 //! Packets with ACK or RST that are dropped when they are new, though established ones are accepted.
 
-ghost use Rattle.std.specs.Prelude.{◌≡◌, ◌^◌, ◌<◌, ◌&&◌, not, false, ℕ, Bool, List, Some, IfOk, MatchOption, slice_index, nat_eq, if◌then◌else◌};
+ghost use Rattle.std.specs.Prelude.{◌≡◌, ◌^◌, ◌<◌, ◌&&◌, not, true, false, ℕ, Bool, List, Some, IfOk, MatchOption, slice_index, nat_eq, if◌then◌else◌};
 ghost use Rattle.fws_box.specs.Sides.{IsWithin};
 ghost use Rattle.fws_iv.specs.Ivs.{has};
 ghost use Rattle.fws_net.specs.Points.{tops_of};
 ghost use Rattle.fws_net.specs.Routes.{IsSound};
-ghost use Rattle.fws_place.specs.ByAck.{arrives_at, is_found, AreAheadAt};
+ghost use Rattle.fws_place.specs.ByAck.{acknowledges_as, arrives_at, is_found, AreAheadAt};
 ghost use Rattle.fws_tree.specs.Plain.{value};
 
-use crate::by_ack::{FLAGS_ALONE, acknowledging_in, arriving_in, false_in};
+use crate::by_ack::{acknowledging_in, arriving_in, false_in, false_near};
 use crate::drops_ahead_of_lookup::true_in_both;
 use crate::kept_in::kept_in;
-use crate::true_near::true_together;
 use fws_box::Point;
 use fws_iv::{Ivs, one};
 use fws_net::{Site, local_set};
@@ -42,6 +41,27 @@ fn found_in(alloc: Global, site: &Site, tree: &Tree<bool>) -> Result<Tree<bool>,
     kept_in(alloc, &found, 1, one(alloc, TCP, TCP)?, false)
 }
 
+// The tree that is true where the one tree is true and the other false.
+fn true_alone(alloc: Global, sometimes: &Tree<bool>, new: &Tree<bool>) -> Result<Tree<bool>, Memory>
+    requires { new.now.0 ≡ sometimes.now.0 }
+    ensures tops { IfOk result (λ t. t.0 ≡ sometimes.now.0) }
+    ensures value { IfOk result (λ t. (q : List ℕ) → IsWithin sometimes.now.0 q → (a : Bool) × (b : Bool) × (value sometimes.now.1 q ≡ Some a) × (value new.now.1 q ≡ Some b) × (value t.1 q ≡ Some (a && not b))) }
+{
+    let dropped = false_in(alloc, new)?;
+    true_in_both(alloc, sometimes, &dropped)
+}
+
+// The tree that is true where this one is and packets arrive, are of TCP and aren't lost.
+fn arriving_found(alloc: Global, site: &Site, tree: &Tree<bool>) -> Result<Tree<bool>, Memory>
+    requires sound { IsSound site.now }
+    requires tops { tree.now.0 ≡ tops_of site.now }
+    ensures tops { IfOk result (λ t. t.0 ≡ tops_of site.now) }
+    ensures value { IfOk result (λ t. (q : List ℕ) → IsWithin (tops_of site.now) q → value t.1 q ≡ (if arrives_at q && (nat_eq (slice_index q 1) 6 && is_found site.now (slice_index q 2)) then value tree.now.1 q else Some false)) }
+{
+    let found = found_in(alloc, site, tree)?;
+    arriving_in(alloc, site, &found)
+}
+
 // The tree that is true at the first of the points that are sought.
 fn first_of(
     alloc: Global,
@@ -55,10 +75,25 @@ fn first_of(
     ensures tops { IfOk result (λ t. t.0 ≡ tops_of site.now) }
     ensures value { IfOk result (λ t. (q : List ℕ) → IsWithin (tops_of site.now) q → (a : Bool) × (b : Bool) × (value sometimes.now.1 q ≡ Some a) × (value new.now.1 q ≡ Some b) × (value t.1 q ≡ (if arrives_at q && (nat_eq (slice_index q 1) 6 && is_found site.now (slice_index q 2)) then Some (a && not b) else Some false))) }
 {
-    let dropped = false_in(alloc, new)?;
-    let both = true_in_both(alloc, sometimes, &dropped)?;
-    let found = found_in(alloc, site, &both)?;
-    arriving_in(alloc, site, &found)
+    let both = true_alone(alloc, sometimes, new)?;
+    arriving_found(alloc, site, &both)
+}
+
+// The tree that is true at the first of the points that are sought where flags have ACK or RST.
+fn first_with_ack(
+    alloc: Global,
+    site: &Site,
+    sometimes: &Tree<bool>,
+    new: &Tree<bool>,
+) -> Result<Tree<bool>, Memory>
+    requires sound { IsSound site.now }
+    requires tops { sometimes.now.0 ≡ tops_of site.now }
+    requires new_tops { new.now.0 ≡ tops_of site.now }
+    ensures tops { IfOk result (λ t. t.0 ≡ tops_of site.now) }
+    ensures value { IfOk result (λ t. (q : List ℕ) → IsWithin (tops_of site.now) q → (a : Bool) × (b : Bool) × (value sometimes.now.1 q ≡ Some a) × (value new.now.1 q ≡ Some b) × (value t.1 q ≡ (if acknowledges_as true (slice_index q 6) then (if arrives_at q && (nat_eq (slice_index q 1) 6 && is_found site.now (slice_index q 2)) then Some (a && not b) else Some false) else Some false))) }
+{
+    let such = first_of(alloc, site, sometimes, new)?;
+    acknowledging_in(alloc, site, &such, true)
 }
 
 /// Two points of packets of TCP that arrive and agree in all but flags: with ACK or RST one tree is true and the other
@@ -75,9 +110,6 @@ pub(crate) fn ahead_at(
     requires new_tops { new.now.0 ≡ tops_of site.now }
     ensures { IfOk result (λ found. MatchOption found ((p q : List ℕ) → AreAheadAt site.now sometimes.now.1 new.now.1 p q → ⊥) (λ pair. AreAheadAt site.now sometimes.now.1 new.now.1 pair.0 pair.1)) }
 {
-    let such = first_of(alloc, site, sometimes, new)?;
-    let first = acknowledging_in(alloc, site, &such, true)?;
-    let never = false_in(alloc, sometimes)?;
-    let second = acknowledging_in(alloc, site, &never, false)?;
-    true_together(alloc, &first, &second, FLAGS_ALONE)
+    let first = first_with_ack(alloc, site, sometimes, new)?;
+    false_near(alloc, site, &first, sometimes, false)
 }

@@ -3,6 +3,7 @@
 ghost use Rattle.std.specs.Prelude.{◌≡◌, ◌<◌, List, IfOk, MatchOption, All, Contains};
 ghost use Rattle.fws_place.specs.Apart.{has_bit, is_marked, place_in, AreAlikeBy, AreApart, HasValuesAmong};
 
+use crate::exact::put_leaf;
 use crate::true_near::true_together;
 use fws_box::Point;
 use fws_num::Memory;
@@ -16,7 +17,7 @@ fn once<L: Leaf>(alloc: Global, leaves: &[L]) -> Result<IndexSet<L>, Memory>
 {
     let mut kept = IndexSet::new(alloc);
     for leaf in leaves {
-        kept.insert(leaf.copy(alloc)?)?;
+        put_leaf(alloc, &mut kept, leaf)?;
     }
     Ok(kept)
 }

@@ -4,7 +4,7 @@ ghost use Rattle.std.specs.Prelude.{◌≡◌, not, false, ℕ, Bool, List, Some
 ghost use Rattle.fws_box.specs.Sides.{IsWithin};
 ghost use Rattle.fws_net.specs.Points.{tops_of};
 ghost use Rattle.fws_net.specs.Routes.{IsSound};
-ghost use Rattle.fws_place.specs.ByAck.{acknowledges_as, arrives_at, AreSoughtByMore, AreToldByMore};
+ghost use Rattle.fws_place.specs.ByAck.{acknowledges_as, arrives_at, AreFalseNear, AreSoughtByMore, AreToldByMore};
 ghost use Rattle.fws_tree.specs.Plain.{value};
 
 use crate::ack_flags::ack_flags;
@@ -17,8 +17,8 @@ use fws_num::Memory;
 use fws_tree::{Relabelling, Tree};
 use std::alloc::Global;
 
-/// The field of flags, by its bit.
-pub(crate) const FLAGS_ALONE: u16 = 0x40;
+// The field of flags, by its bit.
+const FLAGS_ALONE: u16 = 0x40;
 
 /// The other truth value.
 struct Not;
@@ -72,6 +72,54 @@ pub(crate) fn acknowledging_in(
     kept_in(alloc, tree, 6, flags, false)
 }
 
+// The tree that is true where this one is at packets that arrive and have ACK or RST, or neither, as it is asked.
+fn arriving_with(
+    alloc: Global,
+    site: &Site,
+    tree: &Tree<bool>,
+    asked: bool,
+) -> Result<Tree<bool>, Memory>
+    requires sound { IsSound site.now }
+    requires tops { tree.now.0 ≡ tops_of site.now }
+    ensures tops { IfOk result (λ t. t.0 ≡ tops_of site.now) }
+    ensures value { IfOk result (λ t. (q : List ℕ) → IsWithin (tops_of site.now) q → value t.1 q ≡ (if acknowledges_as asked (slice_index q 6) then (if arrives_at q then value tree.now.1 q else Some false) else Some false)) }
+{
+    let arriving = arriving_in(alloc, site, tree)?;
+    acknowledging_in(alloc, site, &arriving, asked)
+}
+
+// The tree that is true where this one is false and flags have ACK or RST, or neither, as it is asked.
+fn false_with(
+    alloc: Global,
+    site: &Site,
+    tree: &Tree<bool>,
+    asked: bool,
+) -> Result<Tree<bool>, Memory>
+    requires { tree.now.0 ≡ tops_of site.now }
+    ensures tops { IfOk result (λ t. t.0 ≡ tops_of site.now) }
+    ensures value { IfOk result (λ t. (q : List ℕ) → IsWithin (tops_of site.now) q → (b : Bool) × (value tree.now.1 q ≡ Some b) × (value t.1 q ≡ (if acknowledges_as asked (slice_index q 6) then Some (not b) else Some false))) }
+{
+    let other = false_in(alloc, tree)?;
+    acknowledging_in(alloc, site, &other, asked)
+}
+
+/// Two points that agree in all but flags, at the first of which the one tree is true, and at the second, where flags have
+/// ACK or RST, or neither, as it is asked, the other is false; if there are any. An error is want of memory.
+pub(crate) fn false_near(
+    alloc: Global,
+    site: &Site,
+    first: &Tree<bool>,
+    tree: &Tree<bool>,
+    asked: bool,
+) -> Result<Option<(Point, Point)>, Memory>
+    requires first { first.now.0 ≡ tops_of site.now }
+    requires tops { tree.now.0 ≡ tops_of site.now }
+    ensures { IfOk result (λ found. MatchOption found ((p q : List ℕ) → AreFalseNear asked (tops_of site.now) first.now.1 tree.now.1 p q → ⊥) (λ pair. AreFalseNear asked (tops_of site.now) first.now.1 tree.now.1 pair.0 pair.1)) }
+{
+    let second = false_with(alloc, site, tree, asked)?;
+    true_together(alloc, first, &second, FLAGS_ALONE)
+}
+
 // Two points of arriving packets that agree in all but flags, with ACK or RST, or without, as it is asked, of which the tree
 // is true at the first and false at the second.
 fn told_with(
@@ -84,11 +132,8 @@ fn told_with(
     requires tops { tree.now.0 ≡ tops_of site.now }
     ensures { IfOk result (λ found. MatchOption found ((p q : List ℕ) → AreToldByMore asked (tops_of site.now) tree.now.1 p q → ⊥) (λ pair. AreToldByMore asked (tops_of site.now) tree.now.1 pair.0 pair.1)) }
 {
-    let arriving = arriving_in(alloc, site, tree)?;
-    let first = acknowledging_in(alloc, site, &arriving, asked)?;
-    let other = false_in(alloc, tree)?;
-    let second = acknowledging_in(alloc, site, &other, asked)?;
-    true_together(alloc, &first, &second, FLAGS_ALONE)
+    let first = arriving_with(alloc, site, tree, asked)?;
+    false_near(alloc, site, &first, tree, asked)
 }
 
 /// Two points of arriving packets that agree in all but flags, both with ACK or RST, or neither, of which the tree is

@@ -1,11 +1,12 @@
 //! Whether ipfw can drop established packets ahead of the look-up of connections.
 
-ghost use Rattle.std.specs.Prelude.{◌≡◌, ℕ, Bool, ◌&&◌, ◌||◌, not, nat_eq, List, Some, slice_index, IfOk};
+ghost use Rattle.std.specs.Prelude.{◌≡◌, ℕ, Bool, true, ◌&&◌, ◌||◌, not, nat_eq, List, Some, slice_index, IfOk};
 ghost use Rattle.fws_box.specs.Sides.{IsWithin, sides_have};
 ghost use Rattle.fws_net.specs.Points.{tops_of};
 ghost use Rattle.fws_net.specs.Routes.{IsSound, is_local};
 ghost use Rattle.fws_place.specs.declared.clause.Clause.TheVariants.{DropsAheadOfLookup};
 ghost use Rattle.fws_place.specs.AheadOfLookup.{exchanged, exchanged_row, exchanged_rows, passes, stays, IsAcceptedNew, IsAcceptedNewAlike, IsDroppedOfAlike, IsDroppedOfPacket, IsSoughtAmong};
+ghost use Rattle.fws_place.specs.Clauses.{BreaksAheadOfLookup};
 ghost use Rattle.fws_place.specs.Found.{IsSought};
 ghost use Rattle.fws_place.specs.Pairs.{is_host};
 ghost use Rattle.fws_place.specs.Seen.{IsAcceptedPair, IsAcceptedSomewhere, IsAcceptedAlike, Tells};
@@ -167,6 +168,46 @@ pub(crate) fn true_in_both(
     pairs.relabel(alloc, &Both)
 }
 
+// The tree that tells of each pair whether it is dropped, though one that looks like it is accepted, or the new packet
+// that looks like it.
+fn dropped_of_alike(
+    alloc: Global,
+    site: &Site,
+    tables: &Tables,
+    accepted: &Tree<bool>,
+    behind: &Tree<bool>,
+) -> Result<Tree<bool>, Memory>
+    requires sound { IsSound site.now }
+    requires regular { AreRegular site.now tables.now }
+    requires accepted_tops { accepted.now.0 ≡ tops_of site.now }
+    requires accepted { Tells site.now (IsAcceptedPair tables.now) accepted.now.1 }
+    requires behind_tops { behind.now.0 ≡ tops_of site.now }
+    requires behind { Tells site.now (IsAcceptedAlike site.now tables.now) behind.now.1 }
+    ensures tops { IfOk result (λ t. t.0 ≡ tops_of site.now) }
+    ensures tells { IfOk result (λ t. Tells site.now (IsDroppedOfAlike site.now tables.now) t.1) }
+{
+    let alike = accepted_new_alike(alloc, site, tables)?;
+    dropped_with_either(alloc, accepted, behind, &alike)
+}
+
+// The tree that tells of each pair whether it is one of the host's and breaks the clause.
+fn breaking_of_host(
+    alloc: Global,
+    site: &Site,
+    tables: &Tables,
+    dropped: &Tree<bool>,
+) -> Result<Tree<bool>, Memory>
+    requires sound { IsSound site.now }
+    requires regular { AreRegular site.now tables.now }
+    requires tops { dropped.now.0 ≡ tops_of site.now }
+    requires dropped { Tells site.now (IsDroppedOfAlike site.now tables.now) dropped.now.1 }
+    ensures tops { IfOk result (λ t. t.0 ≡ tops_of site.now) }
+    ensures tells { IfOk result (λ t. Tells site.now (λ p r. (is_host p ≡ true) × BreaksAheadOfLookup site.now tables.now p r) t.1) }
+{
+    let sides = host_sides(alloc, site)?;
+    dropped.restrict(alloc, &sides, false)
+}
+
 // A pair of the host that breaks the clause: it is dropped, and a pair or a new packet that looks like it is accepted.
 fn among_host(
     alloc: Global,
@@ -183,10 +224,8 @@ fn among_host(
     requires behind { Tells site.now (IsAcceptedAlike site.now tables.now) behind.now.1 }
     ensures { IfOk result (IsSoughtAmong site.now tables.now (λ p r. is_host p)) }
 {
-    let alike = accepted_new_alike(alloc, site, tables)?;
-    let dropped = dropped_with_either(alloc, accepted, behind, &alike)?;
-    let sides = host_sides(alloc, site)?;
-    let breaking = dropped.restrict(alloc, &sides, false)?;
+    let dropped = dropped_of_alike(alloc, site, tables, accepted, behind)?;
+    let breaking = breaking_of_host(alloc, site, tables, &dropped)?;
     named_pair(alloc, site, &breaking)
 }
 
@@ -255,6 +294,71 @@ fn among_passing(
     named_pair(alloc, site, &breaking)
 }
 
+// A pair that arrives and breaks the clause.
+fn among_arriving(
+    alloc: Global,
+    site: &Site,
+    tables: &Tables,
+    dropped: &Tree<bool>,
+    behind: &Tree<bool>,
+) -> Result<Option<(Pair, Option<Pair>)>, Memory>
+    requires sound { IsSound site.now }
+    requires regular { AreRegular site.now tables.now }
+    requires tops { dropped.now.0 ≡ tops_of site.now }
+    requires dropped { Tells site.now (IsDroppedOfPacket site.now tables.now) dropped.now.1 }
+    requires behind_tops { behind.now.0 ≡ tops_of site.now }
+    requires behind { Tells site.now (IsAcceptedAlike site.now tables.now) behind.now.1 }
+    ensures { IfOk result (IsSoughtAmong site.now tables.now (λ p r. not (is_host p))) }
+{
+    if let Some(found) = among_staying(alloc, site, tables, dropped)? {
+        return Ok(Some(found));
+    }
+    among_passing(alloc, site, tables, dropped, behind)
+}
+
+// A pair that breaks the clause, of what is accepted and of what rules see.
+fn among_seen(
+    alloc: Global,
+    site: &Site,
+    tables: &Tables,
+    accepted: &Tree<bool>,
+    packet: &Tree<bool>,
+    behind: &Tree<bool>,
+) -> Result<Option<(Pair, Option<Pair>)>, Memory>
+    requires sound { IsSound site.now }
+    requires regular { AreRegular site.now tables.now }
+    requires accepted_tops { accepted.now.0 ≡ tops_of site.now }
+    requires accepted { Tells site.now (IsAcceptedPair tables.now) accepted.now.1 }
+    requires packet_tops { packet.now.0 ≡ tops_of site.now }
+    requires packet { Tells site.now (λ p r. IsAcceptedSomewhere site.now tables.now p) packet.now.1 }
+    requires behind_tops { behind.now.0 ≡ tops_of site.now }
+    requires behind { Tells site.now (IsAcceptedAlike site.now tables.now) behind.now.1 }
+    ensures { IfOk result (λ found. IsSought site.now tables.now DropsAheadOfLookup found) }
+{
+    if let Some(found) = among_host(alloc, site, tables, accepted, behind)? {
+        return Ok(Some(found));
+    }
+    let dropped = dropped_of_packet(alloc, site, tables, accepted, packet)?;
+    among_arriving(alloc, site, tables, &dropped, behind)
+}
+
+// A pair that breaks the clause, of what is accepted.
+fn among_accepted(
+    alloc: Global,
+    site: &Site,
+    tables: &Tables,
+    accepted: &Tree<bool>,
+) -> Result<Option<(Pair, Option<Pair>)>, Memory>
+    requires sound { IsSound site.now }
+    requires regular { AreRegular site.now tables.now }
+    requires accepted_tops { accepted.now.0 ≡ tops_of site.now }
+    requires accepted { Tells site.now (IsAcceptedPair tables.now) accepted.now.1 }
+    ensures { IfOk result (λ found. IsSought site.now tables.now DropsAheadOfLookup found) }
+{
+    let seen = seen(alloc, site, tables)?;
+    among_seen(alloc, site, tables, accepted, &seen.packet, &seen.behind)
+}
+
 /// A dropped pair that ipfw can't drop ahead of the look-up of connections, if there is one. An error is want of
 /// memory.
 pub(crate) fn drops_ahead_of_lookup(
@@ -267,13 +371,5 @@ pub(crate) fn drops_ahead_of_lookup(
     ensures { IfOk result (λ found. IsSought site.now tables.now DropsAheadOfLookup found) }
 {
     let accepted = accepted(alloc, site, tables)?;
-    let seen = seen(alloc, site, tables)?;
-    if let Some(found) = among_host(alloc, site, tables, &accepted, &seen.behind)? {
-        return Ok(Some(found));
-    }
-    let dropped = dropped_of_packet(alloc, site, tables, &accepted, &seen.packet)?;
-    if let Some(found) = among_staying(alloc, site, tables, &dropped)? {
-        return Ok(Some(found));
-    }
-    among_passing(alloc, site, tables, &dropped, &seen.behind)
+    among_accepted(alloc, site, tables, &accepted)
 }

@@ -1,12 +1,14 @@
 //! Whether established packets are dropped by what one rule can see.
 
-ghost use Rattle.std.specs.Prelude.{◌≡◌, IfOk};
+ghost use Rattle.std.specs.Prelude.{◌≡◌, ℕ, Bool, ◌&&◌, not, List, Some, IfOk};
+ghost use Rattle.fws_box.specs.Sides.{IsWithin};
 ghost use Rattle.fws_net.specs.Points.{tops_of};
 ghost use Rattle.fws_net.specs.Routes.{IsSound};
 ghost use Rattle.fws_place.specs.declared.clause.Clause.TheVariants.{DropsByOneView};
 ghost use Rattle.fws_place.specs.Clauses.{BreaksByOneView};
 ghost use Rattle.fws_place.specs.Found.{IsSought};
-ghost use Rattle.fws_place.specs.Seen.{Tells};
+ghost use Rattle.fws_place.specs.Seen.{IsAcceptedPair, IsAcceptedSomewhere, IsAcceptedAlike, Tells};
+ghost use Rattle.fws_tree.specs.Plain.{value};
 ghost use Rattle.fws_tree.specs.Regular.{AreRegular};
 
 use crate::breach::Pair;
@@ -32,6 +34,65 @@ impl Relabelling<(bool, (bool, bool)), bool> for DroppedAlone {
     }
 }
 
+// The tree that is true where the first one is false and both others are true.
+fn dropped_alone(
+    alloc: Global,
+    accepted: &Tree<bool>,
+    packet: &Tree<bool>,
+    behind: &Tree<bool>,
+) -> Result<Tree<bool>, Memory>
+    requires packet { packet.now.0 ≡ accepted.now.0 }
+    requires behind { behind.now.0 ≡ accepted.now.0 }
+    ensures tops { IfOk result (λ t. t.0 ≡ accepted.now.0) }
+    ensures value { IfOk result (λ t. (q : List ℕ) → IsWithin accepted.now.0 q → (a : Bool) × (b : Bool) × (c : Bool) × (value accepted.now.1 q ≡ Some a) × (value packet.now.1 q ≡ Some b) × (value behind.now.1 q ≡ Some c) × (value t.1 q ≡ Some (not a && b && c))) }
+{
+    let both = packet.pair(alloc, behind)?;
+    let all = accepted.pair(alloc, &both)?;
+    all.relabel(alloc, &DroppedAlone)
+}
+
+// The tree that tells of each pair whether it breaks the clause, of what is accepted and of what rules see.
+fn breaking_seen(
+    alloc: Global,
+    site: &Site,
+    tables: &Tables,
+    accepted: &Tree<bool>,
+    packet: &Tree<bool>,
+    behind: &Tree<bool>,
+) -> Result<Tree<bool>, Memory>
+    requires sound { IsSound site.now }
+    requires regular { AreRegular site.now tables.now }
+    requires accepted_tops { accepted.now.0 ≡ tops_of site.now }
+    requires accepted { Tells site.now (IsAcceptedPair tables.now) accepted.now.1 }
+    requires packet_tops { packet.now.0 ≡ tops_of site.now }
+    requires packet { Tells site.now (λ p r. IsAcceptedSomewhere site.now tables.now p) packet.now.1 }
+    requires behind_tops { behind.now.0 ≡ tops_of site.now }
+    requires behind { Tells site.now (IsAcceptedAlike site.now tables.now) behind.now.1 }
+    ensures tops { IfOk result (λ t. t.0 ≡ tops_of site.now) }
+    ensures tells { IfOk result (λ t. Tells site.now (BreaksByOneView site.now tables.now) t.1) }
+{
+    let dropped = dropped_alone(alloc, accepted, packet, behind)?;
+    without_lost(alloc, site, dropped)
+}
+
+// The tree that tells of each pair whether it breaks the clause, of what is accepted.
+fn breaking_accepted(
+    alloc: Global,
+    site: &Site,
+    tables: &Tables,
+    accepted: &Tree<bool>,
+) -> Result<Tree<bool>, Memory>
+    requires sound { IsSound site.now }
+    requires regular { AreRegular site.now tables.now }
+    requires accepted_tops { accepted.now.0 ≡ tops_of site.now }
+    requires accepted { Tells site.now (IsAcceptedPair tables.now) accepted.now.1 }
+    ensures tops { IfOk result (λ t. t.0 ≡ tops_of site.now) }
+    ensures tells { IfOk result (λ t. Tells site.now (BreaksByOneView site.now tables.now) t.1) }
+{
+    let seen = seen(alloc, site, tables)?;
+    breaking_seen(alloc, site, tables, accepted, &seen.packet, &seen.behind)
+}
+
 // The tree that tells of each pair whether it breaks the clause.
 fn breaking(alloc: Global, site: &Site, tables: &Tables) -> Result<Tree<bool>, Memory>
     requires sound { IsSound site.now }
@@ -39,10 +100,8 @@ fn breaking(alloc: Global, site: &Site, tables: &Tables) -> Result<Tree<bool>, M
     ensures tops { IfOk result (λ t. t.0 ≡ tops_of site.now) }
     ensures tells { IfOk result (λ t. Tells site.now (BreaksByOneView site.now tables.now) t.1) }
 {
-    let seen = seen(alloc, site, tables)?;
-    let both = seen.packet.pair(alloc, &seen.behind)?;
-    let all = accepted(alloc, site, tables)?.pair(alloc, &both)?;
-    without_lost(alloc, site, all.relabel(alloc, &DroppedAlone)?)
+    let accepted = accepted(alloc, site, tables)?;
+    breaking_accepted(alloc, site, tables, &accepted)
 }
 
 /// A pair that is dropped though its packet is accepted in some connection and some pair that looks like it

@@ -5,7 +5,9 @@ ghost use Rattle.fws_place.specs.Exactly.{IsPut};
 
 use crate::redirect::Redirect;
 use fws_num::Memory;
+use fws_tree::Leaf;
 use indexmap::IndexSet;
+use std::alloc::Global;
 use std::hash::Hash;
 
 /// A value that equals no other one than itself.
@@ -28,5 +30,17 @@ pub(crate) fn put_new<T: Exact>(kept: &mut IndexSet<T>, value: T) -> Result<(), 
     ensures { OnOk result (IsPut kept.old.keys kept.new.keys value) }
 {
     kept.insert(value)?;
+    Ok(())
+}
+
+/// Puts the leaf behind the others, unless it is there. An error is want of memory.
+pub(crate) fn put_leaf<L: Leaf>(
+    alloc: Global,
+    kept: &mut IndexSet<L>,
+    leaf: &L,
+) -> Result<(), Memory>
+    ensures { OnOk result (IsPut kept.old.keys kept.new.keys leaf.now) }
+{
+    kept.insert(leaf.copy(alloc)?)?;
     Ok(())
 }

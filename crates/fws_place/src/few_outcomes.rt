@@ -1,6 +1,6 @@
 //! Whether new packets have few different outcomes.
 
-ghost use Rattle.std.specs.Prelude.{◌≡◌, true, IfOk, MatchOption};
+ghost use Rattle.std.specs.Prelude.{◌≡◌, true, [], IfOk, MatchOption};
 ghost use Rattle.fws_net.specs.Routes.{IsSound};
 ghost use Rattle.fws_place.specs.declared.clause.Clause.TheVariants.{FewOutcomes};
 ghost use Rattle.fws_place.specs.Counts.{IsFirstAbove, ShowLeavesAbove};
@@ -9,6 +9,7 @@ ghost use Rattle.fws_tree.specs.Regular.{AreRegular};
 ghost use Rattle.fws_tree.specs.Rows.{paths_of};
 
 use crate::breach::Pair;
+use crate::exact::put_leaf;
 use crate::first_true::leasts;
 use crate::point::packet_at;
 use fws_net::{Outcome, Site};
@@ -27,6 +28,25 @@ fn are_few(tree: &Tree<Outcome>) -> bool
     tree.shared().leaves.len() <= MOST_OUTCOMES
 }
 
+// The place of the row with which the rows first show more different leaves, which are put into the empty set.
+fn first_above_met<L: Leaf>(
+    alloc: Global,
+    met: &mut IndexSet<L>,
+    rows: &[Row<L>],
+    most: usize,
+) -> Result<Option<usize>, Memory>
+    requires { met.now.keys ≡ [] }
+    ensures { IfOk result (λ found. MatchOption found (ShowLeavesAbove most rows.now → ⊥) (IsFirstAbove most rows.now)) }
+{
+    for (at, row) in rows.iter().enumerate() {
+        put_leaf(alloc, met, &row.leaf)?;
+        if met.len() > most {
+            return Ok(Some(at));
+        }
+    }
+    Ok(None)
+}
+
 // The place of the row with which the rows first show more different leaves.
 fn first_above<L: Leaf>(
     alloc: Global,
@@ -36,13 +56,7 @@ fn first_above<L: Leaf>(
     ensures { IfOk result (λ found. MatchOption found (ShowLeavesAbove most rows.now → ⊥) (IsFirstAbove most rows.now)) }
 {
     let mut met = IndexSet::new(alloc);
-    for (at, row) in rows.iter().enumerate() {
-        met.insert(row.leaf.copy(alloc)?)?;
-        if met.len() > most {
-            return Ok(Some(at));
-        }
-    }
-    Ok(None)
+    first_above_met(alloc, &mut met, rows, most)
 }
 
 /// A packet of the row with which the rows for new packets first show more than 60,000 outcomes, if there is one.

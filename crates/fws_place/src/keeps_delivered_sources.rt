@@ -1,11 +1,16 @@
 //! Whether the sources of delivered packets are kept.
 
-ghost use Rattle.std.specs.Prelude.{◌≡◌, ◌^◌, ◌<◌, ◌≤◌, length, All, IfOk, MatchOption};
+ghost use Rattle.std.specs.Prelude.{◌≡◌, ◌^◌, ◌<◌, ◌≤◌, ℕ, List, Some, length, All, IfOk, IsTrue, MatchOption};
+ghost use Rattle.fws_box.specs.Sides.{IsWithin, sides_have};
+ghost use Rattle.fws_net.specs.declared.outcome.Outcome.{Outcome};
+ghost use Rattle.fws_net.specs.Points.{tops_of};
 ghost use Rattle.fws_net.specs.Routes.{IsSound};
 ghost use Rattle.fws_place.specs.declared.clause.Clause.TheVariants.{KeepsDeliveredSources};
-ghost use Rattle.fws_place.specs.Delivered.{IsDelivered, IsDeliveredIn, NoneDelivered};
+ghost use Rattle.fws_place.specs.Delivered.{with_source, IsDelivered, IsDeliveredIn, NoneDelivered};
 ghost use Rattle.fws_place.specs.Found.{IsSought};
+ghost use Rattle.fws_tree.specs.Plain.{value, IsReduced};
 ghost use Rattle.fws_tree.specs.Regular.{AreRegular};
+ghost use Rattle.fws_tree.specs.Rows.{paths_of, row_hits};
 
 use crate::breach::Pair;
 use crate::delivering::{local_of, writes_addresses};
@@ -16,7 +21,7 @@ use fws_box::Point;
 use fws_iv::Ivs;
 use fws_net::{Outcome, Site, local_set, tops};
 use fws_num::Memory;
-use fws_tree::{Relabelling, Row, Tables};
+use fws_tree::{Relabelling, Row, Tables, Tree};
 use std::alloc::Global;
 
 /// The outcomes that write a source, and drops for the others.
@@ -76,6 +81,47 @@ pub(crate) fn first_delivered(local: &Ivs, top: u32, rows: &[Row<Outcome>]) -> O
     None
 }
 
+/// A point of a row of the tree whose packets are sent to one of the addresses, with its entry and destination. An error is
+/// want of memory.
+pub(crate) fn delivered_in(
+    alloc: Global,
+    tree: &Tree<Outcome>,
+    local: &Ivs,
+    top: u32,
+) -> Result<Option<Point>, Memory>
+    ensures found { IfOk result (λ found. MatchOption found (All (NoneDelivered local.now top) (paths_of tree.now.0 tree.now.1)) (IsDeliveredIn local.now top (paths_of tree.now.0 tree.now.1))) }
+    ensures once { IfOk result (λ found. (p : List ℕ) → IsWithin tree.now.0 p → row_hits (paths_of tree.now.0 tree.now.1) p ≡ 1) }
+    ensures right { IfOk result (λ found. (p : List ℕ) → IsWithin tree.now.0 p → All (λ row. IsTrue (sides_have row.sides p) → value tree.now.1 p ≡ Some row.leaf) (paths_of tree.now.0 tree.now.1)) }
+{
+    let _tops = tree.tops();
+    let rows = tree.paths(alloc)?;
+    Ok(first_delivered(local, top, &rows))
+}
+
+// A new packet whose source is written in the tree of sources and that is delivered, if there is one.
+fn delivered_among(
+    alloc: Global,
+    site: &Site,
+    tables: &Tables,
+    sources: &Tree<Outcome>,
+) -> Result<Option<(Pair, Option<Pair>)>, Memory>
+    requires sound { IsSound site.now }
+    requires regular { AreRegular site.now tables.now }
+    requires tops { sources.now.0 ≡ tops_of site.now }
+    requires reduced { IsReduced sources.now.0 sources.now.1 }
+    requires sources { (q : List ℕ) → IsWithin (tops_of site.now) q → (o : Outcome) × (value tables.now.fresh.1 q ≡ Some o) × (value sources.now.1 q ≡ Some (with_source o)) }
+    ensures { IfOk result (λ found. IsSought site.now tables.now KeepsDeliveredSources found) }
+{
+    let local = local_set(alloc, site)?;
+    match delivered_in(alloc, sources, &local, tops(site)[0])? {
+        Some(point) => {
+            let packet = packet_at(&point);
+            Ok(Some((Pair { packet, rec: None }, None)))
+        }
+        None => Ok(None),
+    }
+}
+
 /// A new packet that is accepted, has a source written and is delivered, if there is one. An error is want of memory.
 pub(crate) fn keeps_delivered_sources(
     alloc: Global,
@@ -87,14 +133,5 @@ pub(crate) fn keeps_delivered_sources(
     ensures { IfOk result (λ found. IsSought site.now tables.now KeepsDeliveredSources found) }
 {
     let sources = tables.fresh.relabel(alloc, &WithSource)?;
-    let _tops = sources.tops();
-    let rows = sources.paths(alloc)?;
-    let local = local_set(alloc, site)?;
-    match first_delivered(&local, tops(site)[0], &rows) {
-        Some(point) => {
-            let packet = packet_at(&point);
-            Ok(Some((Pair { packet, rec: None }, None)))
-        }
-        None => Ok(None),
-    }
+    delivered_among(alloc, site, tables, &sources)
 }

@@ -1,6 +1,6 @@
 //! Packets that go from the inside to the outside, and their sources.
 
-ghost use Rattle.std.specs.Prelude.{◌≡◌, ◌^◌, ◌<◌, ◌||◌, ◌↔◌, ℕ, Bool, true, false, List, Some, IfOk};
+ghost use Rattle.std.specs.Prelude.{◌≡◌, ◌^◌, ◌<◌, ◌||◌, ◌↔◌, ℕ, Bool, true, false, List, Some, slice_index, if◌then◌else◌, IfOk};
 ghost use Rattle.fws_box.specs.Sides.{IsWithin};
 ghost use Rattle.fws_iv.specs.Ivs.{has};
 ghost use Rattle.fws_net.specs.declared.outcome.Outcome.{Outcome};
@@ -31,6 +31,20 @@ fn destinations(alloc: Global, site: &Site, outside: &Ivs, outcome: &Outcome) ->
     }
 }
 
+// The tree that is true where the outcome is this one and packets come by one of the entries.
+fn coming_with(
+    alloc: Global,
+    outcomes: &Tree<Outcome>,
+    outcome: &Outcome,
+    entries: &Ivs,
+) -> Result<Tree<bool>, Memory>
+    ensures tops { IfOk result (λ t. t.0 ≡ outcomes.now.0) }
+    ensures value { IfOk result (λ t. (q : List ℕ) → IsWithin outcomes.now.0 q → (b : Bool) × ((b ≡ true) ↔ (value outcomes.now.1 q ≡ Some outcome.now)) × (value t.1 q ≡ (if has entries.now (slice_index q 0) then Some b else Some false))) }
+{
+    let such = outcomes.select(alloc, outcome)?;
+    kept_in(alloc, &such, 0, entries.copy(alloc)?, false)
+}
+
 // The tree that is true where the outcome is this one and packets go from the inside to the outside.
 fn going_with(
     alloc: Global,
@@ -46,8 +60,7 @@ fn going_with(
     ensures tops { IfOk result (λ t. t.0 ≡ tops_of site.now) }
     ensures value { IfOk result (λ t. (q : List ℕ) → IsWithin (tops_of site.now) q → (b : Bool) × (value t.1 q ≡ Some b) × ((b ≡ true) ↔ ((value outcomes.now.1 q ≡ Some outcome.now) × (goes_out site.now outcome.now q ≡ true)))) }
 {
-    let such = outcomes.select(alloc, outcome)?;
-    let coming = kept_in(alloc, &such, 0, inside.copy(alloc)?, false)?;
+    let coming = coming_with(alloc, outcomes, outcome, inside)?;
     let set = destinations(alloc, site, outside, outcome)?;
     kept_in(alloc, &coming, 2, set, false)
 }
@@ -92,6 +105,27 @@ fn true_in_either(
     pairs.relabel(alloc, &Either)
 }
 
+// The tree that is true where this one is, and where the outcome is this one and packets go from the inside to the outside.
+fn with_going(
+    alloc: Global,
+    site: &Site,
+    all: &Tree<bool>,
+    outcomes: &Tree<Outcome>,
+    outcome: &Outcome,
+    inside: &Ivs,
+    outside: &Ivs,
+) -> Result<Tree<bool>, Memory>
+    requires all { all.now.0 ≡ tops_of site.now }
+    requires tops { outcomes.now.0 ≡ tops_of site.now }
+    requires inside { AreInside site.now inside.now }
+    requires outside { AreOutside site.now outside.now }
+    ensures tops { IfOk result (λ t. t.0 ≡ tops_of site.now) }
+    ensures value { IfOk result (λ t. (q : List ℕ) → IsWithin (tops_of site.now) q → (a : Bool) × (b : Bool) × (value all.now.1 q ≡ Some a) × ((b ≡ true) ↔ ((value outcomes.now.1 q ≡ Some outcome.now) × (goes_out site.now outcome.now q ≡ true))) × (value t.1 q ≡ Some (a || b))) }
+{
+    let such = going_with(alloc, site, outcomes, outcome, inside, outside)?;
+    true_in_either(alloc, all, &such)
+}
+
 // The tree that is true where packets of the outcomes go from the inside to the outside. The work is that of a few changes
 // of the tree for each outcome.
 fn going_out(
@@ -110,8 +144,7 @@ fn going_out(
     let shared = outcomes.shared();
     let mut all = outcomes.relabel(alloc, &Never)?;
     for outcome in shared.leaves {
-        let such = going_with(alloc, site, outcomes, outcome, inside, outside)?;
-        all = true_in_either(alloc, &all, &such)?;
+        all = with_going(alloc, site, &all, outcomes, outcome, inside, outside)?;
     }
     Ok(all)
 }

@@ -59,6 +59,27 @@ fn dropped_host(alloc: Global, site: &Site, tables: &Tables) -> Result<Tree<bool
     dropped.restrict(alloc, &sides, false)
 }
 
+// A new packet of the host that doesn't pass as it is, by the tree that tells of them, or else a pair of the host that is
+// dropped.
+fn changed_or_dropped(
+    alloc: Global,
+    site: &Site,
+    tables: &Tables,
+    changed: &Tree<bool>,
+) -> Result<Option<(Pair, Option<Pair>)>, Memory>
+    requires sound { IsSound site.now }
+    requires regular { AreRegular site.now tables.now }
+    requires tops { changed.now.0 ≡ tops_of site.now }
+    requires tells { Tells site.now (λ p r. BreaksHost tables.now p) changed.now.1 }
+    ensures { IfOk result (λ found. IsSought site.now tables.now PassesHost found) }
+{
+    if let Some(found) = named_packet(alloc, site, changed)? {
+        return Ok(Some(found));
+    }
+    let dropped = dropped_host(alloc, site, tables)?;
+    named_pair(alloc, site, &dropped)
+}
+
 /// A new packet of the host that isn't accepted as it is, or else a pair of the host that is dropped, if there is one.
 /// An error is want of memory.
 pub(crate) fn passes_host(
@@ -71,9 +92,5 @@ pub(crate) fn passes_host(
     ensures { IfOk result (λ found. IsSought site.now tables.now PassesHost found) }
 {
     let changed = changed_host(alloc, site, tables)?;
-    if let Some(found) = named_packet(alloc, site, &changed)? {
-        return Ok(Some(found));
-    }
-    let dropped = dropped_host(alloc, site, tables)?;
-    named_pair(alloc, site, &dropped)
+    changed_or_dropped(alloc, site, tables, &changed)
 }

@@ -65,6 +65,27 @@ pub fn accepted_somewhere(alloc: Global, site: &Site, tables: &Tables) -> Result
 // source and its port of the connection.
 const UNSEEN_BEHIND: u16 = 0xc0c;
 
+// What rules can tell of established packets, of the pairs that are accepted.
+fn seen_of(
+    alloc: Global,
+    site: &Site,
+    tables: &Tables,
+    accepted: &Tree<bool>,
+) -> Result<Views, Memory>
+    requires tops { accepted.now.0 ≡ tops_of site.now }
+    requires tells { Tells site.now (IsAcceptedPair tables.now) accepted.now.1 }
+    ensures packet_tops { IfOk result (λ s. s.packet.0 ≡ tops_of site.now) }
+    ensures behind_tops { IfOk result (λ s. s.behind.0 ≡ tops_of site.now) }
+    ensures packet_reduced { IfOk result (λ s. IsReduced s.packet.0 s.packet.1) }
+    ensures behind_reduced { IfOk result (λ s. IsReduced s.behind.0 s.behind.1) }
+    ensures packet { IfOk result (λ s. Tells site.now (λ p r. IsAcceptedSomewhere site.now tables.now p) s.packet.1) }
+    ensures behind { IfOk result (λ s. Tells site.now (IsAcceptedAlike site.now tables.now) s.behind.1) }
+{
+    let packet = accepted.exists(alloc, ENDS)?;
+    let behind = accepted.exists(alloc, UNSEEN_BEHIND)?;
+    Ok(Views { packet, behind })
+}
+
 /// What rules can tell of established packets. The tops of both trees are the site's. An error is want
 /// of memory.
 pub fn seen(alloc: Global, site: &Site, tables: &Tables) -> Result<Views, Memory>
@@ -77,7 +98,5 @@ pub fn seen(alloc: Global, site: &Site, tables: &Tables) -> Result<Views, Memory
     ensures behind { IfOk result (λ s. Tells site.now (IsAcceptedAlike site.now tables.now) s.behind.1) }
 {
     let accepted = accepted(alloc, site, tables)?;
-    let packet = accepted.exists(alloc, ENDS)?;
-    let behind = accepted.exists(alloc, UNSEEN_BEHIND)?;
-    Ok(Views { packet, behind })
+    seen_of(alloc, site, tables, &accepted)
 }

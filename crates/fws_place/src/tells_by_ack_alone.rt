@@ -78,6 +78,28 @@ fn ahead(
     }
 }
 
+// Two packets or pairs that break the clause, of which new packets are accepted.
+fn told_of_new(
+    alloc: Global,
+    site: &Site,
+    tables: &Tables,
+    new: &Tree<bool>,
+) -> Result<Option<(Pair, Option<Pair>)>, Memory>
+    requires sound { IsSound site.now }
+    requires regular { AreRegular site.now tables.now }
+    requires tops { new.now.0 ≡ tops_of site.now }
+    requires tells { Tells site.now (λ p r. IsAcceptedNew tables.now p) new.now.1 }
+    ensures { IfOk result (λ found. IsSought site.now tables.now TellsByAckAlone found) }
+{
+    if let Some(found) = new_by_more(alloc, site, tables, new)? {
+        return Ok(Some(found));
+    }
+    if let Some(found) = established_by_more(alloc, site, tables)? {
+        return Ok(Some(found));
+    }
+    ahead(alloc, site, tables, new)
+}
+
 /// Two packets or pairs that arrive and differ in flags alone, though these may tell packets apart by ACK and RST alone,
 /// if there are any. An error is want of memory.
 pub(crate) fn tells_by_ack_alone(
@@ -90,11 +112,5 @@ pub(crate) fn tells_by_ack_alone(
     ensures { IfOk result (λ found. IsSought site.now tables.now TellsByAckAlone found) }
 {
     let new = accepted_new(alloc, site, tables)?;
-    if let Some(found) = new_by_more(alloc, site, tables, &new)? {
-        return Ok(Some(found));
-    }
-    if let Some(found) = established_by_more(alloc, site, tables)? {
-        return Ok(Some(found));
-    }
-    ahead(alloc, site, tables, &new)
+    told_of_new(alloc, site, tables, &new)
 }

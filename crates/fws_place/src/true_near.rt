@@ -1,10 +1,11 @@
 //! Points that agree in all fields but some, at which trees are true.
 
-ghost use Rattle.std.specs.Prelude.{◌≡◌, ◌<◌, ◌≤◌, ◌↔◌, ℕ, true, IsTrue, List, IfOk, MatchOption};
+ghost use Rattle.std.specs.Prelude.{◌≡◌, ◌<◌, ◌≤◌, ◌↔◌, ℕ, true, IsTrue, List, Some, IfOk, MatchOption};
 ghost use Rattle.fws_box.specs.Sides.{IsWithin, sides_have};
-ghost use Rattle.fws_place.specs.Apart.{near_side, AreTrueNear, NoneTrueNear};
+ghost use Rattle.fws_place.specs.Apart.{near_side, AreTrueNear, IsFirstNear, NoneTrueNear};
 ghost use Rattle.fws_place.specs.Found.{IsTrueAt};
 ghost use Rattle.fws_tree.specs.Changed.{is_free, Agree};
+ghost use Rattle.fws_tree.specs.Plain.{value};
 
 use crate::drops_ahead_of_lookup::true_in_both;
 use crate::first_true::first_true;
@@ -64,6 +65,35 @@ fn true_near(
     first_true(alloc, &near)
 }
 
+// The tree that is true where the first one is and the second is at a point that agrees in all fields whose bits aren't set.
+fn first_together(
+    alloc: Global,
+    first: &Tree<bool>,
+    second: &Tree<bool>,
+    fields: u16,
+) -> Result<Tree<bool>, Memory>
+    requires { second.now.0 ≡ first.now.0 }
+    ensures tops { IfOk result (λ t. t.0 ≡ first.now.0) }
+    ensures value { IfOk result (λ t. (p : List ℕ) → IsWithin first.now.0 p → (value t.1 p ≡ Some true) ↔ IsFirstNear fields first.now.0 first.now.1 second.now.1 p) }
+{
+    let somewhere = second.exists(alloc, fields)?;
+    true_in_both(alloc, first, &somewhere)
+}
+
+// The first of two such points, if there are any.
+fn first_near(
+    alloc: Global,
+    first: &Tree<bool>,
+    second: &Tree<bool>,
+    fields: u16,
+) -> Result<Option<Point>, Memory>
+    requires { second.now.0 ≡ first.now.0 }
+    ensures { IfOk result (λ found. MatchOption found (NoneTrueNear fields first.now.0 first.now.1 second.now.1) (IsFirstNear fields first.now.0 first.now.1 second.now.1)) }
+{
+    let both = first_together(alloc, first, second, fields)?;
+    first_true(alloc, &both)
+}
+
 /// Two points that agree in all fields whose bits aren't set, at the first of which the one tree is true, and at the second
 /// the other, if there are any. An error is want of memory.
 pub(crate) fn true_together(
@@ -75,9 +105,7 @@ pub(crate) fn true_together(
     requires { second.now.0 ≡ first.now.0 }
     ensures { IfOk result (λ found. MatchOption found (NoneTrueNear fields first.now.0 first.now.1 second.now.1) (λ pair. AreTrueNear fields first.now.0 first.now.1 second.now.1 pair.0 pair.1)) }
 {
-    let somewhere = second.exists(alloc, fields)?;
-    let both = true_in_both(alloc, first, &somewhere)?;
-    match first_true(alloc, &both)? {
+    match first_near(alloc, first, second, fields)? {
         None => Ok(None),
         Some(point) => match true_near(alloc, second, &point, fields)? {
             Some(other) => Ok(Some((point, other))),

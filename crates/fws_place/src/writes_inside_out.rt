@@ -1,21 +1,25 @@
 //! Whether sources are written from the inside to the outside alone.
 
-ghost use Rattle.std.specs.Prelude.{◌≡◌, ℕ, List, slice_index, IfOk};
+ghost use Rattle.std.specs.Prelude.{◌≡◌, ℕ, List, Some, slice_index, if◌then◌else◌, IfOk};
 ghost use Rattle.fws_box.specs.Sides.{IsWithin, sides_have};
+ghost use Rattle.fws_net.specs.declared.outcome.Outcome.{Outcome};
+ghost use Rattle.fws_net.specs.declared.outcome.Outcome.TheVariants.{Drop};
 ghost use Rattle.fws_net.specs.Points.{tops_of};
 ghost use Rattle.fws_net.specs.Routes.{IsSound};
 ghost use Rattle.fws_place.specs.declared.clause.Clause.TheVariants.{WritesInsideOut};
 ghost use Rattle.fws_place.specs.Asked.{IsSoughtPacket};
 ghost use Rattle.fws_place.specs.Crossing.{IsWrittenElsewhere, IsWrittenWithin};
+ghost use Rattle.fws_place.specs.Delivered.{with_source};
 ghost use Rattle.fws_place.specs.Found.{IsSought};
 ghost use Rattle.fws_place.specs.Rewritings.{is_inside, side_of};
 ghost use Rattle.fws_place.specs.Seen.{Tells};
+ghost use Rattle.fws_tree.specs.Plain.{value, IsReduced};
 ghost use Rattle.fws_tree.specs.Regular.{AreRegular};
 
 use crate::asking::{Asked, accepted_with};
 use crate::breach::Pair;
 use crate::crossing::{inside_sides, not_outside};
-use crate::keeps_delivered_sources::{WithSource, first_delivered};
+use crate::keeps_delivered_sources::{WithSource, delivered_in};
 use crate::naming::named_packet;
 use crate::point::packet_at;
 use fws_iv::Ivs;
@@ -40,6 +44,47 @@ fn written_elsewhere(
     written.paint(alloc, inside, false)
 }
 
+// The tree of the outcomes of new packets from the inside that write a source, and drops for the others.
+fn sources_within(
+    alloc: Global,
+    site: &Site,
+    tables: &Tables,
+    inside: &[Ivs; 12],
+) -> Result<Tree<Outcome>, Memory>
+    requires regular { AreRegular site.now tables.now }
+    requires inside { (p : List ℕ) → IsWithin (tops_of site.now) p → sides_have inside.now p ≡ is_inside (side_of site.now (slice_index p 0)) }
+    ensures tops { IfOk result (λ t. t.0 ≡ tops_of site.now) }
+    ensures reduced { IfOk result (λ t. IsReduced t.0 t.1) }
+    ensures value { IfOk result (λ t. (q : List ℕ) → IsWithin (tops_of site.now) q → (o : Outcome) × (value tables.now.fresh.1 q ≡ Some o) × (value t.1 q ≡ Some (if is_inside (side_of site.now (slice_index q 0)) then with_source o else Drop))) }
+{
+    let sources = tables.fresh.relabel(alloc, &WithSource)?;
+    sources.restrict(alloc, inside, Outcome::Drop)
+}
+
+// A new packet whose source is written in this tree and that doesn't leave to the outside, if there is one.
+fn written_among(
+    alloc: Global,
+    site: &Site,
+    tables: &Tables,
+    within: &Tree<Outcome>,
+) -> Result<Option<(Pair, Option<Pair>)>, Memory>
+    requires sound { IsSound site.now }
+    requires regular { AreRegular site.now tables.now }
+    requires tops { within.now.0 ≡ tops_of site.now }
+    requires reduced { IsReduced within.now.0 within.now.1 }
+    requires within { (q : List ℕ) → IsWithin (tops_of site.now) q → (o : Outcome) × (value tables.now.fresh.1 q ≡ Some o) × (value within.now.1 q ≡ Some (if is_inside (side_of site.now (slice_index q 0)) then with_source o else Drop)) }
+    ensures { IfOk result (IsSoughtPacket site.now (IsWrittenWithin site.now tables.now)) }
+{
+    let rest = not_outside(alloc, site)?;
+    match delivered_in(alloc, within, &rest, tops(site)[0])? {
+        Some(point) => {
+            let packet = packet_at(&point);
+            Ok(Some((Pair { packet, rec: None }, None)))
+        }
+        None => Ok(None),
+    }
+}
+
 // A new packet from the inside that is accepted, has a source written and doesn't leave to the outside, if there is one.
 fn written_within(
     alloc: Global,
@@ -52,18 +97,8 @@ fn written_within(
     requires inside { (p : List ℕ) → IsWithin (tops_of site.now) p → sides_have inside.now p ≡ is_inside (side_of site.now (slice_index p 0)) }
     ensures { IfOk result (IsSoughtPacket site.now (IsWrittenWithin site.now tables.now)) }
 {
-    let sources = tables.fresh.relabel(alloc, &WithSource)?;
-    let within = sources.restrict(alloc, inside, Outcome::Drop)?;
-    let _tops = within.tops();
-    let rows = within.paths(alloc)?;
-    let rest = not_outside(alloc, site)?;
-    match first_delivered(&rest, tops(site)[0], &rows) {
-        Some(point) => {
-            let packet = packet_at(&point);
-            Ok(Some((Pair { packet, rec: None }, None)))
-        }
-        None => Ok(None),
-    }
+    let within = sources_within(alloc, site, tables, inside)?;
+    written_among(alloc, site, tables, &within)
 }
 
 /// A new packet that is accepted and has a source written, and doesn't come from the inside or doesn't leave to the

@@ -1,27 +1,22 @@
-use Rattle.std.proofs.Common.{ℕ, Bool, List, sym, subst}
+use Rattle.std.proofs.Common.{ℕ, Bool, ◌&&◌, not, Option, Some, List, sym, subst}
 use Rattle.std.proofs.lemmas.Result.{IfOk-weaker}
-use Rattle.std.specs.Prelude.{nat_eq, slice_index}
 use Rattle.fws_box.specs.Sides.{IsWithin}
 use Rattle.fws_net.specs.Points.{tops_of}
 use Rattle.fws_tree.specs.Plain.{Plain, value}
-use Rattle.fws_place.specs.ByAck.{arrives_at, is_found}
-use Rattle.fws_place.proofs.ByAcks.{first_there, IsFirstOf, IsKeptWhere}
+use Rattle.fws_place.proofs.ByAcks.{is_first_test, kept_there, IsFirstOf, IsKeptWhere}
 use Rattle.fws_place.proofs.ack_ahead.first_of.Goals as goal
 
 pub returns-clause-value : goal.returns-clause-value
 returns-clause-value c =
     let site = c.args.site.now in
-    let tops : List ℕ = tops_of site in
     let sometimes = c.args.sometimes.now in
     let new = c.args.new.now in
-    let dropped = c.in_ok-dropped.dropped in
     let both = c.in_ok-both.both in
-    let found = c.in_ok-found.found in
-    let P : List ℕ × Plain Bool → Type 0 = λ t. IsKeptWhere tops arrives_at found.1 t.1 in
+    let P : List ℕ × Plain Bool → Type 0 = λ t. IsKeptWhere (tops_of site) (is_first_test site) both.1 t.1 in
     let Q : List ℕ × Plain Bool → Type 0 = λ t. IsFirstOf site sometimes.1 new.1 t.1 in
-    IfOk-weaker c.arriving_in.result P Q
+    IfOk-weaker c.arriving_found.result P Q
     (λ t h q w.
-    first_there (arrives_at q) (nat_eq (slice_index q 1) 6) (is_found site (slice_index q 2)) (value sometimes.1 q) (value new.1 q) (value dropped.1 q) (value both.1 q) (value found.1 q) (value t.1 q)
-    (c.in_ok-dropped.ensures.value q (subst (λ (ts : List ℕ). IsWithin ts q) (sym c.requires.new_tops) w))
-    (c.in_ok-both.ensures.value q (subst (λ (ts : List ℕ). IsWithin ts q) (sym c.requires.tops) w)) (c.in_ok-found.ensures.value q w) (h q w))
-    c.arriving_in.ensures.value
+    let f : Bool → Bool → Option Bool = λ a b. Some (a && not b) in
+    kept_there (is_first_test site q) (value sometimes.1 q) (value new.1 q) (value both.1 q) (value t.1 q) f
+    (c.in_ok-both.ensures.value q (subst (λ (ts : List ℕ). IsWithin ts q) (sym c.requires.tops) w)) (h q w))
+    c.arriving_found.ensures.value

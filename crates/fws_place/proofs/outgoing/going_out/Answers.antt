@@ -3,7 +3,6 @@ use Rattle.std.proofs.lemmas.List.{get_or_default}
 use Rattle.fws_box.specs.Sides.{IsWithin}
 use Rattle.fws_net.specs.declared.outcome.Outcome.{Outcome}
 use Rattle.fws_net.specs.declared.outcome.Outcome.TheVariants.{Drop}
-use Rattle.fws_net.specs.Points.{tops_of}
 use Rattle.fws_place.specs.Apart.{HasValuesAmong}
 use Rattle.fws_place.proofs.Apartness.{own_leaves}
 use Rattle.fws_place.proofs.Going.{all_so_far, more_so_far, none_so_far}
@@ -27,14 +26,11 @@ loop-outcome-preserved c =
     let k : ℕ = c.loop-outcome.outcome-index in
     let item : Outcome = c.outcome-item.result in
     let old = c.loop-outcome.all in
-    let such = c.in_ok-such.such in
     let new = c.in_ok-all-2.all in
-    let whole : old.0 ≡ tops_of site = c.loop-outcome.invariant.tops in
     let stands : get_or leaves k Drop ≡ item = get_or_default leaves k Drop item c.loop-outcome-test.true ∙ sym c.outcome-item.is in
     record {
-      tops = c.in_ok-all-2.ensures.tops ∙ whole;
-      so_far = more_so_far site outcomes.1 leaves k item old.1 such.1 new.1 c.loop-outcome-test.true stands c.loop-outcome.invariant.so_far c.in_ok-such.ensures.value
-          (λ q w. c.in_ok-all-2.ensures.value q (subst (λ (ts : List ℕ). IsWithin ts q) (sym whole) w));
+      tops = c.in_ok-all-2.ensures.tops;
+      so_far = more_so_far site outcomes.1 leaves k item old.1 new.1 c.loop-outcome-test.true stands c.loop-outcome.invariant.so_far c.in_ok-all-2.ensures.value;
     }
 
 pub returns-clause-value : goal.returns-clause-value

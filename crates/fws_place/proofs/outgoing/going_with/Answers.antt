@@ -1,4 +1,4 @@
-use Rattle.std.proofs.Common.{◌≡◌, ℕ, Bool, true, false, Some, List, sym, ◌∙◌, ap, subst}
+use Rattle.std.proofs.Common.{◌≡◌, ℕ, Bool, true, false, Some, List, refl, sym, ◌∙◌, subst}
 use Rattle.std.proofs.lemmas.Result.{IfOk-weaker}
 use Rattle.std.specs.Prelude.{◌↔◌, slice_index, if◌then◌else◌}
 use Rattle.fws_iv.specs.declared.iv.Iv.{Iv}
@@ -17,21 +17,15 @@ returns-clause-value c =
     let outcomes = c.args.outcomes.now in
     let o = c.args.outcome.now in
     let inside : List Iv = c.args.inside.now in
-    let such = c.in_ok-such.such in
     let coming = c.in_ok-coming.coming in
     let set : List Iv = c.in_ok-set.set in
-    let whole : outcomes.0 ≡ tops = c.requires.tops in
-    let such_tops : such.0 ≡ tops = c.in_ok-such.ensures.tops ∙ whole in
-    let coming_tops : coming.0 ≡ tops = c.in_ok-coming.ensures.tops ∙ such_tops in
+    let coming_tops : coming.0 ≡ tops = c.in_ok-coming.ensures.tops ∙ c.requires.tops in
     let P : List ℕ × Plain Bool → Type 0 = λ t. (q : List ℕ) → IsWithin coming.0 q → value t.1 q ≡ (if has set (slice_index q 2) then value coming.1 q else Some false) in
     let Q : List ℕ × Plain Bool → Type 0
     = λ t. (q : List ℕ) → IsWithin tops q → (b : Bool) × (value t.1 q ≡ Some b) × ((b ≡ true) ↔ ((value outcomes.1 q ≡ Some o) × (goes_out site o q ≡ true))) in
-    IfOk-weaker c.kept_in-2.result P Q
+    IfOk-weaker c.kept_in.result P Q
     (λ t h q w.
-    let here = c.in_ok-such.ensures.value q (subst (λ (ts : List ℕ). IsWithin ts q) (sym whole) w) in
-    let kept : value coming.1 q ≡ (if has inside (slice_index q 0) then value such.1 q else Some false)
-    = c.in_ok-coming.ensures.value q (subst (λ (ts : List ℕ). IsWithin ts q) (sym such_tops) w)
-    ∙ ap (λ (s : List Iv). if has s (slice_index q 0) then value such.1 q else Some false) c.in_ok-copy.ensures in
-    with_one site inside set o q (value outcomes.1 q) (value such.1 q) (value coming.1 q) (value t.1 q) here.0 c.requires.inside w c.in_ok-set.ensures here.1 here.2 kept
+    let here = c.in_ok-coming.ensures.value q (subst (λ (ts : List ℕ). IsWithin ts q) (sym c.requires.tops) w) in
+    with_one site inside set o q (value outcomes.1 q) (Some here.0) (value coming.1 q) (value t.1 q) here.0 c.requires.inside w c.in_ok-set.ensures refl here.1 here.2
     (h q (subst (λ (ts : List ℕ). IsWithin ts q) (sym coming_tops) w)))
-    c.kept_in-2.ensures.value
+    c.kept_in.ensures.value

@@ -1,7 +1,7 @@
 use Rattle.std.proofs.Common.{◌≤◌, take, length}
 use Rattle.fws_place.specs.Counts.{AreDifferent, leaves_of}
 use Rattle.fws_place.proofs.Counting.{AreCounted}
-use Rattle.fws_place.proofs.few_outcomes.first_above.Given as goal
+use Rattle.fws_place.proofs.few_outcomes.first_above_met.Given as goal
 
 abbrev pub invariant-loop-at : goal.invariant-loop-at
 invariant-loop-at g l = record {

@@ -7,7 +7,7 @@ use Rattle.fws_place.specs.ByAck.{AreSoughtSuch}
 use Rattle.fws_place.specs.Clauses.{BreaksByAckAhead, BreaksByAckEstablished, BreaksByAckNew, NamesPackets, NamesPairs}
 use Rattle.fws_place.specs.Found.{IsSought}
 use Rattle.fws_place.proofs.ByAckPackets.{told_sought}
-use Rattle.fws_place.proofs.tells_by_ack_alone.tells_by_ack_alone.Goals as goal
+use Rattle.fws_place.proofs.tells_by_ack_alone.told_of_new.Goals as goal
 
 pub returns : goal.returns
 returns c =
