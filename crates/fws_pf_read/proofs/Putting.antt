@@ -3,7 +3,6 @@ use Rattle.std.proofs.Common.{◌≡◌, ℕ, suc, ◌+◌, ◌*◌, Option, Non
 use Rattle.std.proofs.lemmas.List.{length-map}
 use Rattle.fws_net.specs.declared.answer.LineFault.{LineFault}
 use Rattle.fws_net.specs.declared.cause.Cause.{Cause}
-use Rattle.fws_net.specs.declared.cause.Checks.{Checks}
 use Rattle.fws_net.specs.declared.condition.Lit.{Lit}
 use Rattle.fws_net.specs.declared.site.Site.{Site}
 use Rattle.fws_net.specs.Causes.{first_cause, unless}
@@ -50,21 +49,6 @@ retagged verbs.Nat d conds tags c = refl
 retagged verbs.Block d conds tags c = refl
 retagged verbs.Pass d conds tags c = refl
 
-own_tags : (v : Verb) (d : RuleDraft) (conds : List (List Lit)) (c : PfConfig) → record (with_rules v d conds c) { tags = d.tags } ≡ with_rules v d conds c
-own_tags verbs.Rdr d conds c = refl
-own_tags verbs.Nat d conds c = refl
-own_tags verbs.Block d conds c = refl
-own_tags verbs.Pass d conds c = refl
-
--- a rule that was counted and put by its verb, and whose tags were put
-pub put_all : (d : RuleDraft) (tags : List (List ℕ)) (conds : List (List Lit)) (old counted made new : PfDraft) → counted ≡ record old { expanded = expanded_with old.expanded (length conds) } →
-    made ≡ with_tags counted.config.tags (record counted { config = with_rules d.verb d conds counted.config }) → tags ≡ d.tags → new ≡ with_tags tags made →
-    new ≡ put d conds old
-put_all d tags conds old counted made new a b k e =
-    e ∙ ap (λ (l : List (List ℕ)). with_tags l made) k ∙ ap (with_tags d.tags) b
-    ∙ ap (λ (t : PfDraft). with_tags d.tags (with_tags t.config.tags (record t { config = with_rules d.verb d conds t.config }))) a
-    ∙ ap (λ (c : PfConfig). record old { expanded = expanded_with old.expanded (length conds); config = c }) (own_tags d.verb d conds old.config)
-
 -- the rule of choices
 pub put_choices : (d : RuleDraft) (cs : List Choice) (conds : List (List Lit)) (tags : List (List ℕ)) (old t new : PfDraft) → conds ≡ conditions cs → old ≡ with_tags tags t →
     new ≡ put d conds old → new ≡ with_rule cs d t
@@ -75,14 +59,13 @@ put_choices d cs conds tags old t new is from e =
     ∙ ap (λ n. record t { expanded = expanded_with t.expanded n; config = with_rules d.verb d (conditions cs) t.config }) (length-conditions cs)
 
 -- a rule whose checks pass
-pub put_checked : (tables : List Table) (d : RuleDraft) (checks : Checks) (expanded : ℕ) (tags : List (List ℕ)) (old t new : PfDraft) → None ≡ first_cause checks →
-    checks ≡ rule_checks tables expanded d → expanded ≡ old.expanded → old ≡ with_tags tags t → new ≡ with_rule (choices tables d) d t → rule_put tables d t ≡ Ok new
-put_checked tables d checks expanded tags old t new none is n from e =
+pub put_checked : (tables : List Table) (d : RuleDraft) (expanded : ℕ) (tags : List (List ℕ)) (old t new : PfDraft) → first_cause (rule_checks tables expanded d) ≡ None →
+    expanded ≡ old.expanded → old ≡ with_tags tags t → new ≡ with_rule (choices tables d) d t → rule_put tables d t ≡ Ok new
+put_checked tables d expanded tags old t new passes n from e =
     let counted : expanded ≡ t.expanded = n ∙ ap (λ (x : PfDraft). x.expanded) from in
-    let passes : first_cause (rule_checks tables t.expanded d) ≡ None = sym (none ∙ ap first_cause (is ∙ ap (λ i. rule_checks tables i d) counted)) in
     let check : Option Cause → Result PfDraft Cause = λ o. unless o (with_rule (choices tables d) d t) in
     let said : PfDraft → Result PfDraft Cause = λ x. Ok x in
-    ap check passes ∙ ap said (sym e)
+    ap (λ i. check (first_cause (rule_checks tables i d))) (sym counted) ∙ ap check passes ∙ ap said (sym e)
 
 -- a statement that is a rule
 pub rule_said : (site : Site) (tables : List Table) (s : Statement) (d : RuleDraft) (t : PfDraft) (r : Result (Unit {0}) (LineFault Cause)) (new : PfDraft) → s ≡ own.Rule d →

@@ -263,19 +263,18 @@ pub raw_sound : (setting : Setting) (macros : List Macro) (tags : List (List ℕ
 raw_sound setting macros tags w s r sound given =
     subst (λ (b : Bool). StatementGiven r (cond b (meant_taken setting tags (meant macros w) s) (Err (fault s Syntax)))) (sym sound) given
 
-pub raw_unsound : (setting : Setting) (macros : List Macro) (tags : List (List ℕ)) (w : Word) (s : Statement) (cause : Cause) → is_sound w ≡ false → cause ≡ fault s Syntax
-    → raw_taken setting macros tags w s ≡ Err cause
-raw_unsound setting macros tags w s cause sound e =
-    ap (λ (b : Bool). cond b (meant_taken setting tags (meant macros w) s) (Err (fault s Syntax))) sound ∙ ap (λ x. Err x) (sym e)
+pub raw_unsound : (setting : Setting) (macros : List Macro) (tags : List (List ℕ)) (w : Word) (s : Statement) (why : LineFault Cause) → is_sound w ≡ false
+    → why ≡ faults.Bad (fault s Syntax) → FaultGiven why (raw_taken setting macros tags w s)
+raw_unsound setting macros tags w s why sound e =
+    subst (λ (f : LineFault Cause). FaultGiven f (raw_taken setting macros tags w s)) (sym e)
+    (ap (λ (b : Bool). cond b (meant_taken setting tags (meant macros w) s) (Err (fault s Syntax))) sound)
 
 pub meant_given : (setting : Setting) (macros : List Macro) (tags : List (List ℕ)) (w : Word) (ws : List Word) (s : Statement) (r : Result Own (LineFault Cause))
     → meant macros w ≡ Ok ws → StatementGiven r (words_taken setting tags ws s) → StatementGiven r (meant_taken setting tags (meant macros w) s)
 meant_given setting macros tags w ws s r e given = subst (λ (m : Result (List Word) Cause). StatementGiven r (meant_taken setting tags m s)) (sym e) given
 
-pub meant_refused : (setting : Setting) (macros : List Macro) (tags : List (List ℕ)) (w : Word) (s : Statement) (cause why : Cause) → meant macros w ≡ Err cause → why ≡ fault s cause
-    → meant_taken setting tags (meant macros w) s ≡ Err why
-meant_refused setting macros tags w s cause why e f = ap (λ (m : Result (List Word) Cause). meant_taken setting tags m s) e ∙ ap (λ x. Err x) (sym f)
-
-pub use_given : (setting : Setting) (macros : List Macro) (tags : List (List ℕ)) (w : Word) (ws : List Word) (s : Statement) (r : Result Own (LineFault Cause)) → is_sound w ≡ true
-    → meant macros w ≡ Ok ws → StatementGiven r (words_taken setting tags ws s) → StatementGiven r (raw_taken setting macros tags w s)
-use_given setting macros tags w ws s r sound e given = raw_sound setting macros tags w s r sound (meant_given setting macros tags w ws s r e given)
+pub meant_refused : (setting : Setting) (macros : List Macro) (tags : List (List ℕ)) (w : Word) (s : Statement) (cause : Cause) (why : LineFault Cause) → meant macros w ≡ Err cause
+    → why ≡ faults.Bad (fault s cause) → FaultGiven why (meant_taken setting tags (meant macros w) s)
+meant_refused setting macros tags w s cause why e f =
+    subst (λ (x : LineFault Cause). FaultGiven x (meant_taken setting tags (meant macros w) s)) (sym f)
+    (ap (λ (m : Result (List Word) Cause). meant_taken setting tags m s) e)

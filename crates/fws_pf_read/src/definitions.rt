@@ -3,19 +3,29 @@
 ghost use Rattle.std.specs.Prelude.{◌≡◌, [], ◌∷◌, List, Ok, option_to_list, IfOk, OnOk};
 ghost use Rattle.fws_num.specs.declared.lines.Line.{Line as AnyLine};
 ghost use Rattle.fws_net.specs.Routes.{IsSound};
+ghost use Rattle.fws_pf.specs.declared.statement.Statement.TheVariants as any;
 ghost use Rattle.fws_pf.specs.FileText.{all_tables, table_of, tables_from, unknowing, with_read};
 ghost use Rattle.fws_pf.specs.StatementText.{statement_read};
 ghost use Rattle.fws_pf.specs.Tables.{empty_table};
-ghost use Rattle.fws_pf_read.specs.Statements.{seen};
+ghost use Rattle.fws_pf_words.specs.TableSteps.{table_seen};
+ghost use Rattle.fws_pf_read.specs.Statements.{StatementGiven, seen};
 
-use crate::statement::{Statement, statement_read};
+use crate::rule::dismiss_rule;
+use crate::statement::{Statement, dismiss_value, statement_read};
 use fws_net::{ReadFault, Site};
 use fws_num::{Line, Memory, Text, Word};
 use fws_pf_words::{
-    KnownTable, Macros, Names, Setting, Tables, Tags, define, empty_table, is_definition,
-    table_defined, with_members,
+    KnownTable, LongTable, Macros, Names, Setting, Tables, Tags, define, empty_table,
+    is_definition, table_defined, with_members,
 };
 use std::alloc::Global;
+
+/// What the statement of a table puts into its table.
+fn table_filled(alloc: Global, name: Text, d: LongTable) -> Result<KnownTable, Memory>
+    ensures { IfOk result (λ t. t ≡ with_read (Ok (any.Table (table_seen d))) (empty_table name)) }
+{
+    with_members(alloc, name, d.members.into_items())
+}
 
 /// What a whole statement puts into its table.
 fn table_said(alloc: Global, name: Text, s: Statement) -> Result<KnownTable, Memory>
@@ -24,13 +34,35 @@ fn table_said(alloc: Global, name: Text, s: Statement) -> Result<KnownTable, Mem
     match s {
         Statement::Begun => Ok(empty_table(alloc, name)),
         Statement::Negated => Ok(empty_table(alloc, name)),
-        Statement::Rule(_) => Ok(empty_table(alloc, name)),
-        Statement::Table(d) => with_members(alloc, name, d.members.into_items()),
+        Statement::Rule(rule) => {
+            dismiss_rule(rule);
+            Ok(empty_table(alloc, name))
+        }
+        Statement::Table(d) => table_filled(alloc, name, d),
         Statement::Set => Ok(empty_table(alloc, name)),
         Statement::Skip => Ok(empty_table(alloc, name)),
-        Statement::SkipOn(_) => Ok(empty_table(alloc, name)),
+        Statement::SkipOn(v) => {
+            dismiss_value(v);
+            Ok(empty_table(alloc, name))
+        }
         Statement::Idle => Ok(empty_table(alloc, name)),
     }
+}
+
+/// What a statement of these words says where no table and no tag is known.
+fn unknowing_read(
+    alloc: Global,
+    site: &Site,
+    macros: &Macros,
+    words: &[Word],
+) -> Result<Statement, ReadFault>
+    requires { IsSound site.now }
+    ensures { StatementGiven result (statement_read (unknowing site.now) macros.now [] words.now) }
+{
+    let taken = Names::new(alloc);
+    let setting = Setting::new(site, None, &taken);
+    let mut tags = Tags::new(alloc);
+    statement_read(alloc, &setting, macros, &mut tags, words)
 }
 
 /// The table of this name that a statement defines; nothing stands in it where the statement is refused.
@@ -44,10 +76,7 @@ fn table_read(
     requires { IsSound site.now }
     ensures { IfOk result (λ t. t ≡ with_read (statement_read (unknowing site.now) macros.now [] words.now) (empty_table name)) }
 {
-    let taken = Names::new(alloc);
-    let setting = Setting::new(site, None, &taken);
-    let mut tags = Tags::new(alloc);
-    match statement_read(alloc, &setting, macros, &mut tags, words) {
+    match unknowing_read(alloc, site, macros, words) {
         Ok(s) => table_said(alloc, name, s),
         Err(ReadFault::Bad(_)) => Ok(empty_table(alloc, name)),
         Err(ReadFault::Memory) => Err(Memory),
@@ -95,6 +124,23 @@ fn note(
     }
 }
 
+/// Notes what statements define, in their order.
+fn note_all(
+    alloc: Global,
+    site: &Site,
+    macros: &mut Macros,
+    tables: &mut Tables,
+    lines: &[Line],
+) -> Result<(), Memory>
+    requires { IsSound site.now }
+    ensures { OnOk result (tables.new ≡ tables_from site.now macros.old tables.old lines.now) }
+{
+    for line in lines {
+        note(alloc, site, macros, tables, line)?;
+    }
+    Ok(())
+}
+
 /// The tables that statements define, in their order, refused ones among them. An error is want of memory.
 pub(crate) fn all_tables(alloc: Global, site: &Site, lines: &[Line]) -> Result<Tables, Memory>
     requires { IsSound site.now }
@@ -102,8 +148,6 @@ pub(crate) fn all_tables(alloc: Global, site: &Site, lines: &[Line]) -> Result<T
 {
     let mut macros = Macros::new(alloc);
     let mut tables = Tables::new(alloc);
-    for line in lines {
-        note(alloc, site, &mut macros, &mut tables, line)?;
-    }
+    note_all(alloc, site, &mut macros, &mut tables, lines)?;
     Ok(tables)
 }

@@ -1,14 +1,15 @@
 //! What a rule asks for.
 
-ghost use Rattle.std.specs.Prelude.{◌≡◌, min, IfOk};
-ghost use Rattle.fws_pf.specs.Drawn.{choices, implies_flags};
-ghost use Rattle.fws_pf_read.specs.Places.{draft_count, place_choices};
+ghost use Rattle.std.specs.Prelude.{◌≡◌, ◌++◌, min, IfOk, OnOk};
+ghost use Rattle.fws_pf.specs.Drawn.{choices, implies_flags, value_choices};
+ghost use Rattle.fws_pf_words.specs.Tests.{test_at};
+ghost use Rattle.fws_pf_read.specs.Places.{draft_count, place_choices, with_places};
 ghost use Rattle.fws_pf_read.specs.Views.{draft_of};
 
 use crate::draft::{Draft, passes};
 use fws_num::{Items, Memory};
 use fws_pf::{Choice, Place};
-use fws_pf_words::{Tables, implied_flags, only, place_size, put_choice, times};
+use fws_pf_words::{ItemList, Tables, implied_flags, only, place_size, put_choice, times};
 use std::alloc::Global;
 
 /// Whether a rule is for the first packets of TCP connections alone, since it keeps state and has no flags.
@@ -18,53 +19,50 @@ fn implies_flags(d: &Draft) -> bool
     passes(d.verb) && !d.stateless && !d.has_flags
 }
 
+/// Puts what a place asks for behind the rest, if values stand at it.
+fn put_place(
+    alloc: Global,
+    tables: &Tables,
+    place: Place,
+    list: &ItemList,
+    all: &mut Items<Choice>,
+) -> Result<(), Memory>
+    ensures { OnOk result (all.new ≡ all.old ++ value_choices tables.now (test_at place) list.now) }
+{
+    let items = list.to_items(alloc)?;
+    put_choice(alloc, tables, place, items.as_slice(), all)
+}
+
+/// Puts the values of its places behind the rest.
+fn put_places(
+    alloc: Global,
+    tables: &Tables,
+    d: &Draft,
+    all: &mut Items<Choice>,
+) -> Result<(), Memory>
+    ensures { OnOk result (all.new ≡ with_places tables.now (draft_of d.now) all.old) }
+{
+    put_place(alloc, tables, Place::On, &d.faces, all)?;
+    put_place(alloc, tables, Place::Proto, &d.protocols, all)?;
+    put_place(alloc, tables, Place::Source, &d.sources, all)?;
+    put_place(alloc, tables, Place::SourcePort, &d.source_ports, all)?;
+    put_place(alloc, tables, Place::Destination, &d.destinations, all)?;
+    put_place(
+        alloc,
+        tables,
+        Place::DestinationPort,
+        &d.destination_ports,
+        all,
+    )?;
+    Ok(())
+}
+
 /// The values of its places.
 fn place_choices(alloc: Global, tables: &Tables, d: &Draft) -> Result<Items<Choice>, Memory>
     ensures { IfOk result (λ cs. cs ≡ place_choices tables.now (draft_of d.now)) }
 {
     let mut all = Items::new(alloc);
-    put_choice(
-        alloc,
-        tables,
-        Place::On,
-        d.faces.to_items(alloc)?.as_slice(),
-        &mut all,
-    )?;
-    put_choice(
-        alloc,
-        tables,
-        Place::Proto,
-        d.protocols.to_items(alloc)?.as_slice(),
-        &mut all,
-    )?;
-    put_choice(
-        alloc,
-        tables,
-        Place::Source,
-        d.sources.to_items(alloc)?.as_slice(),
-        &mut all,
-    )?;
-    put_choice(
-        alloc,
-        tables,
-        Place::SourcePort,
-        d.source_ports.to_items(alloc)?.as_slice(),
-        &mut all,
-    )?;
-    put_choice(
-        alloc,
-        tables,
-        Place::Destination,
-        d.destinations.to_items(alloc)?.as_slice(),
-        &mut all,
-    )?;
-    put_choice(
-        alloc,
-        tables,
-        Place::DestinationPort,
-        d.destination_ports.to_items(alloc)?.as_slice(),
-        &mut all,
-    )?;
+    put_places(alloc, tables, d, &mut all)?;
     Ok(all)
 }
 

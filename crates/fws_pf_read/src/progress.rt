@@ -6,7 +6,7 @@ ghost use Rattle.fws_pf.specs.FileText.{fresh_text, setting_at, with_rules};
 ghost use Rattle.fws_pf.specs.Macros.{with_macro};
 ghost use Rattle.fws_pf_read.specs.Texts.{put, with_tags};
 
-use crate::rule::Rule;
+use crate::rule::{Rule, dismiss_rule};
 use fws_iv::Ivs;
 use fws_net::{Cond, Site};
 use fws_num::{Items, Memory, Text, Word};
@@ -164,14 +164,34 @@ impl Progress {
         Ok(())
     }
 
-    /// Puts the rules of a statement behind the others of its kind, one for each condition, and its tags in the place of those so far.
-    pub(crate) fn put_rule(&mut self, rule: Rule, conds: Items<Cond>) -> Result<(), Memory>
-        ensures { OnOk result (self.new ≡ put rule conds self.old) }
+    /// Counts the rules of a statement and puts them behind the others of its kind, one for each condition.
+    fn put_counted(&mut self, rule: &Rule, conds: Items<Cond>) -> Result<(), Memory>
+        ensures { OnOk result (self.new ≡ with_tags self.old.config.tags (put rule.now conds self.old)) }
     {
         self.count(conds.len())?;
-        self.put_by_verb(&rule, conds)?;
-        self.put_tags(rule.into_tags());
+        self.put_by_verb(rule, conds)?;
         Ok(())
+    }
+
+    /// Puts the rules of a statement behind the others of its kind, one for each condition, and its tags in the place of those so far.
+    pub(crate) fn put_rule(
+        &mut self,
+        alloc: Global,
+        rule: Rule,
+        conds: Items<Cond>,
+    ) -> Result<(), Memory>
+        ensures { OnOk result (self.new ≡ put rule conds self.old) }
+    {
+        match self.put_counted(&rule, conds) {
+            Ok(()) => {
+                self.put_tags(rule.into_tags(alloc));
+                Ok(())
+            }
+            Err(Memory) => {
+                dismiss_rule(rule);
+                Err(Memory)
+            }
+        }
     }
 
     /// The configuration of what was read. An error is want of memory.

@@ -56,10 +56,13 @@ impl Rule {
     }
 
     /// The names of all tags so far.
-    pub(crate) fn into_tags(self) -> Tags
+    pub(crate) fn into_tags(self, alloc: Global) -> Tags
         ensures { result ≡ self.tags }
     {
-        self.draft.tags
+        let mut rule = self;
+        let tags = rule.draft.tags.take(alloc);
+        dismiss_rule(rule);
+        tags
     }
 
     /// The filter rule with this condition.
@@ -151,13 +154,21 @@ pub(crate) fn rule_within(
     draft_within(alloc, setting, uses, source, name, words, &mut rule.draft)
 }
 
+/// Drops a rule: in a function of its own, since each function that drops one has to walk through all that it owns.
+pub(crate) fn dismiss_rule(_rule: Rule) {}
+
 /// The rule of all its words. One that ends too early is refused.
 pub(crate) fn rule_ended(alloc: Global, rule: Rule) -> Result<Rule, ReadFault>
     ensures { CauseGiven result (rule_ended rule) }
 {
-    let mut draft = rule.draft;
-    draft_ended(alloc, &mut draft)?;
-    Ok(Rule { draft })
+    let mut whole = rule;
+    match draft_ended(alloc, &mut whole.draft) {
+        Ok(()) => Ok(whole),
+        Err(fault) => {
+            dismiss_rule(whole);
+            Err(fault)
+        }
+    }
 }
 
 /// What a rule asks for, in the order of its words, and last what it implies. An error is want of memory.

@@ -1,8 +1,9 @@
 //! A statement, word by word.
 
-ghost use Rattle.std.specs.Prelude.{◌≡◌, ℕ, ◌≤◌, true, Ok, List, length, take, IfOk};
+ghost use Rattle.std.specs.Prelude.{◌≡◌, ℕ, ◌≤◌, true, Ok, List, [], length, take, IfOk};
 ghost use Rattle.std.specs.List.{list_all};
 ghost use Rattle.fws_num.specs.Words.{is_printed, is_sound};
+ghost use Rattle.fws_net.specs.declared.answer.LineFault.TheVariants.{Bad};
 ghost use Rattle.fws_net.specs.Reading.{StepGiven, and_then};
 ghost use Rattle.fws_net.specs.Routes.{IsSound};
 ghost use Rattle.fws_pf.specs.declared.macros.Macro.{Macro as AnyMacro};
@@ -18,7 +19,7 @@ ghost use Rattle.fws_pf_words.specs.UsesKnown.{AreUses, ArePiece};
 ghost use Rattle.fws_pf_read.specs.Statements.{AreTags, StatementGiven, items_of, seen};
 
 use crate::keywords::{action_word, misplaced};
-use crate::rule::{Rule, fresh_rule, rule_ended, rule_step, rule_within};
+use crate::rule::{Rule, dismiss_rule, fresh_rule, rule_ended, rule_step, rule_within};
 use fws_net::{Cause, ReadFault};
 use fws_num::{Memory, Text, Word};
 use fws_pf::{ActionWord, Expects, TableExpects, ValueKind, Verb};
@@ -48,6 +49,26 @@ pub(crate) enum Statement {
     SkipOn(LongValue),
     /// A statement that has no effect.
     Idle,
+}
+
+/// Drops a table.
+fn dismiss_table(_d: LongTable) {}
+
+/// Drops the interfaces that are skipped.
+pub(crate) fn dismiss_value(_v: LongValue) {}
+
+/// Drops a statement: in a function of its own, since each function that drops one has to walk through all that it owns.
+fn dismiss(s: Statement) {
+    match s {
+        Statement::Begun => {}
+        Statement::Negated => {}
+        Statement::Rule(rule) => dismiss_rule(rule),
+        Statement::Table(d) => dismiss_table(d),
+        Statement::Set => {}
+        Statement::Skip => {}
+        Statement::SkipOn(v) => dismiss_value(v),
+        Statement::Idle => {}
+    }
 }
 
 /// The rule that a word begins, which takes the tags.
@@ -136,8 +157,13 @@ fn rule_taken(
     ensures given { StatementGiven result (and_then (rule_step setting.now w.now rule) (λ next. Ok (any.Rule next))) }
     ensures kept { IfOk result (λ s. (t k : List (List ℕ)) → AreTags t s k) }
 {
-    rule_step(alloc, setting, w, &mut rule)?;
-    Ok(Statement::Rule(rule))
+    match rule_step(alloc, setting, w, &mut rule) {
+        Ok(()) => Ok(Statement::Rule(rule)),
+        Err(fault) => {
+            dismiss_rule(rule);
+            Err(fault)
+        }
+    }
 }
 
 /// Takes a word of a table.
@@ -243,6 +269,15 @@ fn fault(s: &Statement, cause: Cause) -> Cause
     }
 }
 
+/// Refuses a word that can't be judged, or whose macro isn't there, and with it the statement.
+fn refused(s: Statement, cause: Cause) -> ReadFault
+    ensures { result ≡ Bad (fault (seen s) cause) }
+{
+    let cause = fault(&s, cause);
+    dismiss(s);
+    ReadFault::Bad(cause)
+}
+
 /// Takes a word out of a macro, or one that stands there.
 fn word_taken(
     alloc: Global,
@@ -256,7 +291,7 @@ fn word_taken(
     ensures kept { (t : List (List ℕ)) → AreTags t s tags.old → IfOk result (λ next. AreTags t next tags.new) }
 {
     if !w.is_sound() {
-        return Err(ReadFault::Bad(fault(&s, Cause::Syntax)));
+        return Err(refused(s, Cause::Syntax));
     }
     statement_step(alloc, setting, tags, w, s)
 }
@@ -321,8 +356,13 @@ fn rule_piece(
         → IfOk result (λ r. AreUses setting.now macros (items_of (seen r.0)) uses.new) }
     ensures kept { IfOk result (λ r. (t k : List (List ℕ)) → AreTags t r.0 k) }
 {
-    let n = rule_within(alloc, setting, uses, source, name, words, &mut rule)?;
-    Ok((Statement::Rule(rule), n))
+    match rule_within(alloc, setting, uses, source, name, words, &mut rule) {
+        Ok(n) => Ok((Statement::Rule(rule), n)),
+        Err(Memory) => {
+            dismiss_rule(rule);
+            Err(Memory)
+        }
+    }
 }
 
 /// Takes words that belong to the list of a table and don't end it, up to the first other word, and tells how many.
@@ -488,6 +528,36 @@ fn whole_taken(
     )
 }
 
+/// Takes words that are no macro's as they stand there.
+fn others_taken(
+    alloc: Global,
+    setting: &Setting,
+    uses: &mut KnownUses,
+    tags: &mut Tags,
+    words: &[Word],
+    s: Statement,
+) -> Result<Statement, ReadFault>
+    requires { IsSound setting.now.site }
+    ensures given { (t : List (List ℕ)) (macros : List AnyMacro) → AreTags t s tags.old → AreUses setting.now macros (items_of (seen s)) uses.old
+        → StatementGiven result (words_taken setting.now t words.now (seen s)) }
+    ensures kept { (t : List (List ℕ)) → AreTags t s tags.old → IfOk result (λ next. AreTags t next tags.new) }
+    ensures known { (macros : List AnyMacro) → AreUses setting.now macros (items_of (seen s)) uses.old
+        → IfOk result (λ next. AreUses setting.now macros (items_of (seen next)) uses.new) }
+{
+    let name = Text::new(alloc);
+    piece_taken(
+        alloc,
+        setting,
+        uses,
+        tags,
+        Source::Other,
+        &name,
+        words,
+        false,
+        s,
+    )
+}
+
 /// Takes the last of some words with a text joined to it. A statement that has no effect passes over it where all these words are known
 /// to be such that can be judged.
 fn last_taken(
@@ -513,19 +583,13 @@ fn last_taken(
             return Ok(s);
         }
     }
-    let last = last_joined(alloc, words, text)?;
-    let name = Text::new(alloc);
-    piece_taken(
-        alloc,
-        setting,
-        uses,
-        tags,
-        Source::Other,
-        &name,
-        last.as_slice(),
-        false,
-        s,
-    )
+    match last_joined(alloc, words, text) {
+        Ok(last) => others_taken(alloc, setting, uses, tags, last.as_slice(), s),
+        Err(Memory) => {
+            dismiss(s);
+            Err(ReadFault::Memory)
+        }
+    }
 }
 
 /// Takes the words of a macro, the last of which has a text joined to it.
@@ -564,6 +628,30 @@ fn joined_taken(
     }
 }
 
+/// Takes the words of a macro, the last of which has a text joined to it where one stands behind its name.
+fn named_taken(
+    alloc: Global,
+    setting: &Setting,
+    macros: &Macros,
+    uses: &mut KnownUses,
+    tags: &mut Tags,
+    name: &Text,
+    text: &[u8],
+    s: Statement,
+) -> Result<Statement, ReadFault>
+    requires { IsSound setting.now.site }
+    ensures given { (t : List (List ℕ)) → AreTags t s tags.old → AreUses setting.now macros.now (items_of (seen s)) uses.old
+        → StatementGiven result (words_taken setting.now t (joined_words (words_named macros.now name.now) text.now) (seen s)) }
+    ensures kept { (t : List (List ℕ)) → AreTags t s tags.old → IfOk result (λ next. AreTags t next tags.new) }
+    ensures known { AreUses setting.now macros.now (items_of (seen s)) uses.old → IfOk result (λ next. AreUses setting.now macros.now (items_of (seen next)) uses.new) }
+{
+    nothing_is_joined();
+    match text {
+        [] => whole_taken(alloc, setting, macros, uses, tags, name, s),
+        [_, ..] => joined_taken(alloc, setting, macros, uses, tags, name, text, s),
+    }
+}
+
 /// Takes the words for which a use of a macro stands: its words, the last of which has a text joined to it.
 fn macro_taken(
     alloc: Global,
@@ -580,12 +668,13 @@ fn macro_taken(
     ensures kept { (t : List (List ℕ)) → AreTags t s tags.old → IfOk result (λ next. AreTags t next tags.new) }
     ensures known { AreUses setting.now macros.now (items_of (seen s)) uses.old → IfOk result (λ next. AreUses setting.now macros.now (items_of (seen next)) uses.new) }
 {
-    nothing_is_joined();
     let (name, behind) = split_name(text);
-    let named = Text::of(alloc, name)?;
-    match behind {
-        [] => whole_taken(alloc, setting, macros, uses, tags, &named, s),
-        [_, ..] => joined_taken(alloc, setting, macros, uses, tags, &named, behind, s),
+    match Text::of(alloc, name) {
+        Ok(named) => named_taken(alloc, setting, macros, uses, tags, &named, behind, s),
+        Err(Memory) => {
+            dismiss(s);
+            Err(ReadFault::Memory)
+        }
     }
 }
 
@@ -606,22 +695,38 @@ fn plain_taken(
     ensures known { AreUses setting.now macros.now (items_of (seen s)) uses.old → IfOk result (λ next. AreUses setting.now macros.now (items_of (seen next)) uses.new) }
 {
     match meant(alloc, macros, w) {
-        Ok(words) => {
-            let name = Text::new(alloc);
-            piece_taken(
-                alloc,
-                setting,
-                uses,
-                tags,
-                Source::Other,
-                &name,
-                words.as_slice(),
-                false,
-                s,
-            )
+        Ok(words) => others_taken(alloc, setting, uses, tags, words.as_slice(), s),
+        Err(ReadFault::Bad(cause)) => Err(refused(s, cause)),
+        Err(ReadFault::Memory) => {
+            dismiss(s);
+            Err(ReadFault::Memory)
         }
-        Err(ReadFault::Bad(cause)) => Err(ReadFault::Bad(fault(&s, cause))),
-        Err(ReadFault::Memory) => Err(ReadFault::Memory),
+    }
+}
+
+/// Takes the words for which a word stands that can be judged.
+fn sound_taken(
+    alloc: Global,
+    setting: &Setting,
+    macros: &Macros,
+    uses: &mut KnownUses,
+    tags: &mut Tags,
+    w: &Word,
+    s: Statement,
+) -> Result<Statement, ReadFault>
+    requires { IsSound setting.now.site }
+    ensures given { (t : List (List ℕ)) → AreTags t s tags.old → AreUses setting.now macros.now (items_of (seen s)) uses.old
+        → StatementGiven result (meant_taken setting.now t (meant macros.now w.now) (seen s)) }
+    ensures kept { (t : List (List ℕ)) → AreTags t s tags.old → IfOk result (λ next. AreTags t next tags.new) }
+    ensures known { AreUses setting.now macros.now (items_of (seen s)) uses.old → IfOk result (λ next. AreUses setting.now macros.now (items_of (seen next)) uses.new) }
+{
+    match used_text(alloc, macros, w) {
+        Ok(Some(text)) => macro_taken(alloc, setting, macros, uses, tags, text, s),
+        Ok(None) => plain_taken(alloc, setting, macros, uses, tags, w, s),
+        Err(Memory) => {
+            dismiss(s);
+            Err(ReadFault::Memory)
+        }
     }
 }
 
@@ -642,16 +747,33 @@ fn raw_taken(
     ensures known { AreUses setting.now macros.now (items_of (seen s)) uses.old → IfOk result (λ next. AreUses setting.now macros.now (items_of (seen next)) uses.new) }
 {
     if !w.is_sound() {
-        return Err(ReadFault::Bad(fault(&s, Cause::Syntax)));
+        return Err(refused(s, Cause::Syntax));
     }
-    let used = used_text(alloc, macros, w)?;
-    match used {
-        Some(text) => macro_taken(alloc, setting, macros, uses, tags, text, s),
-        None => plain_taken(alloc, setting, macros, uses, tags, w, s),
-    }
+    sound_taken(alloc, setting, macros, uses, tags, w, s)
 }
 
 /// Takes the words of a statement, from left to right.
+fn raws_from(
+    alloc: Global,
+    setting: &Setting,
+    macros: &Macros,
+    uses: &mut KnownUses,
+    tags: &mut Tags,
+    words: &[Word],
+) -> Result<Statement, ReadFault>
+    requires site { IsSound setting.now.site }
+    requires known { AreUses setting.now macros.now [] uses.old }
+    ensures given { StatementGiven result (raws_taken setting.now macros.now tags.old words.now any.Begun) }
+    ensures kept { IfOk result (λ s. AreTags tags.old s tags.new) }
+{
+    let mut next = Statement::Begun;
+    for w in words {
+        next = raw_taken(alloc, setting, macros, uses, tags, w, next)?;
+    }
+    Ok(next)
+}
+
+/// Takes all words of a statement.
 fn raws_taken(
     alloc: Global,
     setting: &Setting,
@@ -664,11 +786,7 @@ fn raws_taken(
     ensures kept { IfOk result (λ s. AreTags tags.old s tags.new) }
 {
     let mut uses = KnownUses::new(alloc);
-    let mut next = Statement::Begun;
-    for w in words {
-        next = raw_taken(alloc, setting, macros, &mut uses, tags, w, next)?;
-    }
-    Ok(next)
+    raws_from(alloc, setting, macros, &mut uses, tags, words)
 }
 
 /// The whole table.

@@ -1,33 +1,61 @@
 //! What the statements of a text say.
 
-ghost use Rattle.std.specs.Prelude.{◌≡◌, ℕ, suc, Ok, List, [], ◌∷◌, ◌++◌, length, OnOk};
+ghost use Rattle.std.specs.Prelude.{◌≡◌, ℕ, suc, Ok, List, [], ◌∷◌, ◌++◌, length, IfOk, OnOk};
+ghost use Rattle.fws_net.specs.Causes.{first_cause};
 ghost use Rattle.fws_net.specs.Reading.{StepGiven};
 ghost use Rattle.fws_net.specs.Routes.{IsSound};
 ghost use Rattle.fws_pf.specs.declared.text_draft.PfDraft.{PfDraft};
 ghost use Rattle.fws_pf.specs.FileText.{definition_step, rule_put, statement_put, with_rule, with_skipped, words_step};
-ghost use Rattle.fws_pf.specs.Drawn.{choices};
+ghost use Rattle.fws_pf.specs.Drawn.{choices, conditions, rule_checks};
 ghost use Rattle.fws_pf_read.specs.Statements.{AreTags, seen};
 ghost use Rattle.fws_pf_read.specs.Texts.{plain_step, with_tags};
 
 use crate::progress::Progress;
-use crate::rule::{Rule, choices, rule_checks};
+use crate::rule::{Rule, choices, dismiss_rule, rule_checks};
 use crate::statement::{Statement, statement_read};
-use fws_net::{ReadFault, Site};
-use fws_num::{Memory, Text, Word};
+use fws_net::{Cause, Cond, ReadFault, Site};
+use fws_num::{Items, Memory, Text, Word};
 use fws_pf_words::{
     LongTable, LongValue, Tables, conditions, is_definition, name_defined, value_behind,
     value_defined, with_skipped,
 };
 use std::alloc::Global;
 
+/// The conditions of the rules for which a rule stands.
+fn rule_conditions(alloc: Global, tables: &Tables, rule: &Rule) -> Result<Items<Cond>, Memory>
+    ensures { IfOk result (λ conds. conds ≡ conditions (choices tables.now rule.now)) }
+{
+    let choices = choices(alloc, tables, rule)?;
+    conditions(alloc, choices.as_slice())
+}
+
 /// Takes a rule without a check that fails. The tags so far don't matter, since it has its own.
 fn put_rule(alloc: Global, tables: &Tables, rule: Rule, reader: &mut Progress) -> Result<(), Memory>
     ensures { (t : PfDraft) (k : List (List ℕ)) → reader.old ≡ with_tags k t → OnOk result (reader.new ≡ with_rule (choices tables.now rule) rule t) }
 {
-    let choices = choices(alloc, tables, &rule)?;
-    let conds = conditions(alloc, choices.as_slice())?;
-    reader.put_rule(rule, conds)?;
-    Ok(())
+    match rule_conditions(alloc, tables, &rule) {
+        Ok(conds) => {
+            reader.put_rule(alloc, rule, conds)?;
+            Ok(())
+        }
+        Err(Memory) => {
+            dismiss_rule(rule);
+            Err(Memory)
+        }
+    }
+}
+
+/// The cause by which a check of a whole rule fails, behind statements that made so many rules where they made more than one.
+fn failed_check(
+    alloc: Global,
+    tables: &Tables,
+    expanded: u64,
+    rule: &Rule,
+) -> Result<Option<Cause>, Memory>
+    ensures { IfOk result (λ o. o ≡ first_cause (rule_checks tables.now expanded rule.now)) }
+{
+    let checks = rule_checks(alloc, tables, expanded, rule)?;
+    Ok(checks.first())
 }
 
 /// Takes a whole rule, unless a check of the statement fails.
@@ -39,11 +67,18 @@ fn rule_put(
 ) -> Result<(), ReadFault>
     ensures { (t : PfDraft) (k : List (List ℕ)) → reader.old ≡ with_tags k t → StepGiven result reader.new (rule_put tables.now rule t) }
 {
-    match rule_checks(alloc, tables, reader.expanded(), &rule)?.first() {
-        Some(cause) => Err(ReadFault::Bad(cause)),
-        None => {
+    match failed_check(alloc, tables, reader.expanded(), &rule) {
+        Ok(None) => {
             put_rule(alloc, tables, rule, reader)?;
             Ok(())
+        }
+        Ok(Some(cause)) => {
+            dismiss_rule(rule);
+            Err(ReadFault::Bad(cause))
+        }
+        Err(Memory) => {
+            dismiss_rule(rule);
+            Err(ReadFault::Memory)
         }
     }
 }
@@ -117,15 +152,18 @@ fn plain_step(
     ensures { StepGiven result reader.new (plain_step site.now tables.now words.now reader.old) }
 {
     let mut tags = reader.take_tags(alloc);
-    let s = statement_read(
+    let said = statement_read(
         alloc,
         &reader.setting(site, tables),
         reader.macros(),
         &mut tags,
         words,
-    )?;
+    );
     reader.put_tags(tags);
-    statement_put(alloc, site, tables, s, reader)
+    match said {
+        Ok(s) => statement_put(alloc, site, tables, s, reader),
+        Err(fault) => Err(fault),
+    }
 }
 
 /// Takes the words of a statement.

@@ -16,7 +16,7 @@ returns-then-are_printed-clause-kept c = λ t tags. tags
 pub returns-then-are_printed-clause-known : goal.returns-then-are_printed-clause-known
 returns-then-are_printed-clause-known c = λ macros are. are
 
-pub returns-clause-given : goal.returns-clause-given
-returns-clause-given c = λ t macros tags are.
-    subst (λ (ws : List Word). StatementGiven c.piece_taken.result (words_taken c.args.setting.now t ws (seen c.args.s))) (c.as_slice.ensures ∙ c.in_ok-last.ensures)
-    (c.piece_taken.ensures.given t macros tags tt are)
+pub returns-in-Ok-clause-given : goal.returns-in-Ok-clause-given
+returns-in-Ok-clause-given c = λ t macros tags are.
+    subst (λ (ws : List Word). StatementGiven c.others_taken.result (words_taken c.args.setting.now t ws (seen c.args.s))) (c.as_slice.ensures ∙ c.in-Ok.ensures)
+    (c.others_taken.ensures.given t macros tags are)

@@ -1,0 +1,7 @@
+use Rattle.fws_pf_read.proofs.statement.others_taken.Goals as goal
+
+pub returns-clause-given : goal.returns-clause-given
+returns-clause-given c = λ t macros tags are. c.piece_taken.ensures.given t macros tags tt are
+
+pub returns-clause-known : goal.returns-clause-known
+returns-clause-known c = λ macros are. c.piece_taken.ensures.known macros tt are
