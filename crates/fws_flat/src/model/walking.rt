@@ -4,8 +4,8 @@ ghost use Rattle.std.specs.Prelude.{◌≡◌, ◌++◌, nat_eq, IfOk, OnOk};
 ghost use Rattle.std.specs.List.{list_any};
 ghost use Rattle.fws_net.specs.Routes.{IsSound};
 ghost use Rattle.fws_net.specs.Transits.{onwards, used_onwards};
-ghost use Rattle.fws_flat.specs.Uses.{parts_used, used_places, uses};
-ghost use Rattle.fws_flat.specs.Walk.{parts_walk, way_of, means};
+ghost use Rattle.fws_flat.specs.Uses.{part_used, parts_used, used_places, uses};
+ghost use Rattle.fws_flat.specs.Walk.{part_walk, parts_walk, way_of, means};
 
 use crate::code::{Flat, Part};
 use crate::model::acting::Scene;
@@ -23,6 +23,29 @@ struct Trip<'a> {
     kind: &'a Kind,
 }
 
+/// The packet behind a part; none where it drops it.
+fn part_behind(
+    alloc: Global,
+    trip: &Trip,
+    part: &Part,
+    t: Transit,
+    log: &mut Vec<u32>,
+) -> Result<Option<Transit>, Memory>
+    requires { IsSound trip.now.site.now }
+    ensures walked { IfOk result (λ o. o ≡ part_walk trip.now.flat.now.code trip.now.site.now trip.now.packet.now trip.now.kind.now part.now t) }
+    ensures logged { OnOk result (log.new.items ≡ log.old.items ++ part_used trip.now.flat.now.code trip.now.site.now trip.now.packet.now trip.now.kind.now part.now t) }
+{
+    let scene = Scene {
+        code: trip.flat.code.as_slice(),
+        site: trip.site,
+        packet: trip.packet,
+        kind: trip.kind,
+        part: *part,
+    };
+    let end = part_walk(alloc, &scene, t, log)?;
+    Ok(end)
+}
+
 /// The packet behind these parts, in their order; none where one drops it.
 fn parts_walk(
     alloc: Global,
@@ -37,14 +60,7 @@ fn parts_walk(
 {
     let mut now = t;
     for part in parts {
-        let scene = Scene {
-            code: trip.flat.code.as_slice(),
-            site: trip.site,
-            packet: trip.packet,
-            kind: trip.kind,
-            part: *part,
-        };
-        match part_walk(alloc, &scene, now, log)? {
+        match part_behind(alloc, trip, part, now, log)? {
             Some(t) => now = t,
             None => return Ok(None),
         }
