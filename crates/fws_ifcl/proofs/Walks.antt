@@ -1,7 +1,9 @@
 -- Steps of a walk.
-use Rattle.std.proofs.Common.{◌≡◌, ℕ, zero, suc, ◌-◌, ◌<◌, ◌≤◌, false, List, [], ◌∷◌, nat_eq, nat_lt, ◌++◌, append_assoc, append-nil, arith, refl, sym, ◌∙◌, ap, subst, ◌+◌, length, get_or, drop, add-one, drop-cons}
-use Rattle.std.proofs.lemmas.Bool.{le-ltb}
+use Rattle.std.proofs.Common.{◌≡◌, ℕ, zero, suc, ◌-◌, ◌<◌, ◌≤◌, true, false, Result, IfOk, OnOk, Option, None, Some, option_and_then, List, [], ◌∷◌, nat_eq, nat_lt, ◌++◌, append_assoc, append-nil, arith, refl, sym, ◌∙◌, ap, subst, ◌+◌, length, get_or, drop, add-one, drop-cons}
+use Rattle.std.proofs.lemmas.Bool.{le-ltb, lt-ltb}
 use Rattle.std.specs.List.{list_any}
+use Rattle.std.specs.Option.{option_map_or}
+use Rattle.fws_num.specs.declared.memory.Memory.{Memory}
 use Rattle.fws_net.specs.declared.packet.Packet.{Packet}
 use Rattle.fws_net.specs.declared.connection.Kind.{Kind}
 use Rattle.fws_net.specs.declared.site.Site.{Site}
@@ -9,16 +11,17 @@ use Rattle.fws_net.specs.declared.transit.Transit.{Transit}
 use Rattle.fws_ifcl.specs.declared.diagram.Chain.{Chain}
 use Rattle.fws_ifcl.specs.declared.diagram.Place.{Place}
 use Rattle.fws_ifcl.specs.declared.diagram.Rule.{Rule}
-use Rattle.fws_ifcl.specs.declared.step.ChainEnd.{ChainEnd}
-use Rattle.fws_ifcl.specs.declared.step.ChainEnd.TheVariants.{Through}
-use Rattle.fws_ifcl.specs.declared.step.Step.{Step}
-use Rattle.fws_ifcl.specs.declared.step.Step.TheVariants.{Onwards, Enter, Switch}
 use Rattle.fws_ifcl.specs.declared.diagram.Stage.{Stage}
-use Rattle.fws_ifcl.specs.Walk.{back, stepped, chain_walk, rules_walk, rules_at}
-use Rattle.fws_ifcl.specs.Uses.{used_back, used_behind, chain_used, rules_used}
+use Rattle.fws_ifcl.specs.declared.step.ChainEnd.{ChainEnd}
+use Rattle.fws_ifcl.specs.declared.step.Step.{Step}
+use Rattle.fws_ifcl.specs.declared.step.Turn.{Turn}
+use Rattle.fws_ifcl.specs.declared.step.Turn.TheVariants.{Leave, Onwards}
+use Rattle.fws_ifcl.specs.Turns.{turned, used_turned}
+use Rattle.fws_ifcl.specs.Walk.{stepped, chain_walk, rules_walk, rules_at, stage_walk, stages_walk}
+use Rattle.fws_ifcl.specs.Uses.{used_behind, chain_used, rules_used, stage_used, stages_used}
 
 -- a chain that is not on the path, while one more may be entered
-pub chain_entered : (chains : List Chain) (site : Site) (p : Packet) (k : Kind) (stage : Stage) (left : ℕ) (path : List ℕ) (c : ℕ) (t : Transit)
+chain_entered : (chains : List Chain) (site : Site) (p : Packet) (k : Kind) (stage : Stage) (left : ℕ) (path : List ℕ) (c : ℕ) (t : Transit)
     → 0 < left → list_any (nat_eq c) path ≡ false
     → chain_walk chains site p k stage left path c t
     ≡ rules_walk (chain_walk chains site p k stage (left - 1) (c ∷ path)) site p k stage 0 (rules_at chains c) 0 t
@@ -28,7 +31,7 @@ chain_entered chains site p k stage (suc n) path c t lt off =
     rw (off, same)
 
 -- what is used in it
-pub chain_used_entered : (chains : List Chain) (site : Site) (p : Packet) (k : Kind) (stage : Stage) (left : ℕ) (path : List ℕ) (c : ℕ) (t : Transit)
+chain_used_entered : (chains : List Chain) (site : Site) (p : Packet) (k : Kind) (stage : Stage) (left : ℕ) (path : List ℕ) (c : ℕ) (t : Transit)
     → 0 < left → list_any (nat_eq c) path ≡ false
     → chain_used chains site p k stage left path c t
     ≡ rules_used (chain_used chains site p k stage (left - 1) (c ∷ path)) (chain_walk chains site p k stage (left - 1) (c ∷ path)) c site p k stage 0 (rules_at chains c) 0 t
@@ -37,79 +40,56 @@ chain_used_entered chains site p k stage (suc n) path c t lt off =
     let same : suc n - 1 ≡ n = omega arith in
     rw (off, same)
 
+-- the same of what was returned for the path on which it is entered
+
+pub chain_led : (chains : List Chain) (site : Site) (p : Packet) (k : Kind) (stage : Stage) (left : ℕ) (path under : List ℕ) (c : ℕ) (t : Transit) (r : Result ChainEnd Memory)
+    → 0 < left → list_any (nat_eq c) path ≡ false → under ≡ c ∷ path
+    → IfOk r (λ end. end ≡ rules_walk (chain_walk chains site p k stage (left - 1) under) site p k stage 0 (rules_at chains c) 0 t)
+    → IfOk r (λ end. end ≡ chain_walk chains site p k stage left path c t)
+chain_led chains site p k stage left path under c t r lt off is given =
+    subst (λ whole. IfOk r (λ end. end ≡ whole))
+    (ap (λ us. rules_walk (chain_walk chains site p k stage (left - 1) us) site p k stage 0 (rules_at chains c) 0 t) is ∙ sym (chain_entered chains site p k stage left path c t lt off)) given
+
+pub chain_logged : (chains : List Chain) (site : Site) (p : Packet) (k : Kind) (stage : Stage) (left : ℕ) (path under : List ℕ) (c : ℕ) (t : Transit) (r : Result ChainEnd Memory)
+    (before after : List Place) → 0 < left → list_any (nat_eq c) path ≡ false → under ≡ c ∷ path
+    → OnOk r (after ≡ before ++ rules_used (chain_used chains site p k stage (left - 1) under) (chain_walk chains site p k stage (left - 1) under) c site p k stage 0 (rules_at chains c) 0 t)
+    → OnOk r (after ≡ before ++ chain_used chains site p k stage left path c t)
+chain_logged chains site p k stage left path under c t r before after lt off is given =
+    subst (λ whole. OnOk r (after ≡ before ++ whole))
+    (ap (λ us. rules_used (chain_used chains site p k stage (left - 1) us) (chain_walk chains site p k stage (left - 1) us) c site p k stage 0 (rules_at chains c) 0 t) is
+    ∙ sym (chain_used_entered chains site p k stage left path c t lt off)) given
+
 -- a place at the first rule or before it passes over none
-pub not_passed : (enter : ℕ → Transit → ChainEnd) (site : Site) (p : Packet) (k : Kind) (stage : Stage) (at : ℕ) (r : Rule) (rs : List Rule) (to : ℕ) (t : Transit)
+not_passed : (enter : ℕ → Transit → ChainEnd) (site : Site) (p : Packet) (k : Kind) (stage : Stage) (at : ℕ) (r : Rule) (rs : List Rule) (to : ℕ) (t : Transit)
     → to ≤ at → rules_walk enter site p k stage at (r ∷ rs) to t ≡ rules_walk enter site p k stage at (r ∷ rs) 0 t
 not_passed enter site p k stage at r rs to t le =
     let here : nat_lt at to ≡ false = le-ltb at to le in
     let zeroth : nat_lt at 0 ≡ false = le-ltb at 0 (omega arith) in
     rw (here, zeroth) refl
 
-pub not_passed_used : (used : ℕ → Transit → List Place) (enter : ℕ → Transit → ChainEnd) (c : ℕ) (site : Site) (p : Packet) (k : Kind) (stage : Stage) (at : ℕ) (r : Rule) (rs : List Rule) (to : ℕ) (t : Transit)
+not_passed_used : (used : ℕ → Transit → List Place) (enter : ℕ → Transit → ChainEnd) (c : ℕ) (site : Site) (p : Packet) (k : Kind) (stage : Stage) (at : ℕ) (r : Rule) (rs : List Rule) (to : ℕ) (t : Transit)
     → to ≤ at → rules_used used enter c site p k stage at (r ∷ rs) to t ≡ rules_used used enter c site p k stage at (r ∷ rs) 0 t
 not_passed_used used enter c site p k stage at r rs to t le =
     let here : nat_lt at to ≡ false = le-ltb at to le in
     let zeroth : nat_lt at 0 ≡ false = le-ltb at 0 (omega arith) in
     rw (here, zeroth) refl
 
--- The walk behind a rule that enters another chain, in terms of the step and of where that chain was left
+-- a rule that is passed over
 
-pub left_through : (enter : ℕ → Transit → ChainEnd) (go : ℕ → Transit → ChainEnd) (step : Step) (d : ℕ) (t u : Transit) (whole : ChainEnd)
-    → step ≡ Enter d t → enter d t ≡ Through u → stepped enter go step ≡ whole → go 0 u ≡ whole
-left_through enter go step d t u whole is left e = sym (ap (back (go 0)) left) ∙ sym (ap (stepped enter go) is) ∙ e
+pub passed_over : (enter : ℕ → Transit → ChainEnd) (site : Site) (p : Packet) (k : Kind) (stage : Stage) (at next : ℕ) (r : Rule) (rest rules : List Rule) (to : ℕ) (t : Transit) (whole : ChainEnd)
+    → at < to → next ≡ suc at → rules ≡ r ∷ rest → rules_walk enter site p k stage at rules to t ≡ whole → rules_walk enter site p k stage next rest to t ≡ whole
+passed_over enter site p k stage at next r rest rules to t whole lt is_next is e =
+    let here : nat_lt at to ≡ true = lt-ltb at to lt in
+    let over : rules_walk enter site p k stage at (r ∷ rest) to t ≡ rules_walk enter site p k stage (suc at) rest to t = rw here refl in
+    ap (λ n. rules_walk enter site p k stage n rest to t) is_next ∙ sym over ∙ sym (ap (λ rs. rules_walk enter site p k stage at rs to t) is) ∙ e
 
-pub left_else : (enter : ℕ → Transit → ChainEnd) (go : ℕ → Transit → ChainEnd) (step : Step) (d : ℕ) (t : Transit) (end whole : ChainEnd)
-    → step ≡ Enter d t → enter d t ≡ end → back (go 0) end ≡ end → stepped enter go step ≡ whole → end ≡ whole
-left_else enter go step d t end whole is left stays e = sym stays ∙ sym (ap (back (go 0)) left) ∙ sym (ap (stepped enter go) is) ∙ e
-
-pub left_switched : (enter : ℕ → Transit → ChainEnd) (go : ℕ → Transit → ChainEnd) (step : Step) (d : ℕ) (t : Transit) (end whole : ChainEnd)
-    → step ≡ Switch d t → enter d t ≡ end → stepped enter go step ≡ whole → end ≡ whole
-left_switched enter go step d t end whole is left e = sym left ∙ sym (ap (stepped enter go) is) ∙ e
-
-pub logged_through : (used : ℕ → Transit → List Place) (enter : ℕ → Transit → ChainEnd) (go : ℕ → Transit → List Place) (step : Step) (d : ℕ) (t u : Transit)
-    (before after whole : List Place)
-    → step ≡ Enter d t → enter d t ≡ Through u → after ≡ before ++ used d t → before ++ used_behind used enter go step ≡ whole → after ++ go 0 u ≡ whole
-logged_through used enter go step d t u before after whole is left made e =
-    ap (λ xs. xs ++ go 0 u) made
-    ∙ append_assoc before (used d t) (go 0 u)
-    ∙ ap (λ end. before ++ (used d t ++ used_back (go 0) end)) (sym left)
-    ∙ ap (λ s. before ++ used_behind used enter go s) (sym is)
-    ∙ e
-
-pub logged_else : (used : ℕ → Transit → List Place) (enter : ℕ → Transit → ChainEnd) (go : ℕ → Transit → List Place) (step : Step) (d : ℕ) (t : Transit) (end : ChainEnd)
-    (before after whole : List Place)
-    → step ≡ Enter d t → enter d t ≡ end → used_back (go 0) end ≡ [] → after ≡ before ++ used d t → before ++ used_behind used enter go step ≡ whole → after ≡ whole
-logged_else used enter go step d t end before after whole is left ends made e =
-    made
-    ∙ ap (λ xs. before ++ xs) (sym (append-nil (used d t)) ∙ ap (λ xs. used d t ++ xs) (sym ends) ∙ ap (λ end. used d t ++ used_back (go 0) end) (sym left))
-    ∙ ap (λ s. before ++ used_behind used enter go s) (sym is)
-    ∙ e
-
-pub logged_switched : (used : ℕ → Transit → List Place) (enter : ℕ → Transit → ChainEnd) (go : ℕ → Transit → List Place) (step : Step) (d : ℕ) (t : Transit)
-    (before after whole : List Place)
-    → step ≡ Switch d t → after ≡ before ++ used d t → before ++ used_behind used enter go step ≡ whole → after ≡ whole
-logged_switched used enter go step d t before after whole is made e = made ∙ ap (λ s. before ++ used_behind used enter go s) (sym is) ∙ e
-
--- The walk behind a rule that goes on in its chain
-
-pub walked_on : (enter : ℕ → Transit → ChainEnd) (go : ℕ → Transit → ChainEnd) (step : Step) (place to : ℕ) (u now : Transit) (whole : ChainEnd)
-    → step ≡ Onwards place u → to ≡ place → now ≡ u → stepped enter go step ≡ whole → go to now ≡ whole
-walked_on enter go step place to u now whole is at same e = ap (λ n. go n now) at ∙ ap (go place) same ∙ sym (ap (stepped enter go) is) ∙ e
-
-pub logged_on : (used : ℕ → Transit → List Place) (enter : ℕ → Transit → ChainEnd) (go : ℕ → Transit → List Place) (step : Step) (place to : ℕ) (u now : Transit) (before after whole : List Place)
-    → step ≡ Onwards place u → to ≡ place → now ≡ u → after ≡ before → before ++ used_behind used enter go step ≡ whole → after ++ go to now ≡ whole
-logged_on used enter go step place to u now before after whole is at same made e =
-    ap (λ xs. xs ++ go to now) made ∙ ap (λ n. before ++ go n now) at ∙ ap (λ t. before ++ go place t) same ∙ sym (ap (λ s. before ++ used_behind used enter go s) is) ∙ e
-
--- where a rule goes on at a place, or at the next rule
-
-pub went_on : (go : ℕ → Transit → ChainEnd) (to : ℕ) (u now : Transit) (whole : ChainEnd) → to ≡ 0 → now ≡ u → go 0 u ≡ whole → go to now ≡ whole
-went_on go to u now whole at same e = ap (λ n. go n now) at ∙ ap (go 0) same ∙ e
-
-pub log_went_on : (go : ℕ → Transit → List Place) (to : ℕ) (u now : Transit) (before after whole : List Place) → to ≡ 0 → now ≡ u → after ≡ before
-    → before ++ go 0 u ≡ whole → after ++ go to now ≡ whole
-log_went_on go to u now before after whole at same made e =
-    ap (λ xs. xs ++ go to now) made ∙ ap (λ n. before ++ go n now) at ∙ ap (λ t. before ++ go 0 t) same ∙ e
+pub log_passed_over : (used : ℕ → Transit → List Place) (enter : ℕ → Transit → ChainEnd) (c : ℕ) (site : Site) (p : Packet) (k : Kind) (stage : Stage) (at next : ℕ) (r : Rule) (rest rules : List Rule)
+    (to : ℕ) (t : Transit) (log whole : List Place)
+    → at < to → next ≡ suc at → rules ≡ r ∷ rest → log ++ rules_used used enter c site p k stage at rules to t ≡ whole → log ++ rules_used used enter c site p k stage next rest to t ≡ whole
+log_passed_over used enter c site p k stage at next r rest rules to t log whole lt is_next is e =
+    let here : nat_lt at to ≡ true = lt-ltb at to lt in
+    let over : rules_used used enter c site p k stage at (r ∷ rest) to t ≡ rules_used used enter c site p k stage (suc at) rest to t = rw here refl in
+    ap (λ xs. log ++ xs) (ap (λ n. rules_used used enter c site p k stage n rest to t) is_next ∙ sym over ∙ sym (ap (λ rs. rules_used used enter c site p k stage at rs to t) is)) ∙ e
 
 -- The walk from the first rule that isn't passed over on, in terms of its step
 
@@ -133,6 +113,61 @@ log_leads used enter c site p k stage at next place r rest rules to t step befor
     ∙ subst (λ (pl : Place). after ++ used_behind used enter (rules_used used enter pl.chain site p k stage (suc pl.rule) rest) step ≡ before ++ rules_used used enter pl.chain site p k stage pl.rule (r ∷ rest) 0 t) same made
     ∙ ap (λ xs. before ++ xs) (sym (not_passed_used used enter c site p k stage at r rest to t le) ∙ sym (ap (λ rs. rules_used used enter c site p k stage at rs to t) is)) ∙ e
 
+-- The walk behind a rule, once it is back from a chain that the rule enters
+
+pub turned_on : (go : ℕ → Transit → ChainEnd) (turn : Turn) (place : ℕ) (u : Transit) (whole : ChainEnd) → turn ≡ Onwards place u → turned go turn ≡ whole → go place u ≡ whole
+turned_on go turn place u whole is e = sym (ap (turned go) is) ∙ e
+
+pub turned_away : (go : ℕ → Transit → ChainEnd) (turn : Turn) (end whole : ChainEnd) → turn ≡ Leave end → turned go turn ≡ whole → end ≡ whole
+turned_away go turn end whole is e = sym (ap (turned go) is) ∙ e
+
+pub log_turned_on : (go : ℕ → Transit → List Place) (turn : Turn) (place : ℕ) (u : Transit) (log whole : List Place) → turn ≡ Onwards place u → log ++ used_turned go turn ≡ whole
+    → log ++ go place u ≡ whole
+log_turned_on go turn place u log whole is e = sym (ap (λ x. log ++ used_turned go x) is) ∙ e
+
+pub log_turned_away : (go : ℕ → Transit → List Place) (turn : Turn) (end : ChainEnd) (log whole : List Place) → turn ≡ Leave end → log ++ used_turned go turn ≡ whole → log ≡ whole
+log_turned_away go turn end log whole is e = sym (append-nil log) ∙ sym (ap (λ x. log ++ used_turned go x) is) ∙ e
+
 -- the element at a place, and what is behind it
 pub dropped : {X : Type 0} (xs : List X) (i : ℕ) (x : X) → i < length xs → x ≡ get_or xs i x → drop i xs ≡ x ∷ drop (i + 1) xs
 dropped xs i x lt is = rw (add-one, drop-cons xs i x) (ap (λ y. y ∷ drop (suc i) xs) (sym is))
+
+-- The walk behind a stage
+
+stages_led : (chains : List Chain) (site : Site) (p : Packet) (k : Kind) (stage : Stage) (rest stages : List Stage) (t : Transit) (o : Option Transit) (whole : Option Transit)
+    → stages ≡ stage ∷ rest → o ≡ stage_walk chains site p k stage t → stages_walk chains site p k stages t ≡ whole → option_and_then (stages_walk chains site p k rest) o ≡ whole
+stages_led chains site p k stage rest stages t o whole is walked e =
+    ap (option_and_then (stages_walk chains site p k rest)) walked ∙ sym (ap (λ ss. stages_walk chains site p k ss t) is) ∙ e
+
+stages_logged : (chains : List Chain) (site : Site) (p : Packet) (k : Kind) (stage : Stage) (rest stages : List Stage) (t : Transit) (o : Option Transit) (before after whole : List Place)
+    → stages ≡ stage ∷ rest → o ≡ stage_walk chains site p k stage t → after ≡ before ++ stage_used chains site p k stage t → before ++ stages_used chains site p k stages t ≡ whole
+    → after ++ option_map_or (stages_used chains site p k rest) o [] ≡ whole
+stages_logged chains site p k stage rest stages t o before after whole is walked logged e =
+    ap (λ xs. xs ++ option_map_or (stages_used chains site p k rest) o []) logged
+    ∙ append_assoc before (stage_used chains site p k stage t) (option_map_or (stages_used chains site p k rest) o [])
+    ∙ ap (λ x. before ++ (stage_used chains site p k stage t ++ option_map_or (stages_used chains site p k rest) x [])) walked
+    ∙ sym (ap (λ ss. before ++ stages_used chains site p k ss t) is)
+    ∙ e
+
+pub stages_on : (chains : List Chain) (site : Site) (p : Packet) (k : Kind) (stage : Stage) (rest stages : List Stage) (t u : Transit) (o : Option Transit) (whole : Option Transit)
+    → stages ≡ stage ∷ rest → o ≡ stage_walk chains site p k stage t → o ≡ Some u → stages_walk chains site p k stages t ≡ whole → stages_walk chains site p k rest u ≡ whole
+stages_on chains site p k stage rest stages t u o whole is walked goes e =
+    sym (ap (option_and_then (stages_walk chains site p k rest)) goes) ∙ stages_led chains site p k stage rest stages t o whole is walked e
+
+pub stages_dropped : (chains : List Chain) (site : Site) (p : Packet) (k : Kind) (stage : Stage) (rest stages : List Stage) (t : Transit) (o : Option Transit) (whole : Option Transit)
+    → stages ≡ stage ∷ rest → o ≡ stage_walk chains site p k stage t → o ≡ None → stages_walk chains site p k stages t ≡ whole → None ≡ whole
+stages_dropped chains site p k stage rest stages t o whole is walked ends e =
+    sym (ap (option_and_then (stages_walk chains site p k rest)) ends) ∙ stages_led chains site p k stage rest stages t o whole is walked e
+
+pub log_stages_on : (chains : List Chain) (site : Site) (p : Packet) (k : Kind) (stage : Stage) (rest stages : List Stage) (t u : Transit) (o : Option Transit) (before after whole : List Place)
+    → stages ≡ stage ∷ rest → o ≡ stage_walk chains site p k stage t → after ≡ before ++ stage_used chains site p k stage t → o ≡ Some u
+    → before ++ stages_used chains site p k stages t ≡ whole → after ++ stages_used chains site p k rest u ≡ whole
+log_stages_on chains site p k stage rest stages t u o before after whole is walked logged goes e =
+    sym (ap (λ x. after ++ option_map_or (stages_used chains site p k rest) x []) goes) ∙ stages_logged chains site p k stage rest stages t o before after whole is walked logged e
+
+pub log_stages_dropped : (chains : List Chain) (site : Site) (p : Packet) (k : Kind) (stage : Stage) (rest stages : List Stage) (t : Transit) (o : Option Transit) (before after whole : List Place)
+    → stages ≡ stage ∷ rest → o ≡ stage_walk chains site p k stage t → after ≡ before ++ stage_used chains site p k stage t → o ≡ None
+    → before ++ stages_used chains site p k stages t ≡ whole → after ≡ whole
+log_stages_dropped chains site p k stage rest stages t o before after whole is walked logged ends e =
+    sym (append-nil after) ∙ sym (ap (λ x. after ++ option_map_or (stages_used chains site p k rest) x []) ends)
+    ∙ stages_logged chains site p k stage rest stages t o before after whole is walked logged e

@@ -1,5 +1,6 @@
 pub mod Loops
 pub mod Refusals
 pub mod Soundness
+pub mod Turns
 pub mod Uses
 pub mod Walk

@@ -25,3 +25,12 @@ pub enum Step {
     /// In the chain with this number, for good.
     Switch(u32, Transit),
 }
+
+/// How a walk goes on behind a rule, once it is back from a chain that the rule enters.
+#[derive(Drop)]
+pub(crate) enum Turn {
+    /// The chain is left.
+    Leave(ChainEnd),
+    /// At the next rule of the chain that doesn't stand before this place; 0 is the next of all.
+    Onwards(u32, Transit),
+}

@@ -7,12 +7,13 @@ ghost use Rattle.fws_net.specs.Routes.{IsSound};
 ghost use Rattle.fws_ifcl.specs.declared.diagram.Place.{Place};
 ghost use Rattle.fws_ifcl.specs.declared.diagram.Rule.{Rule};
 ghost use Rattle.fws_ifcl.specs.declared.step.ChainEnd.{ChainEnd};
-ghost use Rattle.fws_ifcl.specs.Uses.{chain_used, rules_used, stage_used, used_behind};
-ghost use Rattle.fws_ifcl.specs.Walk.{chain_walk, rules_at, rules_walk, stage_end, stage_walk, stepped};
+ghost use Rattle.fws_ifcl.specs.Turns.{turned, used_turned};
+ghost use Rattle.fws_ifcl.specs.Uses.{chain_used, rules_used, stage_used, used_back, used_behind};
+ghost use Rattle.fws_ifcl.specs.Walk.{back, chain_walk, rules_at, rules_walk, stage_end, stage_walk, stepped};
 
 use crate::diagram::{Chain, Place, Rule};
 use crate::model::acting::{Scene, rule_holds, step_of};
-use crate::step::{ChainEnd, Step};
+use crate::step::{ChainEnd, Step, Turn};
 use fws_net::Transit;
 use fws_num::Memory;
 use std::alloc::Global;
@@ -64,9 +65,96 @@ fn rule_step(
     Ok(step)
 }
 
+/// How the walk goes on behind a rule that entered a chain which was left like this.
+fn turn_back(end: ChainEnd) -> Turn
+    ensures walked { (go : ℕ → Transit → ChainEnd) → turned go result ≡ back (go 0) end }
+    ensures used { (go : ℕ → Transit → List Place) → used_turned go result ≡ used_back (go 0) end }
+{
+    match end {
+        ChainEnd::Accepted(t) => Turn::Leave(ChainEnd::Accepted(t)),
+        ChainEnd::Dropped => Turn::Leave(ChainEnd::Dropped),
+        ChainEnd::Through(t) => Turn::Onwards(0, t),
+    }
+}
+
+/// How the walk goes on behind a step. A chain that it enters from the chains of the path is walked, while
+/// at most `left` chains are entered, and the places of the rules that are used there are added to the log.
+#[cycle(chain_walk)]
+fn turn_of(
+    alloc: Global,
+    scene: &Scene,
+    left: usize,
+    path: &[u32],
+    step: Step,
+    log: &mut Vec<Place>,
+) -> Result<Turn, Memory>
+    requires { IsSound scene.now.site.now }
+    ensures walked { IfOk result (λ turn. (go : ℕ → Transit → ChainEnd) → turned go turn ≡ stepped (chain_walk scene.now.chains.now scene.now.site.now scene.now.packet.now scene.now.kind.now scene.now.stage left path.now) go step) }
+    ensures logged { IfOk result (λ turn. (go : ℕ → Transit → List Place) → log.new.items ++ used_turned go turn ≡ log.old.items ++ used_behind (chain_used scene.now.chains.now scene.now.site.now scene.now.packet.now scene.now.kind.now scene.now.stage left path.now) (chain_walk scene.now.chains.now scene.now.site.now scene.now.packet.now scene.now.kind.now scene.now.stage left path.now) go step) }
+{
+    match step {
+        Step::Leave(end) => Ok(Turn::Leave(end)),
+        Step::Onwards(place, t) => Ok(Turn::Onwards(place, t)),
+        Step::Enter(d, t) => {
+            let entered = chain_walk(alloc, scene, left, path, d, t, log)?;
+            Ok(turn_back(entered))
+        }
+        Step::Switch(d, t) => {
+            let whole = chain_walk(alloc, scene, left, path, d, t, log)?;
+            Ok(Turn::Leave(whole))
+        }
+    }
+}
+
+/// Walks the rules of chain `c`, from which chains are entered as from those of the path, while at most
+/// `left` are, and adds the places of the rules that are used to the log.
+#[cycle(chain_walk)]
+fn rules_walk(
+    alloc: Global,
+    scene: &Scene,
+    left: usize,
+    path: &[u32],
+    c: u32,
+    t: Transit,
+    log: &mut Vec<Place>,
+) -> Result<ChainEnd, Memory>
+    requires { IsSound scene.now.site.now }
+    ensures walked { IfOk result (λ end. end ≡ rules_walk (chain_walk scene.now.chains.now scene.now.site.now scene.now.packet.now scene.now.kind.now scene.now.stage left path.now) scene.now.site.now scene.now.packet.now scene.now.kind.now scene.now.stage 0 (rules_at scene.now.chains.now c) 0 t) }
+    ensures logged { OnOk result (log.new.items ≡ log.old.items ++ rules_used (chain_used scene.now.chains.now scene.now.site.now scene.now.packet.now scene.now.kind.now scene.now.stage left path.now) (chain_walk scene.now.chains.now scene.now.site.now scene.now.packet.now scene.now.kind.now scene.now.stage left path.now) c scene.now.site.now scene.now.packet.now scene.now.kind.now scene.now.stage 0 (rules_at scene.now.chains.now c) 0 t) }
+{
+    let mut now = t;
+    let mut to = 0;
+    for (at, rule) in rules_at(scene.chains, c as usize).iter().enumerate() {
+        if at < to {
+            continue;
+        }
+        let here = place_of(c, at)?;
+        let step = rule_step(alloc, scene, here, rule, now, log)?;
+        let turn = turn_of(alloc, scene, left, path, step, log)?;
+        match turn {
+            Turn::Leave(end) => return Ok(end),
+            Turn::Onwards(place, t) => {
+                to = place as usize;
+                now = t;
+            }
+        }
+    }
+    Ok(ChainEnd::Through(now))
+}
+
+/// The path on which the chain is entered, of which it comes first.
+fn path_under(alloc: Global, c: u32, path: &[u32]) -> Result<Vec<u32>, Memory>
+    ensures { IfOk result (λ under. under.items ≡ c ∷ path.now) }
+{
+    let mut under = Vec::new(alloc);
+    under.push(c)?;
+    under.extend_from_slice(path)?;
+    Ok(under)
+}
+
 /// Walks chain `c`, entered from the chains of the path, while at most `left` chains are entered, and
 /// adds the places of the rules that are used to the log.
-#[tactic(auto, using(crate::proofs::Walks::chain_entered, crate::proofs::Walks::chain_used_entered, crate::proofs::Walks::not_passed, crate::proofs::Walks::not_passed_used))]
+#[cycle(chain_walk)]
 fn chain_walk(
     alloc: Global,
     scene: &Scene,
@@ -86,38 +174,8 @@ fn chain_walk(
     if is_on(path, c) {
         return Ok(ChainEnd::Dropped);
     }
-    let mut under = Vec::new(alloc);
-    under.push(c)?;
-    under.extend_from_slice(path)?;
-    let mut now = t;
-    let mut to = 0;
-    for (at, rule) in rules_at(scene.chains, c as usize).iter().enumerate() {
-        if at < to {
-            continue;
-        }
-        match rule_step(alloc, scene, place_of(c, at)?, rule, now, log)? {
-            Step::Leave(end) => return Ok(end),
-            Step::Onwards(place, t) => {
-                to = place as usize;
-                now = t;
-            }
-            Step::Enter(d, t) => {
-                match chain_walk(alloc, scene, left - 1, under.as_slice(), d, t, log)? {
-                    ChainEnd::Through(t) => {
-                        to = 0;
-                        now = t;
-                    }
-                    ChainEnd::Accepted(t) => return Ok(ChainEnd::Accepted(t)),
-                    ChainEnd::Dropped => return Ok(ChainEnd::Dropped),
-                }
-            }
-            Step::Switch(d, t) => {
-                let end = chain_walk(alloc, scene, left - 1, under.as_slice(), d, t, log)?;
-                return Ok(end);
-            }
-        }
-    }
-    Ok(ChainEnd::Through(now))
+    let under = path_under(alloc, c, path)?;
+    rules_walk(alloc, scene, left - 1, under.as_slice(), c, t, log)
 }
 
 /// The packet behind a stage whose chain is left like this: at the chain's end the verdict so far

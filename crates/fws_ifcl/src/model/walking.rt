@@ -4,8 +4,8 @@ ghost use Rattle.std.specs.Prelude.{◌≡◌, ◌++◌, IfOk, OnOk};
 ghost use Rattle.std.specs.List.{list_any};
 ghost use Rattle.fws_net.specs.Routes.{IsSound};
 ghost use Rattle.fws_net.specs.Transits.{onwards, used_onwards};
-ghost use Rattle.fws_ifcl.specs.Uses.{stages_used, used_places, is_place, uses};
-ghost use Rattle.fws_ifcl.specs.Walk.{stages_walk, way_of, means};
+ghost use Rattle.fws_ifcl.specs.Uses.{stage_used, stages_used, used_places, is_place, uses};
+ghost use Rattle.fws_ifcl.specs.Walk.{stage_walk, stages_walk, way_of, means};
 
 use crate::diagram::{Ifcl, Place, Stage};
 use crate::model::acting::Scene;
@@ -23,6 +23,29 @@ struct Trip<'a> {
     kind: &'a Kind,
 }
 
+/// The packet behind a stage; none where it drops it.
+fn stage_behind(
+    alloc: Global,
+    trip: &Trip,
+    stage: &Stage,
+    t: Transit,
+    log: &mut Vec<Place>,
+) -> Result<Option<Transit>, Memory>
+    requires { IsSound trip.now.site.now }
+    ensures walked { IfOk result (λ o. o ≡ stage_walk trip.now.diagram.now.chains trip.now.site.now trip.now.packet.now trip.now.kind.now stage.now t) }
+    ensures logged { OnOk result (log.new.items ≡ log.old.items ++ stage_used trip.now.diagram.now.chains trip.now.site.now trip.now.packet.now trip.now.kind.now stage.now t) }
+{
+    let scene = Scene {
+        chains: trip.diagram.chains.as_slice(),
+        site: trip.site,
+        packet: trip.packet,
+        kind: trip.kind,
+        stage: *stage,
+    };
+    let end = stage_walk(alloc, &scene, t, log)?;
+    Ok(end)
+}
+
 /// The packet behind these stages, in their order; none where one drops it.
 fn stages_walk(
     alloc: Global,
@@ -37,14 +60,7 @@ fn stages_walk(
 {
     let mut now = t;
     for stage in stages {
-        let scene = Scene {
-            chains: trip.diagram.chains.as_slice(),
-            site: trip.site,
-            packet: trip.packet,
-            kind: trip.kind,
-            stage: *stage,
-        };
-        match stage_walk(alloc, &scene, now, log)? {
+        match stage_behind(alloc, trip, stage, now, log)? {
             Some(t) => now = t,
             None => return Ok(None),
         }
