@@ -1,7 +1,8 @@
 -- Frames that wait for one another.
-use Rattle.std.proofs.Common.{◌≡◌, ℕ, suc, ◌+◌, ◌-◌, ◌<◌, ◌≤◌, true, List, [], ◌∷◌, ◌++◌, length, length-append, arith, refl, ap, sym, ◌∙◌, subst, get_or, Some, None}
+use Rattle.std.proofs.Common.{◌≡◌, ℕ, suc, ◌+◌, ◌-◌, ◌<◌, ◌≤◌, true, List, [], ◌∷◌, ◌++◌, length, length-append, arith, refl, ap, sym, ◌∙◌, subst, get_or, Some, None, Result, Ok, Err, OnOk}
 use Rattle.std.specs.List.{list_all}
 use Rattle.std.proofs.lemmas.List.{get_or_default}
+use Rattle.fws_num.specs.declared.memory.Memory.{Memory}
 use Rattle.fws_ifcl.specs.declared.diagram.Chain.{Chain}
 use Rattle.fws_ifcl.specs.declared.diagram.Rule.{Rule}
 use Rattle.fws_ifcl.specs.declared.diagram.Place.{Place}
@@ -85,6 +86,11 @@ waiting_pop chains P f (g ∷ fs) c back old w = record {
 pub waiting_holds : (chains : List Chain) (P : ℕ → ℕ → List Draft → Type 0) (fs : List Frame) (c back : ℕ) (old : List Draft) → Waiting chains P fs c back old → Somewhere P
 waiting_holds chains P [] c back old w = record { chain = c; back = back; old = old; holds = w }
 waiting_holds chains P (f ∷ fs) c back old w = waiting_holds chains P fs w.enters w.far w.code w.inner
+
+-- what holds where something was put
+pub if_put : (r : Result (Unit {0}) Memory) (A B : Type 0) → (A → B) → OnOk r A → OnOk r B
+if_put (Ok x) A B more h = more h
+if_put (Err e) A B more h = tt
 
 -- What is put
 

@@ -138,6 +138,31 @@ fn turn(
     }
 }
 
+/// Goes on from a frame for which those of the stack wait, until the whole chain of the first one is put.
+fn put_frames(
+    alloc: Global,
+    chains: &[Chain],
+    out: &mut Vec<Draft>,
+    stack: &mut Stack,
+    frame: Frame,
+) -> Result<(), Memory>
+    requires named { NamesChains chains.now }
+    requires acyclic { NoLoop chains.now }
+    requires sound { list_all (chain_ok (length chains.now)) chains.now ≡ true }
+    requires even { IsEven stack.old }
+    requires waiting { Somewhere (Waiting chains.now (Begun chains.now frame (reverse out.old.items)) (frames_of stack.old)) }
+    ensures { OnOk result ((c back : ℕ) (old : List Draft) → Waiting chains.now (Begun chains.now frame (reverse out.old.items)) (frames_of stack.old) c back old → IsWhole chains.now (reverse out.new.items) c back old) }
+{
+    let mut now = frame;
+    for _turn in 0..u64::MAX {
+        match turn(alloc, chains, out, stack, now)? {
+            Some(next) => now = next,
+            None => return Ok(()),
+        }
+    }
+    Err(Memory)
+}
+
 /// Puts the code of chain `c` before what is there. Behind its end the walk goes on where `back`
 /// instructions stand.
 pub(crate) fn put_chain(
@@ -155,13 +180,7 @@ pub(crate) fn put_chain(
     ensures does { OnOk result (Does (λ s. walk_of chains.now s c) back (reverse out.old.items) (reverse out.new.items)) }
     ensures uses { OnOk result (Uses (λ s. used_of chains.now s c) (λ s. walk_of chains.now s c) back (reverse out.old.items) (reverse out.new.items)) }
 {
+    let frame = begin(alloc, chains, out, c, back)?;
     let mut stack = Stack::new(alloc);
-    let mut frame = begin(alloc, chains, out, c, back)?;
-    for _turn in 0..u64::MAX {
-        let Some(next) = turn(alloc, chains, out, &mut stack, frame)? else {
-            return Ok(());
-        };
-        frame = next;
-    }
-    Err(Memory)
+    put_frames(alloc, chains, out, &mut stack, frame)
 }
