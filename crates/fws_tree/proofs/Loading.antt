@@ -15,7 +15,7 @@ use Rattle.fws_tree.specs.declared.store.Cell.{Cell}
 use Rattle.fws_tree.specs.declared.store.Step.{Step}
 use Rattle.fws_tree.specs.declared.together.Both.{Both}
 use Rattle.fws_tree.specs.Held.{child_at, held_at, pick, over_leaf}
-use Rattle.fws_tree.specs.Loaded.{read, read_kids, kid_number, named_cell, AreLoaded, IsLoaded}
+use Rattle.fws_tree.specs.Loaded.{read, read_kids, kid_number, named_cell, AreLoaded, IsLoaded, HoldsNode}
 use Rattle.fws_tree.specs.Merged.{left_at, right_at}
 use Rattle.fws_tree.specs.Nodes.{kids_over, tree_of, trees_after, named_leaf, relabel, relabel_kids}
 use Rattle.fws_tree.specs.Plain.{Plain, leaf, cut, Kids, none, kid, kid_at, value_from, value, IsReducedFrom, IsReduced}
@@ -157,10 +157,6 @@ within_top [] (x ∷ p) f w = absurd w
 within_top (top ∷ tops) [] f w = absurd w
 within_top (top ∷ tops) (x ∷ p) zero w = w.0
 within_top (top ∷ tops) (x ∷ p) (suc f) w = within_top tops p f w.1
-
--- what the cell of the next node holds
-abbrev pub HoldsNode : List ℕ → List Node → List ℕ → List Cell → ℕ → ℕ → Type 0
-HoldsNode tops nodes values cells k cell = (p : List ℕ) → IsWithin tops p → (n : ℕ) → read (tree_of nodes k) p ≡ Some n → held_at cells cell p ≡ get_or values n 0
 
 pub loaded-next : (tops : List ℕ) (nodes : List Node) (values : List ℕ) (old new : List Cell) (at more : List ℕ) (k cell : ℕ) → Extends old new → length at ≡ k → AreLoaded tops nodes values old at → cell < length new
     → HoldsNode tops nodes values new k cell → more ≡ at ++ cell ∷ [] → AreLoaded tops nodes values new more

@@ -1,12 +1,11 @@
 -- Leaves made of others.
-use Rattle.std.proofs.Common.{◌≡◌, ℕ, zero, suc, ◌+◌, ◌<◌, ◌≤◌, List, [], ◌∷◌, ◌++◌, length, get_or, nat_lt, inl, inr, Option, Some, slice_get, refl, sym, ◌∙◌, ap, subst, arith, length-append, zero-add}
+use Rattle.std.proofs.Common.{◌≡◌, ℕ, zero, suc, ◌+◌, ◌<◌, ◌≤◌, List, [], ◌∷◌, ◌++◌, length, get_or, nat_lt, inl, inr, Some, slice_get, refl, sym, ◌∙◌, ap, subst, arith, length-append, zero-add}
 use Rattle.std.proofs.lemmas.Bool.{cases_Bool}
 use Rattle.std.proofs.lemmas.Bool.Decides.{nat_tests}
 use Rattle.std.proofs.lemmas.List.{get_or_push, get_or_append_left}
 use Rattle.std.proofs.lemmas.List.FromFn.{get_or-range_with_len}
 use Rattle.std.proofs.lemmas.Option.{slice_get_within, slice_get-get_or}
 use Rattle.std.specs.List.{range_with_len}
-use Rattle.std.specs.Option.{option_map}
 use Rattle.fws_tree.specs.Building.{Extends}
 use Rattle.fws_tree.proofs.LeafNumbers.{slice_get-extends}
 
@@ -38,7 +37,7 @@ made-next gives leaves old new places more i k a b m e is lt given at pushed = s
 pub made-all : {L M : Type 0} (gives : L → M) (leaves : List L) (made : List M) (places : List ℕ) (i : ℕ) → AreMade gives leaves made places i → length leaves ≤ i → (n : ℕ) (a : L) → slice_get leaves n ≡ Some a → slice_get made (get_or places n 0) ≡ Some (gives a)
 made-all gives leaves made places i m le n a at = let l = slice_get_within leaves n a at in m.there n a (omega arith) at
 
-slice_there : {X : Type 0} (xs : List X) (i : ℕ) → i < length xs → (x : X) × (slice_get xs i ≡ Some x)
+pub slice_there : {X : Type 0} (xs : List X) (i : ℕ) → i < length xs → (x : X) × (slice_get xs i ≡ Some x)
 slice_there [] i lt = absurd (omega arith)
 slice_there (x ∷ xs) zero lt = (x, refl)
 slice_there (x ∷ xs) (suc i) lt = slice_there xs i (omega arith)
@@ -46,31 +45,6 @@ slice_there (x ∷ xs) (suc i) lt = slice_there xs i (omega arith)
 -- the place of a value among places that are counted is the value
 pub counted_at : (cs : List ℕ) (count k : ℕ) → cs ≡ range_with_len 0 count → k < count → get_or cs k 0 ≡ k
 counted_at cs count k e lt = ap (λ xs. get_or xs k 0) e ∙ get_or-range_with_len 0 count k 0 lt ∙ zero-add k
-
--- what was made of the leaf at a point
-pub record IsMadeOf {L M : Type 0} (gives : L → M) (o : Option L) (made : List M) (k : ℕ) : Type 0 where
-  pub leaf : L
-  pub is : o ≡ Some leaf
-  pub there : slice_get made k ≡ Some (gives leaf)
-
-pub made_of : {L M : Type 0} (gives : L → M) (leaves : List L) (made : List M) (values slice : List ℕ) (held n : ℕ) (o : Option L) → ((n : ℕ) (a : L) → slice_get leaves n ≡ Some a → slice_get made (get_or values n 0) ≡ Some (gives a))
-    → slice ≡ values → o ≡ slice_get leaves n → n < length leaves → held ≡ get_or slice n 0 → IsMadeOf gives o made held
-made_of gives leaves made values slice held n o places same is lt at =
-    let a = slice_there leaves n lt in
-    record { leaf = a.0; is = is ∙ a.1; there = ap (slice_get made) (at ∙ ap (λ vs. get_or vs n 0) same) ∙ places n a.0 a.1 }
-
--- at the value's place stands what was made
-pub made_there : {L M : Type 0} (gives : L → M) (o : Option L) (made all slice : List M) (cs counts : List ℕ) (count k : ℕ) → IsMadeOf gives o made k → all ≡ made → slice ≡ all → counts ≡ cs → cs ≡ range_with_len 0 count → count ≡ length all
-    → slice_get slice (get_or counts k 0) ≡ option_map gives o
-made_there gives o made all slice cs counts count k m a s e c n =
-    let lt = slice_get_within made k (gives m.leaf) m.there in
-    let l : length made ≡ count = sym (n ∙ ap (λ xs. length xs) a) in
-    ap (slice_get slice) (counted_at counts count k (e ∙ c) (omega arith)) ∙ ap (λ xs. slice_get xs k) (s ∙ a) ∙ m.there ∙ sym (ap (option_map gives) m.is)
-
-pub made_inside : {L M : Type 0} (gives : L → M) (o : Option L) (made all slice : List M) (cs counts : List ℕ) (count k : ℕ) → IsMadeOf gives o made k → all ≡ made → slice ≡ all → counts ≡ cs → cs ≡ range_with_len 0 count → count ≡ length all
-    → get_or counts k 0 < length slice
-made_inside gives o made all slice cs counts count k m a s e c n =
-    slice_get_within slice (get_or counts k 0) (gives m.leaf) (made_there gives o made all slice cs counts count k m a s e c n ∙ ap (option_map gives) m.is)
 
 -- the leaf of a value stands at the value's place
 pub placed_leaf : {L : Type 0} (leaves made all slice : List L) (values plain : List ℕ) (v : ℕ) → v < length leaves → ((n : ℕ) (a : L) → slice_get leaves n ≡ Some a → slice_get made (get_or values n 0) ≡ Some a)

@@ -1,5 +1,5 @@
 -- The merge of two cells that were met, step by step.
-use Rattle.std.proofs.Common.{◌≡◌, Bool, cond, ℕ, ◌+◌, ◌<◌, ◌≤◌, List, [], ◌∷◌, ◌++◌, length, get_or, take, nat_le, inl, inr, refl, sym, ◌∙◌, ap, subst, arith, All, Some, slice_get, ◌⊎◌, Option, None, MatchOption}
+use Rattle.std.proofs.Common.{◌≡◌, Bool, true, false, cond, ℕ, ◌+◌, ◌<◌, ◌≤◌, List, [], ◌∷◌, ◌++◌, length, get_or, take, nat_le, inl, inr, refl, sym, ◌∙◌, ap, subst, arith, All, Some, slice_get, ◌⊎◌, Option, None, MatchOption}
 use Rattle.std.proofs.lemmas.List.{take_all, take_more}
 use Rattle.std.proofs.lemmas.Option.{slice_get-get_or}
 use Rattle.std.proofs.lemmas.Bool.{cases_Bool, cond-true, cond-false}
@@ -150,6 +150,13 @@ kept_cut gives old early new a b f l r last bs e g la lb met m lasts same p =
     given-same gives (pick_left w bs (w l) x) (pick_right w bs (w r) x) (pick_left w bs (w l) x) (held_at old a p) (held_at old b p) (held_at new a p)
     to (sym (met.held_right p ∙ pick_right_at w bs r x) ∙ held-extends old early b p e lb) now
     (by-all gives (λ y. pick_left w bs y x) (λ z. pick_right w bs z x) (λ k. pick_left w bs k x) (w l) (w r) (w l) (m p x) past)
+
+-- the cell of a cut, or the first cell where all stayed the same
+pub whole_merged : (gives : ℕ → ℕ → ℕ → Type 0) (old mid new : List Cell) (a b whole f last : ℕ) (ss : List Step) (same : Bool)
+    → ((p : List ℕ) → held_at new whole p ≡ cond same (held_at mid a p) (held_at mid (child_at ss last (get_or p f 0)) p)) → (same ≡ true → IsMerged gives old mid a b a)
+    → (((p : List ℕ) → held_at new whole p ≡ held_at mid (child_at ss last (get_or p f 0)) p) → IsMerged gives old new a b whole) → IsMerged gives old new a b whole
+whole_merged gives old mid new a b whole f last ss true held kept cut = λ p. subst (λ n. gives (held_at old a p) (held_at old b p) n) (sym (held p)) (kept refl p)
+whole_merged gives old mid new a b whole f last ss false held kept cut = cut held
 
 pub no_cut : (cs : List Cell) (a b : ℕ) (f g : Option ℕ) (o : Option ℕ) (P : ℕ → Type 0) → MatchOption o (HaveCut cs a b) P → o ≡ None → a < length cs → b < length cs
     → ((c : Cell) → slice_get cs a ≡ Some c → f ≡ field_of c) → ((c : Cell) → slice_get cs b ≡ Some c → g ≡ field_of c) → f ≡ None → g ≡ None → ⊥

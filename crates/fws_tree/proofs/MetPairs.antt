@@ -1,17 +1,14 @@
 -- Pairs of places that were met, and their leaves.
-use Rattle.std.proofs.Common.{◌≡◌, ℕ, zero, suc, ◌+◌, ◌<◌, Bool, true, false, cond, nat_lt, List, [], ◌∷◌, ◌++◌, inl, inr, length, get_or, Option, Some, slice_get, refl, sym, ◌∙◌, ap, subst, arith, length-append}
+use Rattle.std.proofs.Common.{◌≡◌, ℕ, ◌+◌, ◌<◌, Bool, true, false, cond, nat_lt, List, [], ◌∷◌, ◌++◌, inl, inr, length, get_or, Option, Some, slice_get, sym, ◌∙◌, ap, subst, arith, length-append}
 use Rattle.std.proofs.lemmas.Bool.{cases_Bool}
 use Rattle.std.proofs.lemmas.Bool.Decides.{nat_tests}
 use Rattle.std.proofs.lemmas.List.{append-nil, get_or_push, get_or_append_left}
 use Rattle.std.proofs.lemmas.Option.{slice_get-get_or, slice_get_within}
 use Rattle.std.specs.List.{range_with_len}
 use Rattle.fws_tree.specs.Building.{Extends}
-use Rattle.fws_tree.specs.declared.store.Cell.{Cell}
-use Rattle.fws_tree.specs.Held.{held_at}
 use Rattle.fws_tree.specs.Paired.{AreLeavesOf}
-use Rattle.fws_tree.proofs.Cells.{held-extends}
 use Rattle.fws_tree.proofs.LeafNumbers.{slice_get-extends}
-use Rattle.fws_tree.proofs.MadeLeaves.{counted_at}
+use Rattle.fws_tree.proofs.MadeLeaves.{counted_at, slice_there}
 
 pub extends_if : {X : Type 0} (xs ys : List X) (x : X) (b : Bool) → ys ≡ cond b (xs ++ x ∷ []) xs → Extends xs ys
 extends_if xs ys x true e = (x ∷ [], e)
@@ -36,19 +33,6 @@ leaves-next first second pairs old new places more i place d o m e lt leaf there
   ];
 })
 
-slice_there : {X : Type 0} (xs : List X) (i : ℕ) → i < length xs → (x : X) × (slice_get xs i ≡ Some x)
-slice_there [] i lt = absurd (omega arith)
-slice_there (x ∷ xs) zero lt = (x, refl)
-slice_there (x ∷ xs) (suc i) lt = slice_there xs i (omega arith)
-
--- the leaves of both trees at a point, and where the pair stands
-pub record IsPaired {L M : Type 0} (v : Option L) (w : Option M) (o : Option (L × M)) : Type 0 where
-  pub first : L
-  pub second : M
-  pub one : v ≡ Some first
-  pub two : w ≡ Some second
-  pub there : o ≡ Some (first, second)
-
 -- what a tree's cell holds at a point: the place of the leaf there
 pub record IsPlaceOf {L : Type 0} (leaves : List L) (v : Option L) (held : ℕ) : Type 0 where
   pub leaf : L
@@ -61,18 +45,8 @@ place_of_loaded leaves v held n counts slice is lt at s c =
     let e : held ≡ n = at ∙ counted_at slice (length leaves) n (s ∙ c) lt in
     record { leaf = a.0; is = is ∙ a.1; at = ap (slice_get leaves) e ∙ a.1 }
 
-pub pair_there : {L M : Type 0} (first : List L) (second : List M) (met listed pairs : List (ℕ × ℕ)) (made all slice : List (L × M)) (places plain : List ℕ) (one two new : List Cell) (a b whole : ℕ) (p : List ℕ) (v : Option L) (w : Option M)
-    → Extends one two → a < length one → IsPlaceOf first v (held_at one a p) → IsPlaceOf second w (held_at two b p) → slice_get met (held_at new whole p) ≡ Some (held_at two a p, held_at two b p) → listed ≡ met → pairs ≡ listed
-    → AreLeavesOf first second pairs made places (length pairs) → all ≡ made → slice ≡ all → plain ≡ places → IsPaired v w (slice_get slice (get_or plain (held_at new whole p) 0))
-pair_there first second met listed pairs made all slice places plain one two new a b whole p v w e lt x y merged li pi leaves ai si pl =
-    let k : ℕ = held_at new whole p in
-    let pair : ℕ × ℕ = (held_at two a p, held_at two b p) in
-    let there : slice_get pairs k ≡ Some pair = ap (λ ps. slice_get ps k) (pi ∙ li) ∙ merged in
-    record {
-      first = x.leaf;
-      second = y.leaf;
-      one = x.is;
-      two = y.is;
-      there = ap (λ xs. slice_get xs (get_or plain k 0)) (si ∙ ai) ∙ ap (λ ps. slice_get made (get_or ps k 0)) pl
-          ∙ leaves.there k pair (slice_get_within pairs k pair there) there x.leaf y.leaf (ap (slice_get first) (held-extends one two a p e lt) ∙ x.at) y.at;
-    }
+-- the leaf of a pair stands at its place
+pub pair_there : {L M : Type 0} (first : List L) (second : List M) (pairs : List (ℕ × ℕ)) (made slice : List (L × M)) (places plain : List ℕ) (k x y : ℕ) (a : L) (b : M) → AreLeavesOf first second pairs made places (length pairs)
+    → slice_get pairs k ≡ Some (x, y) → slice_get first x ≡ Some a → slice_get second y ≡ Some b → slice ≡ made → plain ≡ places → slice_get slice (get_or plain k 0) ≡ Some (a, b)
+pair_there first second pairs made slice places plain k x y a b leaves at ha hb si pl =
+    ap (λ xs. slice_get xs (get_or plain k 0)) si ∙ ap (λ ps. slice_get made (get_or ps k 0)) pl ∙ leaves.there k (x, y) (slice_get_within pairs k (x, y) at) at a b ha hb

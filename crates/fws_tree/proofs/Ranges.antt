@@ -1,6 +1,6 @@
 -- Regular lists of ranges, and numbers that are or aren't among theirs.
 use Rattle.std.proofs.Common.{◌≡◌, ℕ, zero, suc, ◌+◌, ◌<◌, ◌≤◌, Bool, true, false, ◌||◌, List, [], ◌∷◌, ◌++◌, inl, inr, refl, sym, ◌∙◌, subst, arith, get_or, drop, length, nat_le}
-use Rattle.std.proofs.lemmas.Bool.{le-leb, leb-true, leb-false, lt-leb, and_from, and_left, or_left, or_right, or_from, cases_Bool}
+use Rattle.std.proofs.lemmas.Bool.{le-leb, leb-true, lt-leb, and_from, and_left, or_left, or_right, or_from, cases_Bool}
 use Rattle.std.proofs.lemmas.List.{drop_more}
 use Rattle.fws_iv.specs.declared.iv.Iv.{Iv}
 use Rattle.fws_iv.specs.Ivs.{in_part, has, IsRegularFrom}

@@ -1,32 +1,37 @@
 -- One value in place of others.
-use Rattle.std.proofs.Common.{◌≡◌, ◌<◌, ℕ, Bool, true, false, not, cond, nat_eq, List, length, Option, Some, slice_get, refl, sym, ◌∙◌, ap}
+use Rattle.std.proofs.Common.{◌≡◌, ◌<◌, ℕ, Bool, true, false, not, cond, nat_eq, List, Some, slice_get, refl, sym, ◌∙◌, ap}
 use mathlib.Core.Bool.{beq}
 use Rattle.std.proofs.lemmas.Bool.{false≢true}
-use Rattle.fws_tree.specs.Building.{Extends}
 use Rattle.fws_tree.specs.Changed.{replaced, changed_value}
 use Rattle.fws_tree.specs.declared.replace.Replace.{Replace}
 use Rattle.fws_tree.specs.declared.store.Cell.{Cell}
 use Rattle.fws_tree.specs.declared.store.Cell.TheVariants.{Leaf}
 use Rattle.fws_tree.specs.Held.{AreOrderedFrom, held_at}
-use Rattle.fws_tree.specs.Merged.{IsMerged}
-use Rattle.fws_tree.proofs.Cells.{held_cell, held-extends}
-use Rattle.fws_tree.proofs.LeafNumbers.{slice_get-extends}
-use Rattle.fws_tree.proofs.MadeLeaves.{IsMadeOf}
+use Rattle.fws_tree.proofs.Cells.{held_cell}
 
-there_made : {L : Type 0} (keys : List L) (marked h : Bool) (v x y k : ℕ) (leaf a : L) (o : Option L) → y ≡ cond h 1 0 → k ≡ replaced marked v x y → slice_get keys v ≡ Some leaf → slice_get keys x ≡ Some a → o ≡ Some a
-    → IsMadeOf (λ z. z) (changed_value marked h (Some leaf) o) keys k
-there_made keys true true v x y k leaf a o e m here old is = record { leaf = leaf; is = refl; there = ap (slice_get keys) (m ∙ ap (replaced true v x) e) ∙ here }
-there_made keys true false v x y k leaf a o e m here old is = record { leaf = a; is = is; there = ap (slice_get keys) (m ∙ ap (replaced true v x) e) ∙ old }
-there_made keys false true v x y k leaf a o e m here old is = record { leaf = a; is = is; there = ap (slice_get keys) (m ∙ ap (replaced false v x) e) ∙ old }
-there_made keys false false v x y k leaf a o e m here old is = record { leaf = leaf; is = refl; there = ap (slice_get keys) (m ∙ ap (replaced false v x) e) ∙ here }
+replaced_label : (marked h : Bool) (v x : ℕ) → replaced marked v x (cond h 1 0) ≡ changed_value marked h v x
+replaced_label true true v x = refl
+replaced_label true false v x = refl
+replaced_label false true v x = refl
+replaced_label false false v x = refl
 
-pub replaced_made : {L : Type 0} (old keys : List L) (one two new : List Cell) (s : Replace) (marked h : Bool) (v root within whole : ℕ) (p : List ℕ) (leaf : L) (o : Option L) → Extends old keys → Extends one two → root < length one
-    → record { value = v; marked = marked } ≡ s → IsMerged (λ x y z. z ≡ replaced s.marked s.value x y) two new root within whole → held_at two within p ≡ cond h 1 0
-    → slice_get keys v ≡ Some leaf → IsMadeOf (λ z. z) o old (held_at one root p) → IsMadeOf (λ z. z) (changed_value marked h (Some leaf) o) keys (held_at new whole p)
-replaced_made old keys one two new s marked h v root within whole p leaf o more e lt later merged label here m =
-    there_made keys marked h v (held_at one root p) (held_at two within p) (held_at new whole p) leaf m.leaf o label
-    (merged p ∙ ap (λ r. replaced r.marked r.value (held_at two root p) (held_at two within p)) (sym later) ∙ ap (λ x. replaced marked v x (held_at two within p)) (held-extends one two root p e lt))
-    here (slice_get-extends old keys (held_at one root p) m.leaf more m.there) m.is
+-- what stands where a mark is 1 within sides
+pub replaced_value : (s t : Replace) (h : Bool) (x y k : ℕ) → s ≡ t → y ≡ cond h 1 0 → k ≡ replaced t.marked t.value x y → k ≡ changed_value s.marked h s.value x
+replaced_value s t h x y k later label e =
+    e ∙ ap (λ r. replaced r.marked r.value x y) (sym later) ∙ ap (replaced s.marked s.value x) label ∙ replaced_label s.marked h s.value x
+
+-- the leaf at the place that stands there
+pub changed_there : {L : Type 0} (made : List L) (marked h : Bool) (v k : ℕ) → slice_get made (changed_value marked h v k) ≡ changed_value marked h (slice_get made v) (slice_get made k)
+changed_there made true true v k = refl
+changed_there made true false v k = refl
+changed_there made false true v k = refl
+changed_there made false false v k = refl
+
+pub changed_below : (marked h : Bool) (v k n : ℕ) → v < n → k < n → changed_value marked h v k < n
+changed_below true true v k n a b = a
+changed_below true false v k n a b = b
+changed_below false true v k n a b = b
+changed_below false false v k n a b = a
 
 -- ---- where the mark is a leaf
 

@@ -1,5 +1,5 @@
 -- Where a value is spread.
-use Rattle.std.proofs.Common.{◌≡◌, ◌≢◌, Bool, true, false, ◌||◌, ℕ, ◌+◌, ◌<◌, ◌≤◌, List, [], ◌∷◌, ◌++◌, length, get_or, drop, take, nat_le, nat_eq, inl, inr, sym, ◌∙◌, ap, subst, arith, All, bit_and, ◌⊎◌, min}
+use Rattle.std.proofs.Common.{◌≡◌, ◌≢◌, true, false, ℕ, ◌+◌, ◌<◌, ◌≤◌, List, [], ◌∷◌, ◌++◌, length, get_or, drop, take, nat_le, nat_eq, inl, inr, sym, ◌∙◌, ap, subst, arith, All, bit_and, ◌⊎◌, min}
 use Rattle.std.proofs.lemmas.Bool.{false≢true, cases_Bool, cond-true, cond-false, leb-true, leb-false, eqb-true, eq-eqb}
 use Rattle.std.proofs.lemmas.Nat.Bits.{bit_at_and, same_from_bits}
 use Rattle.std.proofs.lemmas.List.{drop_more, drop_all, take_more, take_all}
@@ -15,7 +15,7 @@ use Rattle.fws_tree.specs.Held.{child_at, held_at}
 use Rattle.fws_tree.specs.Spread.{IsHeldAt, Lacks, AreLacking, HasSpread, AreDone, Grows}
 use Rattle.fws_tree.proofs.Cells.{child_has}
 use Rattle.fws_tree.proofs.Marking.{within_at}
-use Rattle.fws_tree.proofs.Ranges.{has_last, still_has}
+use Rattle.fws_tree.proofs.Ranges.{still_has}
 
 min_same : (n : ℕ) → min n n ≡ n
 min_same n = omega arith

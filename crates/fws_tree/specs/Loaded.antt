@@ -34,6 +34,10 @@ pub record AreLoaded (tops : List ℕ) (nodes : List Node) (values : List ℕ) (
   pub below : All (λ c. c < length cells) at
   pub held : (k : ℕ) → k < length at → (p : List ℕ) → IsWithin tops p → (n : ℕ) → read (tree_of nodes k) p ≡ Some n → held_at cells (slice_index at k) p ≡ slice_index values n
 
+-- the cell holds, at points within the tops, the value for the place that a node has there
+abbrev pub HoldsNode : List ℕ → List Node → List ℕ → List Cell → ℕ → ℕ → Type 0
+HoldsNode tops nodes values cells k cell = (p : List ℕ) → IsWithin tops p → (n : ℕ) → read (tree_of nodes k) p ≡ Some n → held_at cells cell p ≡ slice_index values n
+
 -- the cell holds, at points within the tops, the value for the place of the leaf that the tree has there
 abbrev pub IsLoaded : {L : Type 0} → List ℕ → List L → List Node → List ℕ → List Cell → ℕ → Type 0
 IsLoaded tops leaves nodes values cells r = (p : List ℕ) → IsWithin tops p

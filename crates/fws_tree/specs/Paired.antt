@@ -1,8 +1,14 @@
 -- Pairs of places that were met, and their leaves.
-use Rattle.std.specs.Prelude.{◌≡◌, ℕ, ◌<◌, Some, List, [], ◌++◌, length, slice_get, slice_index}
+use Rattle.std.specs.Prelude.{◌≡◌, ℕ, ◌-◌, ◌<◌, Some, List, [], ◌++◌, length, slice_get, slice_index}
 use Rattle.std.proofs.Common.{◌∷◌, zero, suc, sym, ◌∙◌, ap}
 use Rattle.std.proofs.lemmas.List.{append_assoc, append-nil}
+use Rattle.fws_box.specs.Sides.{IsWithin}
 use Rattle.fws_tree.specs.Building.{Extends}
+use Rattle.fws_tree.specs.declared.node.Node.{Node}
+use Rattle.fws_tree.specs.declared.store.Cell.{Cell}
+use Rattle.fws_tree.specs.Held.{held_at}
+use Rattle.fws_tree.specs.Plain.{value}
+use Rattle.fws_tree.specs.Shared.{subtree_of}
 
 -- the leaf of a pair of places stands at a place
 abbrev pub IsLeafOf : {L M : Type 0} → List L → List M → ℕ × ℕ → List (L × M) → ℕ → Type 0
@@ -12,6 +18,19 @@ IsLeafOf {L} {M} first second pair leaves place = (a : L) (b : M) → slice_get 
 pub record AreLeavesOf {L M : Type 0} (first : List L) (second : List M) (pairs : List (ℕ × ℕ)) (leaves : List (L × M)) (places : List ℕ) (n : ℕ) : Type 0 where
   pub many : length places ≡ n
   pub there : (k : ℕ) (pair : ℕ × ℕ) → k < n → slice_get pairs k ≡ Some pair → IsLeafOf first second pair leaves (slice_index places k)
+
+-- the number is a place of the leaf that a tree of nodes has at a point
+abbrev pub IsPlaceAt : {L : Type 0} → List L → List Node → List ℕ → ℕ → Type 0
+IsPlaceAt {L} leaves nodes p n = (a : L) × (value (subtree_of leaves nodes (length nodes - 1)) p ≡ Some a) × (slice_get leaves n ≡ Some a)
+
+-- the cell holds, at points within the tops, the place of the leaf that the tree has there
+abbrev pub HoldsPlaces : {L : Type 0} → List ℕ → List L → List Node → List Cell → ℕ → Type 0
+HoldsPlaces tops leaves nodes cells r = (p : List ℕ) → IsWithin tops p → IsPlaceAt leaves nodes p (held_at cells r p)
+
+-- the cell holds, at points within the tops, the number of the pair of the places of the leaves that two trees have there
+abbrev pub HoldsPairs : {L M : Type 0} → List ℕ → List L → List Node → List M → List Node → List (ℕ × ℕ) → List Cell → ℕ → Type 0
+HoldsPairs tops first nodes second others pairs cells r = (p : List ℕ) → IsWithin tops p
+    → (x : ℕ) × (y : ℕ) × (slice_get pairs (held_at cells r p) ≡ Some (x, y)) × IsPlaceAt first nodes p x × IsPlaceAt second others p y
 
 pub pairs_same : (xs : List (ℕ × ℕ)) → Extends xs xs
 pairs_same xs = ([], sym (append-nil xs))

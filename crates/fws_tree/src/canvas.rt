@@ -5,7 +5,6 @@ ghost use Rattle.fws_tree.specs.Bits.{AreMasks};
 ghost use Rattle.fws_tree.specs.Held.{AreOrderedFrom};
 ghost use Rattle.fws_tree.specs.OrderedCells.{ordered-prop};
 
-use crate::arena::listed;
 use crate::copy::copied;
 use crate::finish::finish;
 use crate::halves::marked_cell;
@@ -177,15 +176,8 @@ impl Canvas {
         ensures value { IfOk result (λ t. (p : List ℕ) → IsWithin (tops_of self.now) p → value t.1 p ≡ slice_get leaves.now (value_at self.now p)) }
     {
         let made = made_leaves(alloc, leaves, &Copied)?;
-        let leaves = listed(alloc, made.leaves)?;
         let places = made.places.as_slice();
-        finish(
-            alloc,
-            &self.store,
-            &self.tops,
-            self.root,
-            places,
-            leaves.as_slice(),
-        )
+        let leaves = made.leaves.as_slice();
+        finish(alloc, &self.store, &self.tops, self.root, places, leaves)
     }
 }

@@ -4,7 +4,7 @@ ghost use Rattle.std.specs.Prelude.{◌≡◌, ℕ, ◌<◌, ◌≤◌, ◌-◌,
 ghost use Rattle.fws_box.specs.Sides.{IsWithin};
 ghost use Rattle.fws_tree.specs.Building.{Extends};
 ghost use Rattle.fws_tree.specs.Held.{AreOrderedFrom, held_at};
-ghost use Rattle.fws_tree.specs.Loaded.{kid_number, named_cell, AreLoaded, IsLoaded};
+ghost use Rattle.fws_tree.specs.Loaded.{kid_number, named_cell, AreLoaded, HoldsNode, IsLoaded};
 ghost use Rattle.fws_tree.specs.Nodes.{AreOrderedFrom as AreNodesOrderedFrom};
 ghost use Rattle.fws_tree.specs.Shared.{IsShared, subtree_of};
 
@@ -48,6 +48,37 @@ pub(crate) fn load_cut(
     store.cut(field, cells.steps, cells.last)
 }
 
+// The cell of node `k` over the cells of those before it.
+fn load_node(
+    alloc: Global,
+    store: &mut Store,
+    tops: &[u32; 12],
+    nodes: &[Node],
+    values: &[u32],
+    k: usize,
+    at: &[u32],
+    rest: u32,
+) -> Result<u32, Memory>
+    requires ordered { AreOrderedFrom 0 store.old }
+    requires nodes { AreNodesOrderedFrom 0 nodes.now }
+    requires inside { k < length nodes.now }
+    requires many { length at.now ≡ k }
+    requires loaded { AreLoaded tops.now nodes.now values.now store.old at.now }
+    requires rest { rest < length store.old }
+    ensures ordered { AreOrderedFrom 0 store.new }
+    ensures extends { Extends store.old store.new }
+    ensures inside { IfOk result (λ r. r < length store.new) }
+    ensures holds { IfOk result (λ r. HoldsNode tops.now nodes.now values.now store.new k r) }
+{
+    match &nodes[k] {
+        Node::Leaf(place) => store.intern(Cell::Leaf(number_at(values, *place as usize))),
+        Node::Cut(field, kids) => {
+            let top = number_at(tops, *field as usize);
+            load_cut(alloc, store, *field, top, kids.as_slice(), at, rest)
+        }
+    }
+}
+
 /// Cells for nodes, in their order: at each point within the tops a cell holds the value that the list
 /// gives for the place that its node has there. The time grows with the pieces of the nodes' cuts.
 pub(crate) fn load_nodes(
@@ -66,22 +97,8 @@ pub(crate) fn load_nodes(
 {
     let rest = store.intern(Cell::Leaf(0))?;
     let mut at = Vec::new(alloc);
-    for node in nodes {
-        let cell = match node {
-            Node::Leaf(place) => store.intern(Cell::Leaf(number_at(values, *place as usize)))?,
-            Node::Cut(field, kids) => {
-                let top = number_at(tops, *field as usize);
-                load_cut(
-                    alloc,
-                    store,
-                    *field,
-                    top,
-                    kids.as_slice(),
-                    at.as_slice(),
-                    rest,
-                )?
-            }
-        };
+    for k in 0..nodes.len() {
+        let cell = load_node(alloc, store, tops, nodes, values, k, at.as_slice(), rest)?;
         at.push(cell)?;
     }
     Ok(at)

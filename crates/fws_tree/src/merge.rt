@@ -1,12 +1,12 @@
 //! Two cells merged into one by a rule.
 
-ghost use Rattle.std.specs.Prelude.{◌≡◌, ℕ, ◌+◌, ◌<◌, List, true, length, IfOk, OnOk, MatchOption};
+ghost use Rattle.std.specs.Prelude.{◌≡◌, ℕ, ◌<◌, List, true, length, slice_index, if◌then◌else◌, IfOk, OnOk, MatchOption, All};
 ghost use Rattle.fws_tree.specs.Building.{Extends};
-ghost use Rattle.fws_tree.specs.Held.{AreOrderedFrom};
-ghost use Rattle.fws_tree.specs.Merged.{IsMerged, AreKnown, IsSkipped, CanSkip};
+ghost use Rattle.fws_tree.specs.Held.{AreOrderedFrom, child_at, held_at};
+ghost use Rattle.fws_tree.specs.Merged.{HaveCut, IsMerged, AreKnown, IsSkipped, CanSkip};
 
 use crate::memo::Memo;
-use crate::store::{Store, add_step};
+use crate::store::{Step, Store, add_step};
 use crate::together::{cut_field, lesser, meet_cells};
 use fws_num::Memory;
 use std::alloc::Global;
@@ -73,6 +73,64 @@ fn stays(so_far: bool, node: u32, left: u32) -> bool
     so_far && node == left
 }
 
+// The merged cell, if no walk is needed for it. The memo has what was merged before.
+fn merged_early<M: Merging>(
+    by: &mut M,
+    skips: Skips<'_>,
+    store: &mut Store,
+    memo: &Memo,
+    a: u32,
+    b: u32,
+) -> Result<Option<u32>, Memory>
+    requires sound { M.sound by.old }
+    requires skips { CanSkip (M.gives by.old) store.old skips.masks.now skips.wanted }
+    requires ordered { AreOrderedFrom 0 store.old }
+    requires a { a < length store.old }
+    requires b { b < length store.old }
+    requires known { AreKnown (M.gives by.old) store.old memo.now }
+    ensures sound { OnOk result (M.sound by.new) }
+    ensures later { M.later by.old by.new }
+    ensures ordered { AreOrderedFrom 0 store.new }
+    ensures extends { Extends store.old store.new }
+    ensures found { IfOk result (λ o. MatchOption o (HaveCut store.new a b) (λ r. (r < length store.new) × IsMerged (M.gives by.new) store.old store.new a b r)) }
+    ensures known { OnOk result (AreKnown (M.gives by.new) store.new memo.now) }
+{
+    if skips.has(a) {
+        return Ok(Some(a));
+    }
+    if let Some(r) = by.early(store, a, b)? {
+        return Ok(Some(r));
+    }
+    if let Some(r) = memo.recall(a, b) {
+        return Ok(Some(r));
+    }
+    Ok(None)
+}
+
+// The cell of a cut: cell `a` where all stayed the same, else that of the steps.
+fn cut_or_same(
+    store: &mut Store,
+    field: u8,
+    steps: Vec<Step>,
+    last: u32,
+    same: bool,
+    a: u32,
+) -> Result<u32, Memory>
+    requires ordered { AreOrderedFrom 0 store.old }
+    requires below { All (λ s. s.node < length store.old) steps.items }
+    requires last { last < length store.old }
+    requires a { a < length store.old }
+    ensures ordered { AreOrderedFrom 0 store.new }
+    ensures extends { Extends store.old store.new }
+    ensures inside { IfOk result (λ r. r < length store.new) }
+    ensures held { IfOk result (λ r. (p : List ℕ) → held_at store.new r p ≡ (if same then held_at store.old a p else held_at store.old (child_at steps.items last (slice_index p field)) p)) }
+{
+    if same {
+        return Ok(a);
+    }
+    store.cut(field, steps, last)
+}
+
 /// The two cells merged. The memo has what was merged before. Where no cell changed, the first one is
 /// handed on as it is.
 fn merge_known<M: Merging>(
@@ -98,17 +156,11 @@ fn merge_known<M: Merging>(
     ensures merged { IfOk result (λ r. IsMerged (M.gives by.new) store.old store.new a b r) }
     ensures known { OnOk result (AreKnown (M.gives by.new) store.new memo.new) }
 {
-    if skips.has(a) {
-        return Ok(a);
-    }
-    if let Some(r) = by.early(store, a, b)? {
-        return Ok(r);
-    }
-    if let Some(r) = memo.recall(a, b) {
+    if let Some(r) = merged_early(by, skips, store, memo, a, b)? {
         return Ok(r);
     }
     let Some(field) = lesser(cut_field(store, a), cut_field(store, b)) else {
-        return Ok(a);
+        unreachable!();
     };
     let met = meet_cells(alloc, store, a, b, field)?;
     let mut steps = Vec::new(alloc);
@@ -119,11 +171,8 @@ fn merge_known<M: Merging>(
         same = stays(same, node, s.left);
     }
     let last = merge_known(alloc, by, skips, store, memo, met.left, met.right)?;
-    if stays(same, last, met.left) {
-        memo.note(a, b, a)?;
-        return Ok(a);
-    }
-    let whole = store.cut(field, steps, last)?;
+    let same = stays(same, last, met.left);
+    let whole = cut_or_same(store, field, steps, last, same, a)?;
     memo.note(a, b, whole)?;
     Ok(whole)
 }

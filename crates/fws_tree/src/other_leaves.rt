@@ -1,19 +1,20 @@
 //! Trees with other leaves in their places.
 
-ghost use Rattle.std.specs.Prelude.{◌≡◌, ◌↔◌, ℕ, Bool, IsTrue, List, Some, slice_get, slice_index, IfOk};
+ghost use Rattle.std.specs.Prelude.{◌≡◌, ◌↔◌, ℕ, ◌<◌, ◌-◌, Bool, IsTrue, List, Some, length, slice_get, slice_index, IfOk, OnOk};
 ghost use Rattle.fws_box.specs.Sides.{IsWithin};
-ghost use Rattle.fws_tree.specs.Building.{AreDifferent};
+ghost use Rattle.fws_tree.specs.Building.{AreDifferent, Extends};
 ghost use Rattle.fws_tree.specs.Plain.{IsReduced, value};
+ghost use Rattle.fws_tree.specs.Shared.{IsShared, subtree_of};
 
 use crate::arena::listed;
-use crate::counted_places::counted;
-use crate::finish::finish;
+use crate::finish::finish_counted;
 use crate::leaf::Leaf;
 use crate::load::load;
 use crate::numbers::number;
+use crate::shared::Shared;
 use crate::store::Store;
 use crate::tree::Tree;
-use fws_num::Memory;
+use fws_num::{Items, Memory};
 use indexmap::IndexSet;
 use std::alloc::Global;
 
@@ -33,9 +34,29 @@ pub trait Relabelling<L, M> {
 #[derive(Drop)]
 pub(crate) struct Relabelled<M: Leaf> {
     /// The leaves.
-    pub(crate) leaves: IndexSet<M>,
+    pub(crate) leaves: Items<M>,
     /// The place of the leaf that each was made.
     pub(crate) places: Vec<u32>,
+}
+
+/// The places of the leaves that are made of these, which are put behind the others unless they are there.
+pub(crate) fn made_places<L: Leaf, M: Leaf, R: Relabelling<L, M>>(
+    alloc: Global,
+    made: &mut IndexSet<M>,
+    leaves: &[L],
+    by: &R,
+) -> Result<Vec<u32>, Memory>
+    requires { AreDifferent made.old.keys }
+    ensures extends { OnOk result (Extends made.old.keys made.new.keys) }
+    ensures different { OnOk result (AreDifferent made.new.keys) }
+    ensures places { IfOk result (λ ps. (n : ℕ) (a : L) → slice_get leaves.now n ≡ Some a → slice_get made.new.keys (slice_index ps.items n) ≡ Some (R.gives by.now a)) }
+{
+    let mut places = Vec::new(alloc);
+    for leaf in leaves {
+        let leaf = by.leaf(alloc, leaf)?;
+        places.push(number(made, leaf)?)?;
+    }
+    Ok(places)
 }
 
 /// The leaves that are made of these.
@@ -44,19 +65,32 @@ pub(crate) fn made_leaves<L: Leaf, M: Leaf, R: Relabelling<L, M>>(
     leaves: &[L],
     by: &R,
 ) -> Result<Relabelled<M>, Memory>
-    ensures different { IfOk result (λ r. AreDifferent r.leaves.keys) }
-    ensures places { IfOk result (λ r. (n : ℕ) (a : L) → slice_get leaves.now n ≡ Some a → slice_get r.leaves.keys (slice_index r.places.items n) ≡ Some (R.gives by.now a)) }
+    ensures different { IfOk result (λ r. AreDifferent r.leaves) }
+    ensures places { IfOk result (λ r. (n : ℕ) (a : L) → slice_get leaves.now n ≡ Some a → slice_get r.leaves (slice_index r.places.items n) ≡ Some (R.gives by.now a)) }
 {
     let mut made = IndexSet::new(alloc);
-    let mut places = Vec::new(alloc);
-    for leaf in leaves {
-        let leaf = by.leaf(alloc, leaf)?;
-        places.push(number(&mut made, leaf)?)?;
-    }
-    Ok(Relabelled {
-        leaves: made,
-        places,
-    })
+    let places = made_places(alloc, &mut made, leaves, by)?;
+    let leaves = listed(alloc, made)?;
+    Ok(Relabelled { leaves, places })
+}
+
+// The tree of nodes with the leaves that were made of its own.
+fn with_leaves<L: Leaf, M: Leaf>(
+    alloc: Global,
+    tops: &[u32; 12],
+    tree: &Shared<'_, L>,
+    made: &Relabelled<M>,
+) -> Result<Tree<M>, Memory>
+    requires shared { IsShared tops.now (subtree_of tree.now.leaves.now tree.now.nodes.now (length tree.now.nodes.now - 1)) tree.now.leaves.now tree.now.nodes.now }
+    requires different { AreDifferent made.now.leaves }
+    requires places { (n : ℕ) → n < length tree.now.leaves.now → slice_index made.now.places.items n < length made.now.leaves }
+    ensures tops { IfOk result (λ t. t.0 ≡ tops.now) }
+    ensures reduced { IfOk result (λ t. IsReduced t.0 t.1) }
+    ensures value { IfOk result (λ t. (p : List ℕ) → IsWithin tops.now p → (n : ℕ) × (value (subtree_of tree.now.leaves.now tree.now.nodes.now (length tree.now.nodes.now - 1)) p ≡ slice_get tree.now.leaves.now n) × (n < length tree.now.leaves.now) × (value t.1 p ≡ slice_get made.now.leaves (slice_index made.now.places.items n))) }
+{
+    let mut store = Store::new(alloc);
+    let root = load(alloc, &mut store, tops, tree, made.places.as_slice())?;
+    finish_counted(alloc, &store, tops, root, made.leaves.as_slice())
 }
 
 impl<L: Leaf> Tree<L> {
@@ -74,18 +108,7 @@ impl<L: Leaf> Tree<L> {
         let shared = self.shared();
         let tops = self.tops();
         let made = made_leaves(alloc, shared.leaves, by)?;
-        let mut store = Store::new(alloc);
-        let root = load(alloc, &mut store, tops, &shared, made.places.as_slice())?;
-        let leaves = listed(alloc, made.leaves)?;
-        let places = counted(alloc, leaves.len())?;
-        finish(
-            alloc,
-            &store,
-            tops,
-            root,
-            places.as_slice(),
-            leaves.as_slice(),
-        )
+        with_leaves(alloc, tops, &shared, &made)
     }
 }
 

@@ -1,7 +1,14 @@
 use Rattle.std.proofs.Common.{◌/◌, length}
 use Rattle.std.proofs.lemmas.Result.{IfOk-weaker}
+use Rattle.fws_tree.proofs.Cells.{extends-trans}
 use Rattle.fws_tree.proofs.Marking.{halves_held}
 use Rattle.fws_tree.proofs.halves.+halves.Goals as goal
+
+pub returns-in_err-b-clause-extends : goal.returns-in_err-b-clause-extends
+returns-in_err-b-clause-extends t c = extends-trans _ _ _ c.halves.ensures.extends c.halves-2.ensures.extends
+
+pub returns-clause-extends : goal.returns-clause-extends
+returns-clause-extends t c = extends-trans _ _ _ c.halves.ensures.extends (extends-trans _ _ _ c.halves-2.ensures.extends c.merge.ensures.extends)
 
 pub returns-clause-held : goal.returns-clause-held
 returns-clause-held t c = IfOk-weaker c.merge.result _ _ (λ r e p w.

@@ -2,8 +2,18 @@ use Rattle.std.proofs.Common.{◌<◌, ◌≡◌, [], length, map, cond, get_or,
 use Rattle.std.proofs.lemmas.List.{length-map}
 use Rattle.std.proofs.lemmas.Result.{IfOk-weaker}
 use Rattle.fws_iv.specs.Ivs.{has}
+use Rattle.fws_tree.proofs.Cells.{extends-trans}
 use Rattle.fws_tree.proofs.Marking.{mark_held}
 use Rattle.fws_tree.proofs.halves.+mark_cell.Goals as goal
+
+pub returns-in_err-off-clause-extends : goal.returns-in_err-off-clause-extends
+returns-in_err-off-clause-extends t c = extends-trans _ _ _ c.mark_cell.ensures.extends c.intern-2.ensures.extends
+
+pub returns-in_err-cuts-clause-extends : goal.returns-in_err-cuts-clause-extends
+returns-in_err-cuts-clause-extends t c = extends-trans _ _ _ c.mark_cell.ensures.extends c.intern-2.ensures.extends
+
+pub returns-clause-extends : goal.returns-clause-extends
+returns-clause-extends t c = extends-trans _ _ _ c.mark_cell.ensures.extends (extends-trans _ _ _ c.intern-2.ensures.extends c.cut.ensures.extends)
 
 pub returns-clause-held : goal.returns-clause-held
 returns-clause-held t c = IfOk-weaker c.cut.result _ _ (λ r e p w.

@@ -1,6 +1,13 @@
 use Rattle.std.proofs.lemmas.Result.{IfOk-weaker}
+use Rattle.fws_tree.proofs.Cells.{extends-trans}
 use Rattle.fws_tree.proofs.Marking.{marked_held}
 use Rattle.fws_tree.proofs.halves.marked_cell.Goals as goal
+
+pub returns-in_err-last-clause-extends : goal.returns-in_err-last-clause-extends
+returns-in_err-last-clause-extends c = extends-trans _ _ _ c.halves.ensures.extends c.intern.ensures.extends
+
+pub returns-clause-extends : goal.returns-clause-extends
+returns-clause-extends c = extends-trans _ _ _ c.halves.ensures.extends (extends-trans _ _ _ c.intern.ensures.extends c.merge.ensures.extends)
 
 pub returns-clause-held : goal.returns-clause-held
 returns-clause-held c = IfOk-weaker c.merge.result _ _ (λ r e p w.

@@ -1,17 +1,12 @@
-use Rattle.std.proofs.Common.{arith, ◌≤◌, ◌≡◌, length, get_or, subst}
-use Rattle.std.proofs.lemmas.List.Elements.{All-more}
-use Rattle.fws_tree.proofs.LeafNumbers.{numbers-more, numbers-all}
+use Rattle.std.proofs.Common.{slice_get, sym, ◌∙◌, ap, subst}
+use Rattle.fws_tree.specs.Building.{AreDifferent, AreNumbersOf}
 use Rattle.fws_tree.proofs.numbers.number_leaves.Goals as goal
 
-pub loop-row-preserved : goal.loop-row-preserved
-loop-row-preserved g c = record {
-  sides = (let z : length (get_or c.args.rows.now c.loop-row.row-index c.row-item.result).sides ≡ 12 = subst (λ r. length r.sides ≡ 12) c.row-item.is c.leaf_of.ensures.sides in
-      All-more (λ r. length r.sides ≡ 12) c.args.rows.now c.loop-row.row-index c.row-item.result c.loop-row-test.true c.loop-row.invariant.sides z);
-  numbers = rw c.in_ok-push.ensures.items
-      (numbers-more c.loop-row.leaves.keys c.number.new.leaves.keys c.loop-row.numbers.items c.args.rows.now c.loop-row.row-index c.row-item.result c.in_ok-number.field-0 c.in_ok-leaf.leaf
-      c.number.ensures.extends c.loop-row.invariant.numbers c.loop-row-test.true c.row-item.is c.in_ok-leaf.ensures.leaf c.in_ok-number.ensures.place);
-}
+pub returns-clause-different : goal.returns-clause-different
+returns-clause-different g c = subst AreDifferent (sym c.in_ok-leaves.ensures) c.in_ok-numbers.ensures.different
 
 pub returns-clause-numbers : goal.returns-clause-numbers
-returns-clause-numbers g c = numbers-all c.loop-row.leaves.keys _ _ c.args.rows.now c.loop-row.row-index c.number-2.ensures.extends c.loop-row.invariant.numbers
-    (let le : length c.args.rows.now ≤ c.loop-row.row-index = omega arith in le)
+returns-clause-numbers g c = subst (λ ls. AreNumbersOf ls c.in_ok-numbers.numbers.items c.args.rows.now) (sym c.in_ok-leaves.ensures) c.in_ok-numbers.ensures.numbers
+
+pub returns-clause-rest : goal.returns-clause-rest
+returns-clause-rest g c = ap (λ ls. slice_get ls c.in_ok-numbers.rest) c.in_ok-leaves.ensures ∙ c.in_ok-numbers.ensures.rest

@@ -1,12 +1,9 @@
-use Rattle.fws_tree.proofs.MadeLeaves.{made-next, made-all}
+use Rattle.std.proofs.Common.{get_or, slice_get, sym, ◌∙◌, ap, subst}
+use Rattle.fws_tree.specs.Building.{AreDifferent}
 use Rattle.fws_tree.proofs.other_leaves.made_leaves.Goals as goal
 
-pub loop-leaf-preserved : goal.loop-leaf-preserved
-loop-leaf-preserved g c = record {
-  different = c.number.ensures.different;
-  made = made-next (g.R.Relabelling.gives c.args.by.now) c.args.leaves.now c.loop-leaf.made.keys c.number.new.leaves.keys c.loop-leaf.places.items c.push.new.self.items c.loop-leaf.leaf-index c.in_ok-number.field-0
-      c.leaf-item.result c.in_ok-leaf.leaf c.loop-leaf.invariant.made c.number.ensures.extends c.leaf-item.is c.loop-leaf-test.true c.in_ok-leaf.ensures c.in_ok-number.ensures.place c.in_ok-push.ensures.items;
-}
+pub returns-clause-different : goal.returns-clause-different
+returns-clause-different g c = subst AreDifferent (sym c.in_ok-leaves.ensures) c.in_ok-places.ensures.different
 
 pub returns-clause-places : goal.returns-clause-places
-returns-clause-places g c = made-all (g.R.Relabelling.gives c.args.by.now) c.args.leaves.now c.loop-leaf.made.keys c.loop-leaf.places.items c.loop-leaf.leaf-index c.loop-leaf.invariant.made c.loop-leaf-test.false
+returns-clause-places g c = λ n a at. ap (λ ms. slice_get ms (get_or c.in_ok-places.places.items n 0)) c.in_ok-leaves.ensures ∙ c.in_ok-places.ensures.places n a at

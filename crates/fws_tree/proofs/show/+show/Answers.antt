@@ -6,6 +6,12 @@ use Rattle.fws_tree.proofs.Growing.{extends-trans}
 use Rattle.fws_tree.proofs.Showing.{all_shown-extends, all_shown-note, pieces-next, pieces-joined, leaf_shown, shown_up, under-next, under-joined, added_leaf, AreShownPieces, AreAddedUnder, grown-extends}
 use Rattle.fws_tree.proofs.show.+show.Goals as goal
 
+pub returns-in_err-leaf-in-Leaf-clause-extends : goal.returns-in_err-leaf-in-Leaf-clause-extends
+returns-in_err-leaf-in-Leaf-clause-extends t c = grown-extends _ _ _ c.intern.ensures.grown
+
+pub returns-in-Leaf-clause-extends : goal.returns-in-Leaf-clause-extends
+returns-in-Leaf-clause-extends t c = grown-extends _ _ _ c.intern.ensures.grown
+
 pub returns-in-Leaf-clause-shown : goal.returns-in-Leaf-clause-shown
 returns-in-Leaf-clause-shown t c = leaf_shown c.args.store.now c.args.tops.now c.args.places.now c.args.field c.args.at c.in-Leaf.n c.leaf_place.result c.cell.result.now c.intern.new.self c.in_ok-leaf-in-Leaf.leaf
     c.requires.ordered c.cell.ensures c.in-Leaf.is c.leaf_place.ensures (slice_get_within _ _ _ c.in_ok-leaf-in-Leaf.ensures.number) c.in_ok-leaf-in-Leaf.ensures.tree
@@ -19,6 +25,12 @@ returns-in-Leaf-clause-known t c = all_shown-extends c.args.store.now c.args.top
 pub returns-in-Some-clause-shown : goal.returns-in-Some-clause-shown
 returns-in-Some-clause-shown t c = shown_up c.args.store.now c.args.tops.now c.args.places.now c.args.field c.in-Cut.own c.args.at c.args.arena.now c.in-Some.r (omega arith) (omega arith)
     (c.requires.known c.in-Cut.own c.args.at c.in-Some.r (sym c.in-Some.ensures))
+
+pub returns-in_err-node-clause-extends : goal.returns-in_err-node-clause-extends
+returns-in_err-node-clause-extends t c = extends-trans _ _ _ c.loop-cut.invariant.extends c.show.ensures.extends
+
+pub returns-in_err-push-clause-extends : goal.returns-in_err-push-clause-extends
+returns-in_err-push-clause-extends t c = extends-trans _ _ _ c.loop-cut.invariant.extends c.show.ensures.extends
 
 pub loop-cut-preserved : goal.loop-cut-preserved
 loop-cut-preserved t c =
@@ -42,6 +54,15 @@ own_shown t c =
     c.loop-cut-test.false
     (subst (λ ps. AreShownPieces c.args.store.now c.args.tops.now c.args.places.now c.in-Cut.own c.args.at (take c.loop-cut.cut-index c.deref-cut-items.result.now) c.loop-cut.arena ps) (sym c.as_slice.ensures.value) c.loop-cut.invariant.shown)
     c.in_ok-whole.ensures.number c.in_ok-whole.ensures.reduced c.in_ok-whole.ensures.branches
+
+pub returns-in_err-whole-clause-extends : goal.returns-in_err-whole-clause-extends
+returns-in_err-whole-clause-extends t c = extends-trans _ _ _ c.loop-cut.invariant.extends c.join.ensures.extends
+
+pub returns-in_err-note-clause-extends : goal.returns-in_err-note-clause-extends
+returns-in_err-note-clause-extends t c = extends-trans _ _ _ c.loop-cut.invariant.extends c.join.ensures.extends
+
+pub returns-clause-extends : goal.returns-clause-extends
+returns-clause-extends t c = extends-trans _ _ _ c.loop-cut.invariant.extends c.join.ensures.extends
 
 pub returns-clause-shown : goal.returns-clause-shown
 returns-clause-shown t c = shown_up c.args.store.now c.args.tops.now c.args.places.now c.args.field c.in-Cut.own c.args.at c.join.new.arena c.in_ok-whole.whole (omega arith) (omega arith) (own_shown t c)

@@ -1,4 +1,4 @@
-use Rattle.std.proofs.Common.{◌<◌, ℕ, List, length, map, slice_index_or, sym, subst, Bor}
+use Rattle.std.proofs.Common.{◌<◌, List, length, map, sym, subst, Bor}
 use Rattle.std.proofs.lemmas.List.{get_or-map, length-map}
 use Rattle.fws_iv.specs.declared.iv.Iv.{Iv}
 use Rattle.fws_iv.specs.Ivs.{IsRegular}

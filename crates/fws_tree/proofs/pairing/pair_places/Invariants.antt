@@ -1,6 +1,6 @@
 use Rattle.fws_tree.specs.Building.{AreDifferent}
 use Rattle.fws_tree.specs.Paired.{AreLeavesOf}
-use Rattle.fws_tree.proofs.pairing.pair_leaves.Given as goal
+use Rattle.fws_tree.proofs.pairing.pair_places.Given as goal
 
 abbrev pub invariant-loop-pair : goal.invariant-loop-pair
 invariant-loop-pair g l = record {
