@@ -338,6 +338,26 @@ fn keep_meant(
     }
 }
 
+/// Takes the words for which each of these words stands.
+fn keep_each(
+    alloc: Global,
+    macros: &Macros,
+    uses: &mut UseAdditions,
+    kept: &mut Kept,
+    words: &[Word],
+) -> Result<(), ReadFault>
+    requires { AreUseAdditions macros.now uses.old }
+    ensures { StepGiven result kept.new (kept_read macros.now kept.old words.now) }
+{
+    for w in words {
+        if !w.is_sound() {
+            return Err(ReadFault::Bad(Cause::Syntax));
+        }
+        keep_meant(alloc, macros, uses, kept, w)?;
+    }
+    Ok(())
+}
+
 /// Takes the words of a value, macros replaced.
 fn keep_value(
     alloc: Global,
@@ -351,13 +371,7 @@ fn keep_value(
         wholes: Additions::new(alloc),
         fronts: Additions::new(alloc),
     };
-    for w in words {
-        if !w.is_sound() {
-            return Err(ReadFault::Bad(Cause::Syntax));
-        }
-        keep_meant(alloc, macros, &mut uses, kept, w)?;
-    }
-    Ok(())
+    keep_each(alloc, macros, &mut uses, kept, words)
 }
 
 /// The words that were kept, unless they are too large.

@@ -46,6 +46,9 @@ impl Model for ItemList {
     } };
 }
 
+/// Drops an item.
+fn dismiss_item(_item: Item) {}
+
 /// An equal value.
 fn copied_part(alloc: Global, part: &Part) -> Result<Part, Memory>
     ensures { IfOk result (λ p. p ≡ part.now) }
@@ -161,16 +164,36 @@ impl ItemList {
         self.count
     }
 
+    /// Puts an item behind the others, which are then so many.
+    fn put_counted(&mut self, item: Item, count: usize) -> Result<(), Memory>
+        requires { count ≡ length self.old + 1 }
+        ensures { OnOk result (self.new ≡ self.old ++ item ∷ []) }
+    {
+        match self.marks.reserve(1) {
+            Ok(()) => {
+                self.kept.put(item)?;
+                self.marks.push(Mark::One)?;
+                self.count = count;
+                Ok(())
+            }
+            Err(_) => {
+                dismiss_item(item);
+                Err(Memory)
+            }
+        }
+    }
+
     /// Puts an item behind the others.
     pub fn put(&mut self, item: Item) -> Result<(), Memory>
         ensures { OnOk result (self.new ≡ self.old ++ item ∷ []) }
     {
-        let count = self.count.checked_add(1).ok_or(Memory)?;
-        self.marks.reserve(1)?;
-        self.kept.put(item)?;
-        self.marks.push(Mark::One)?;
-        self.count = count;
-        Ok(())
+        match self.count.checked_add(1) {
+            Some(count) => self.put_counted(item, count),
+            None => {
+                dismiss_item(item);
+                Err(Memory)
+            }
+        }
     }
 
     /// Puts items behind the others.

@@ -45,6 +45,9 @@ impl Model for LongValue {
     ghost view = { λ v. at_spot v.spot v.items };
 }
 
+/// Drops a value: in a function of its own, since each function that drops one has to walk through all that it owns.
+fn dismiss(_d: ValueDraft) {}
+
 impl LongValue {
     /// A value of this kind ahead of its first word.
     pub fn new(alloc: Global, kind: ValueKind) -> LongValue
@@ -128,7 +131,10 @@ impl LongValue {
                 self.go_on(next)?;
                 Ok(took)
             }
-            Err(fault) => Err(fault),
+            Err(fault) => {
+                dismiss(next);
+                Err(fault)
+            }
         }
     }
 
@@ -144,16 +150,24 @@ impl LongValue {
         match value_step(alloc, setting, w, &mut next) {
             Ok(took) => {
                 if !took {
+                    dismiss(next);
                     return Ok(false);
                 }
                 if has_ended(next.expects) {
+                    dismiss(next);
                     return Ok(false);
                 }
                 self.go_on(next)?;
                 Ok(true)
             }
-            Err(ReadFault::Bad(_)) => Ok(false),
-            Err(ReadFault::Memory) => Err(Memory),
+            Err(ReadFault::Bad(_)) => {
+                dismiss(next);
+                Ok(false)
+            }
+            Err(ReadFault::Memory) => {
+                dismiss(next);
+                Err(Memory)
+            }
         }
     }
 

@@ -1,6 +1,6 @@
 //! Where words are read: at a site, among tables and names that are taken.
 
-ghost use Rattle.std.specs.Prelude.{◌≡◌, [], ◌∷◌, ◌++◌, position, Some, OnOk};
+ghost use Rattle.std.specs.Prelude.{◌≡◌, false, [], ◌∷◌, ◌++◌, position, Some, OnOk};
 ghost use Rattle.std.specs.List.{list_any};
 ghost use Rattle.std.specs.Option.{option_map};
 ghost use Rattle.std.specs.Str.{bytes_eq};
@@ -35,6 +35,9 @@ impl Model for Tables {
     ghost invariant = { λ t. (name : List ℕ) → lookup (bytes_eq name) t.places.entries ≡ position (λ (u : Table). bytes_eq u.name name) t.tables };
 }
 
+/// Drops a table.
+fn dismiss(_table: KnownTable) {}
+
 impl Tables {
     /// No tables.
     pub fn new(alloc: Global) -> Tables
@@ -67,6 +70,26 @@ impl Tables {
         self.position(name).is_some()
     }
 
+    /// Puts the first table of this name behind the others.
+    fn put_first(&mut self, name: Text, table: KnownTable) -> Result<(), Memory>
+        requires name { name ≡ table.name }
+        requires first { has_table self.old table.name ≡ false }
+        ensures { OnOk result (self.new ≡ self.old ++ table ∷ []) }
+    {
+        let place = self.tables.len();
+        match self.places.reserve(1) {
+            Ok(()) => {
+                self.tables.put(table)?;
+                self.places.insert(name, place)?;
+                Ok(())
+            }
+            Err(_) => {
+                dismiss(table);
+                Err(Memory)
+            }
+        }
+    }
+
     /// Puts a table behind the others. An error is want of memory, after which the tables are as before.
     pub fn put(&mut self, alloc: Global, table: KnownTable) -> Result<(), Memory>
         ensures { OnOk result (self.new ≡ self.old ++ table ∷ []) }
@@ -75,12 +98,16 @@ impl Tables {
             self.tables.put(table)?;
             return Ok(());
         }
-        let place = self.tables.len();
-        let name = table.name().copy(alloc)?;
-        self.places.reserve(1)?;
-        self.tables.put(table)?;
-        self.places.insert(name, place)?;
-        Ok(())
+        match table.name().copy(alloc) {
+            Ok(name) => {
+                self.put_first(name, table)?;
+                Ok(())
+            }
+            Err(Memory) => {
+                dismiss(table);
+                Err(Memory)
+            }
+        }
     }
 }
 
