@@ -74,10 +74,7 @@ impl Contents {
         ensures err { OnErr result (self.new ≡ self.old) }
     {
         let earlier = place_of(&self.entries, name);
-        let entry = Held {
-            name: Text::of(self.alloc, name)?,
-            content: Text::of(self.alloc, content)?,
-        };
+        let entry = entry_of(self.alloc, name, content)?;
 
         // The new entry is found first; the earlier one, which nothing finds any more, is let go.
         self.entries.insert(0, entry)?;
@@ -86,6 +83,15 @@ impl Contents {
         }
         Ok(())
     }
+}
+
+/// The entry of this name with this content.
+fn entry_of(alloc: Global, name: &[u8], content: &[u8]) -> Result<Held, Memory>
+    ensures { IfOk result (λ entry. entry ≡ record { name = name.now; content = content.now }) }
+{
+    let name = Text::of(alloc, name)?;
+    let content = Text::of(alloc, content)?;
+    Ok(Held { name, content })
 }
 
 /// The place of the first entry with this name.

@@ -6,17 +6,17 @@ use Rattle.fws_io.proofs.contents.Contents.hold.Goals as goal
 pub returns-in-Some-clause-told : goal.returns-in-Some-clause-told
 returns-in-Some-clause-told c =
     let blank : Held = record { name = []; content = [] } in
-    let entry : Held = record { name = c.in_ok-of.field-0; content = c.in_ok-of-2.field-0 } in
+    let entry : Held = record { name = c.args.name.now; content = c.args.content.now } in
     let within : c.in-Some.place < length c.self.inside.entries.items = rw c.deref.ensures.value at c.in-Some.ensures.within in
-    let named : (get_or c.self.inside.entries.items c.in-Some.place blank).name ≡ c.in_ok-of.field-0 = cc (c.in_ok-of.ensures, c.in-Some.ensures.named, c.deref.ensures.value) in
+    let named : (get_or c.self.inside.entries.items c.in-Some.place blank).name ≡ c.args.name.now = cc (c.in-Some.ensures.named, c.deref.ensures.value) in
     let e = replaced blank c.self.inside.entries.items entry c.in-Some.place within named in
-    cc (e, c.remove.ensures.items, c.in_ok-insert.ensures.items, c.self.view_is, c.in_ok-of.ensures, c.in_ok-of-2.ensures)
+    cc (e, c.remove.ensures.items, c.in_ok-insert.ensures.items, c.self.view_is, c.in_ok-entry.ensures)
 
 pub returns-in-Some-clause-held : goal.returns-in-Some-clause-held
 returns-in-Some-clause-held c = λ asked.
     let blank : Held = record { name = []; content = [] } in
-    let entry : Held = record { name = c.in_ok-of.field-0; content = c.in_ok-of-2.field-0 } in
+    let entry : Held = record { name = c.args.name.now; content = c.args.content.now } in
     let within : c.in-Some.place < length c.self.inside.entries.items = rw c.deref.ensures.value at c.in-Some.ensures.within in
-    let named : (get_or c.self.inside.entries.items c.in-Some.place blank).name ≡ c.in_ok-of.field-0 = cc (c.in_ok-of.ensures, c.in-Some.ensures.named, c.deref.ensures.value) in
+    let named : (get_or c.self.inside.entries.items c.in-Some.place blank).name ≡ c.args.name.now = cc (c.in-Some.ensures.named, c.deref.ensures.value) in
     let e = replaced-held blank c.self.inside.entries.items entry c.in-Some.place within named asked in
-    cc (e, c.remove.ensures.items, c.in_ok-insert.ensures.items, c.self.view_is, c.in_ok-of.ensures)
+    cc (e, c.remove.ensures.items, c.in_ok-insert.ensures.items, c.self.view_is, c.in_ok-entry.ensures)
