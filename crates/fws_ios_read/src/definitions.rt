@@ -1,7 +1,8 @@
 //! The pools that lines of a text define, whether they are refused or not.
 
-ghost use Rattle.std.specs.Prelude.{◌≡◌, IfOk};
-ghost use Rattle.fws_ios.specs.FileText.{all_defined, begins_pool, defined_by, pool_behind_name, pool_defined};
+ghost use Rattle.std.specs.Prelude.{◌≡◌, IfOk, OnOk};
+ghost use Rattle.std.specs.Option.{option_map_or};
+ghost use Rattle.fws_ios.specs.FileText.{all_defined, begins_pool, defined_by, defined_from, pool_behind_name, pool_defined, with_defined};
 
 use crate::begins::{begins_with_three, behind};
 use crate::pools::Pools;
@@ -51,15 +52,31 @@ fn defined_by(alloc: Global, line: &Line) -> Result<Option<Pool>, Memory>
     pool_defined(alloc, behind(line.words.as_slice(), 3))
 }
 
+/// Puts the pool that a line defines behind the others, unless one of them has its name.
+fn note(alloc: Global, line: &Line, pools: &mut Pools) -> Result<(), Memory>
+    ensures { OnOk result (pools.new ≡ option_map_or (λ pool. with_defined pool pools.old) (defined_by line.now) pools.old) }
+{
+    match defined_by(alloc, line)? {
+        Some(pool) => pools.put_if_new(pool),
+        None => Ok(()),
+    }
+}
+
+/// Notes what lines define, in their order.
+fn note_all(alloc: Global, lines: &[Line], pools: &mut Pools) -> Result<(), Memory>
+    ensures { OnOk result (pools.new ≡ defined_from pools.old lines.now) }
+{
+    for line in lines {
+        note(alloc, line, pools)?;
+    }
+    Ok(())
+}
+
 /// The pools that the lines define, refused lines among them; the first of one name counts.
 pub(crate) fn all_defined(alloc: Global, lines: &[Line]) -> Result<Pools, Memory>
     ensures { IfOk result (λ pools. pools ≡ all_defined lines.now) }
 {
     let mut pools = Pools::new(alloc);
-    for line in lines {
-        if let Some(pool) = defined_by(alloc, line)? {
-            pools.put_if_new(pool)?;
-        }
-    }
+    note_all(alloc, lines, &mut pools)?;
     Ok(pools)
 }

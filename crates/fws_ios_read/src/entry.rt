@@ -2,7 +2,7 @@
 
 ghost use Rattle.std.specs.Prelude.{◌≡◌, ◌∷◌, [], OnOk};
 ghost use Rattle.fws_net.specs.Causes.{judged, words_read};
-ghost use Rattle.fws_net.specs.Reading.{CauseGiven, StepGiven};
+ghost use Rattle.fws_net.specs.Reading.{CauseGiven, StepGiven, and_then};
 ghost use Rattle.fws_ios.specs.EntryText.{action_step, deciding, entry_checks, entry_drawn, entry_made, entry_of, entry_step, evaluate_step, evaluated, expected_step, fresh_entry, is_protocol, may_end, sequence_step};
 
 use crate::entry_addresses::{address_step, host_step, protocol_step, wildcard_step, with_literal};
@@ -18,6 +18,7 @@ use fws_net::{Cause, Checks, Cond, ReadFault, Test};
 use fws_num::{Memory, Word};
 use fws_rule::{is, positive};
 use std::alloc::Global;
+use std::mem;
 
 /// An entry ahead of its first word. A number may stand first in a list that was opened.
 fn fresh_entry(alloc: Global, extended: bool, opened: bool) -> EntryDraft
@@ -202,28 +203,36 @@ fn entry_checks(d: &EntryDraft) -> Checks
     }
 }
 
-/// The entry of what was read of it.
-fn entry_drawn(d: EntryDraft) -> IosEntry
-    ensures { result ≡ entry_drawn d }
+/// The entry of a draft, whose condition it takes along.
+fn entry_drawn(alloc: Global, d: &mut EntryDraft) -> IosEntry
+    ensures { result ≡ entry_drawn d.old }
 {
     IosEntry {
         permit: d.permit,
-        cond: d.cond,
+        cond: mem::replace(&mut d.cond, Cond::new(alloc)),
         reflect: d.reflect,
     }
 }
 
 /// The entry of what was read of it, unless it is refused.
-fn entry_made(d: EntryDraft) -> Result<IosEntry, ReadFault>
-    ensures { CauseGiven result (entry_made d) }
+fn entry_made(alloc: Global, d: &mut EntryDraft) -> Result<IosEntry, ReadFault>
+    ensures { CauseGiven result (entry_made d.old) }
 {
     if !may_end(d.expects) {
         return Err(ReadFault::Bad(Cause::Syntax));
     }
-    match entry_checks(&d).first() {
+    match entry_checks(d).first() {
         Some(cause) => Err(ReadFault::Bad(cause)),
-        None => Ok(entry_drawn(d)),
+        None => Ok(entry_drawn(alloc, d)),
     }
+}
+
+/// The entry of a draft and of these words behind it.
+fn entry_behind(alloc: Global, d: &mut EntryDraft, words: &[Word]) -> Result<IosEntry, ReadFault>
+    ensures { CauseGiven result (and_then (words_read entry_step d.old words.now) entry_made) }
+{
+    take_words(alloc, d, words)?;
+    entry_made(alloc, d)
 }
 
 /// The entry of these words, in an extended list or another, that was opened or has a number. A line that ends too early
@@ -237,6 +246,5 @@ pub(crate) fn entry_of(
     ensures { CauseGiven result (entry_of extended opened words.now) }
 {
     let mut d = fresh_entry(alloc, extended, opened);
-    take_words(alloc, &mut d, words)?;
-    entry_made(d)
+    entry_behind(alloc, &mut d, words)
 }

@@ -2,7 +2,7 @@
 
 ghost use Rattle.std.specs.Prelude.{◌≡◌, OnOk};
 ghost use Rattle.fws_net.specs.Causes.{judged, words_read};
-ghost use Rattle.fws_net.specs.Reading.{CauseGiven, StepGiven};
+ghost use Rattle.fws_net.specs.Reading.{CauseGiven, StepGiven, and_then};
 ghost use Rattle.fws_net.specs.Routes.{IsSound};
 ghost use Rattle.fws_ios.specs.NatText.{early_end, extendable_step, fresh_nat, global_interface_step, global_port_step, global_step, inner_step, interface_addr, interface_step, kind_step, local_port_step, local_step, may_end, nat_expected, nat_made, nat_of, nat_step, overload_step, pool_name_step, port_protocol, source_step, static_step, with_address, with_global, with_list};
 
@@ -369,14 +369,29 @@ fn may_end(expects: NatExpects) -> bool
 }
 
 /// The translation of what was read of it, unless it is refused.
-fn nat_made(d: NatDraft) -> Result<IosNat, ReadFault>
-    ensures { CauseGiven result (nat_made d) }
+fn nat_made(d: &mut NatDraft) -> Result<IosNat, ReadFault>
+    ensures { CauseGiven result (nat_made d.old) }
 {
     if may_end(d.expects) {
-        demand(d.nat)
+        demand(d.nat.take())
     } else {
         Err(ReadFault::Bad(early_end(d.expects)))
     }
+}
+
+/// The translation of a draft and of these words behind it.
+fn nat_behind(
+    alloc: Global,
+    site: &Site,
+    pools: &Pools,
+    d: &mut NatDraft,
+    words: &[Word],
+) -> Result<IosNat, ReadFault>
+    requires { IsSound site.now }
+    ensures { CauseGiven result (and_then (words_read (nat_step site.now pools.now) d.old words.now) nat_made) }
+{
+    take_words(alloc, site, pools, d, words)?;
+    nat_made(d)
 }
 
 /// The translation of these words, which stand behind `ip nat inside source`, among the pools that the text defines.
@@ -390,6 +405,5 @@ pub(crate) fn nat_of(
     ensures { CauseGiven result (nat_of site.now pools.now words.now) }
 {
     let mut d = fresh_nat(alloc);
-    take_words(alloc, site, pools, &mut d, words)?;
-    nat_made(d)
+    nat_behind(alloc, site, pools, &mut d, words)
 }

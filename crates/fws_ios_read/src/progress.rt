@@ -1,18 +1,19 @@
 //! What was read of a text.
 
-ghost use Rattle.std.specs.Prelude.{◌≡◌, ◌∷◌, ◌++◌, [], not, false, nat_eq, filter, Ok, IfOk, OnOk, if◌then◌else◌};
+ghost use Rattle.std.specs.Prelude.{◌≡◌, ◌∷◌, ◌++◌, [], not, true, false, nat_eq, filter, Ok, IfOk, OnOk, if◌then◌else◌};
 ghost use Rattle.fws_net.specs.Reading.{StepGiven};
 ghost use Rattle.fws_ios.specs.FileText.{block_line, ended, entry_line, fresh_text, has_pool, in_block, is_elsewhere, with_group, with_mark, with_marked, with_nat, with_pool};
 
 use crate::groups::face_line;
 use crate::lists::{Lists, entry_line};
-use fws_ios::{Block, IosConfig, IosGroup, IosNat, Marked};
+use fws_ios::{Block, IosConfig, IosGroup, IosList, IosNat, Marked};
 use fws_iv::Ivs;
 use fws_net::ReadFault;
 use fws_num::{Items, Memory, Text, Word};
 use indexmap::IndexSet;
 use std::alloc::Global;
 use std::marker::Model;
+use std::mem;
 
 /// What was read of a text. Contracts see the draft.
 #[derive(Drop)]
@@ -91,6 +92,15 @@ fn marked(alloc: Global, outside: bool, marks: &[Marked]) -> Result<Ivs, Memory>
         }
     }
     Ok(set)
+}
+
+/// The interfaces on the inside, and those on the outside.
+fn sides(alloc: Global, marks: &[Marked]) -> Result<(Ivs, Ivs), Memory>
+    ensures { IfOk result (λ s. s ≡ (with_marked false [] marks.now, with_marked true [] marks.now)) }
+{
+    let inside = marked(alloc, false, marks)?;
+    let outside = marked(alloc, true, marks)?;
+    Ok((inside, outside))
 }
 
 impl Progress {
@@ -190,18 +200,33 @@ impl Progress {
         Ok(())
     }
 
+    /// The configuration of these lists and of the rest that was read, which it takes along.
+    fn config_of(&mut self, alloc: Global, lists: Items<IosList>) -> Result<IosConfig, Memory>
+        ensures { IfOk result (λ c. ended (record self.old { lists = lists }) ≡ Ok c) }
+    {
+        let (inside, outside) = sides(alloc, self.marks.as_slice())?;
+        Ok(IosConfig {
+            lists,
+            groups: Items::from_vec(mem::replace(&mut self.groups, Vec::new(alloc))),
+            inside,
+            outside,
+            nats: mem::replace(&mut self.nats, Items::new(alloc)),
+        })
+    }
+
+    /// The configuration of what was read, which it takes along.
+    fn drawn(&mut self, alloc: Global) -> Result<IosConfig, Memory>
+        ensures { IfOk result (λ c. ended self.old ≡ Ok c) }
+    {
+        let lists = mem::replace(&mut self.lists, Lists::new(alloc));
+        self.config_of(alloc, lists.into_items(alloc)?)
+    }
+
     /// The configuration of what was read.
     pub(crate) fn into_config(self, alloc: Global) -> Result<IosConfig, Memory>
         ensures { IfOk result (λ c. ended self ≡ Ok c) }
     {
-        let inside = marked(alloc, false, self.marks.as_slice())?;
-        let outside = marked(alloc, true, self.marks.as_slice())?;
-        Ok(IosConfig {
-            lists: self.lists.into_items(alloc)?,
-            groups: Items::from_vec(self.groups),
-            inside,
-            outside,
-            nats: self.nats,
-        })
+        let mut progress = self;
+        progress.drawn(alloc)
     }
 }

@@ -1,9 +1,9 @@
 //! Reads a text line by line.
 
 ghost use Rattle.std.specs.Prelude.{◌≡◌};
-ghost use Rattle.fws_net.specs.Reading.{ReadGiven};
+ghost use Rattle.fws_net.specs.Reading.{ReadGiven, lines_ended};
 ghost use Rattle.fws_net.specs.Routes.{IsSound};
-ghost use Rattle.fws_ios.specs.FileText.{spelled};
+ghost use Rattle.fws_ios.specs.FileText.{all_defined, ended, fresh_text, line_step, spelled};
 
 use crate::definitions::all_defined;
 use crate::lines::line_step;
@@ -11,7 +11,7 @@ use crate::pools::Pools;
 use crate::progress::Progress;
 use fws_ios::{IosConfig, IosDraft};
 use fws_net::{Cause, LineReader, ReadAnswer, ReadFault, Site, read_with};
-use fws_num::{Comments, Line, read_lines};
+use fws_num::{Comments, Line, Lines, read_lines};
 use std::alloc::Global;
 
 /// Where a text is read: at a site, and among the pools that its lines define.
@@ -59,6 +59,34 @@ impl<'a> LineReader for Reader<'a> {
     }
 }
 
+/// What lines spell at a site, among these pools.
+fn read_among<'a>(
+    alloc: Global,
+    site: &'a Site,
+    pools: &'a Pools,
+    lines: &Lines,
+) -> Result<IosConfig, ReadAnswer>
+    requires { IsSound site.now }
+    ensures { ReadGiven result (lines_ended (line_step site.now pools.now) ended fresh_text lines.now) }
+{
+    let setting = Setting { site, pools };
+    let reader = Reader {
+        alloc,
+        setting,
+        progress: Progress::new(alloc),
+    };
+    read_with(alloc, reader, &setting, lines)
+}
+
+/// What lines spell at a site, among the pools that they define.
+fn read_all(alloc: Global, site: &Site, lines: &Lines) -> Result<IosConfig, ReadAnswer>
+    requires { IsSound site.now }
+    ensures { ReadGiven result (lines_ended (line_step site.now (all_defined lines.now.lines)) ended fresh_text lines.now) }
+{
+    let pools = all_defined(alloc, lines.lines.as_slice())?;
+    read_among(alloc, site, &pools, lines)
+}
+
 /// The configuration that a running configuration of Cisco IOS spells on a site: its access lists, where they are applied,
 /// and its address translation. Lines that begin with another keyword are passed over.
 ///
@@ -81,15 +109,5 @@ pub fn read(alloc: Global, text: &[u8], site: &Site) -> Result<IosConfig, ReadAn
     ensures { ReadGiven result (spelled site.now text.now) }
 {
     let lines = read_lines(alloc, Comments::Ios, text)?;
-    let pools = all_defined(alloc, lines.lines.as_slice())?;
-    let setting = Setting {
-        site,
-        pools: &pools,
-    };
-    let reader = Reader {
-        alloc,
-        setting,
-        progress: Progress::new(alloc),
-    };
-    read_with(alloc, reader, &setting, &lines)
+    read_all(alloc, site, &lines)
 }
