@@ -1,3 +1,4 @@
+pub mod ComparedPorts
 pub mod Known
 pub mod Listed
 pub mod PoolNames

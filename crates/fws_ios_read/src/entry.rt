@@ -110,10 +110,15 @@ fn evaluated(alloc: Global, d: &mut EntryDraft) -> Result<(), Memory>
 }
 
 /// Takes a word, by what it is taken for.
-fn expected_step(alloc: Global, d: &mut EntryDraft, text: &[u8]) -> Result<(), ReadFault>
-    ensures { StepGiven result d.new (expected_step d.old.expects text.now d.old) }
+fn expected_step(
+    alloc: Global,
+    expects: Expects,
+    d: &mut EntryDraft,
+    text: &[u8],
+) -> Result<(), ReadFault>
+    ensures { StepGiven result d.new (expected_step expects text.now d.old) }
 {
-    match d.expects {
+    match expects {
         Expects::Sequence => sequence_step(d, text),
         Expects::Action => action_step(d, text),
         Expects::EvaluateName => Ok(evaluated(alloc, d)?),
@@ -147,7 +152,7 @@ fn take_word(alloc: Global, d: &mut EntryDraft, word: &Word) -> Result<(), ReadF
     if !word.is_sound() {
         return Err(ReadFault::Bad(Cause::Syntax));
     }
-    expected_step(alloc, d, word.text.as_slice())
+    expected_step(alloc, d.expects, d, word.text.as_slice())
 }
 
 /// Takes the words of an entry, up to the first that is refused.

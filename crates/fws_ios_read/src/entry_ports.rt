@@ -3,7 +3,7 @@
 ghost use Rattle.std.specs.Prelude.{◌≡◌, ◌≤◌, OnOk};
 ghost use Rattle.fws_net.specs.Reading.{StepGiven};
 ghost use Rattle.fws_ios.specs.EntryText.{behind_ports, behind_ports_step, compared, expecting, further_port_step, last_port_step, port_step, ports_step, with_literal};
-ghost use Rattle.fws_ios.specs.Values.{range_literal};
+ghost use Rattle.fws_ios.specs.Values.{port_literal, range_literal};
 
 use crate::entry_addresses::{address_step, with_literal};
 use crate::entry_options::type_step;
@@ -59,6 +59,23 @@ pub(crate) fn ports_step(
     }
 }
 
+/// Notes a port that is compared so, behind which this is expected.
+fn with_port(
+    alloc: Global,
+    d: &mut EntryDraft,
+    place: Place,
+    word: PortWord,
+    port: u16,
+    next: Expects,
+) -> Result<(), Memory>
+    ensures { OnOk result (d.new ≡ expecting next (with_literal (port_literal place word port) d.old)) }
+{
+    let lit = port_literal(alloc, place, word, port)?;
+    with_literal(d, lit)?;
+    d.expects = next;
+    Ok(())
+}
+
 /// Notes a port that is compared so.
 fn compared(
     alloc: Global,
@@ -74,15 +91,9 @@ fn compared(
             d.expects = Expects::LastPort(place, port);
             Ok(())
         }
-        PortWord::Equal => {
-            with_literal(d, port_literal(alloc, place, word, port)?)?;
-            d.expects = Expects::FurtherPort(place);
-            Ok(())
-        }
+        PortWord::Equal => with_port(alloc, d, place, word, port, Expects::FurtherPort(place)),
         PortWord::Unequal | PortWord::Less | PortWord::Greater => {
-            with_literal(d, port_literal(alloc, place, word, port)?)?;
-            d.expects = behind_ports(place);
-            Ok(())
+            with_port(alloc, d, place, word, port, behind_ports(place))
         }
     }
 }

@@ -7,7 +7,7 @@ ghost use Rattle.fws_ios.specs.FileText.{direction_line, direction_of, face_line
 
 use crate::begins::{alone, begins_with_three, begins_with_two, behind, is_left_out_at_interface};
 use crate::keywords::misplaced;
-use crate::progress::Progress;
+use crate::progress::{Progress, open_alone};
 use fws_ios::{Block, IosGroup, Marked};
 use fws_net::{Cause, Lang, ReadFault, Site, entry_named};
 use fws_num::{Text, Word};
@@ -30,9 +30,7 @@ pub(crate) fn interface_line(
         return Err(ReadFault::Bad(Cause::Syntax));
     }
     let face = entry_named(site, Lang::Ios, word.text.as_slice());
-    let block = alone(Block::Interface(face), rest)?;
-    progress.open(block);
-    Ok(())
+    open_alone(Block::Interface(face), rest, progress)
 }
 
 /// Whether packets that go out are meant, or those that come in.

@@ -1,20 +1,19 @@
 //! The lines of a text (Cisco IOS).
 
-ghost use Rattle.std.specs.Prelude.{◌≡◌, IfOk};
+ghost use Rattle.std.specs.Prelude.{◌≡◌, Ok, IfOk};
 ghost use Rattle.std.specs.Fmt.{decimal};
-ghost use Rattle.fws_net.specs.Reading.{StepGiven};
+ghost use Rattle.fws_net.specs.Reading.{StepGiven, and_then};
 ghost use Rattle.fws_net.specs.Routes.{IsSound};
-ghost use Rattle.fws_ios.specs.FileText.{inside_line, line_step, list_kind, named_line, numbered_line, opening_line, pool_behind, pool_line, top_line};
+ghost use Rattle.fws_ios.specs.FileText.{inside_line, line_step, list_kind, named_line, numbered_line, opening_line, pool_behind, pool_line, top_line, with_nat};
+ghost use Rattle.fws_ios.specs.NatText.{nat_of};
 
-use crate::begins::{
-    alone, begins_with, begins_with_three, begins_with_two, behind, is_left_out, says,
-};
+use crate::begins::{begins_with, begins_with_three, begins_with_two, behind, is_left_out, says};
 use crate::groups::interface_line;
 use crate::lists::list_number;
 use crate::nat::nat_of;
 use crate::pool_text::pool_checked;
 use crate::pools::Pools;
-use crate::progress::Progress;
+use crate::progress::{Progress, open_alone};
 use fws_ios::Block;
 use fws_net::{Cause, ReadFault, Site};
 use fws_num::{Line, Memory, Text, Word, put_dec};
@@ -73,9 +72,8 @@ fn named_line(
     if !word.is_sound() {
         return Err(ReadFault::Bad(Cause::Syntax));
     }
-    let block = alone(Block::List(word.text.copy(alloc)?, extended), rest)?;
-    progress.open(block);
-    Ok(())
+    let name = word.text.copy(alloc)?;
+    open_alone(Block::List(name, extended), rest, progress)
 }
 
 /// Takes the words behind `ip access-list`.
@@ -121,6 +119,22 @@ fn pool_line(alloc: Global, words: &[Word], progress: &mut Progress) -> Result<(
     pool_behind(alloc, &word.text, rest, progress)
 }
 
+/// Takes the words behind `ip nat inside source`.
+fn source_line(
+    alloc: Global,
+    site: &Site,
+    pools: &Pools,
+    words: &[Word],
+    progress: &mut Progress,
+) -> Result<(), ReadFault>
+    requires { IsSound site.now }
+    ensures { StepGiven result progress.new (and_then (nat_of site.now pools.now words.now) (λ nat. Ok (with_nat nat progress.old))) }
+{
+    let nat = nat_of(alloc, site, pools, words)?;
+    progress.put_nat(nat)?;
+    Ok(())
+}
+
 /// Takes the words behind `ip nat inside`.
 fn inside_line(
     alloc: Global,
@@ -141,9 +155,7 @@ fn inside_line(
     if !is(word.text.as_slice(), b"source") {
         return Err(ReadFault::Bad(Cause::LeftOut));
     }
-    let nat = nat_of(alloc, site, pools, rest)?;
-    progress.put_nat(nat)?;
-    Ok(())
+    source_line(alloc, site, pools, rest, progress)
 }
 
 /// Takes a line that doesn't begin with a blank.

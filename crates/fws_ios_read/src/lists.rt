@@ -1,6 +1,8 @@
 //! Access lists by their names, and the lines that put entries into them (Cisco IOS).
 
-ghost use Rattle.std.specs.Prelude.{◌≡◌, ◌≤◌, [], IfOk, OnOk};
+ghost use Rattle.std.specs.Prelude.{◌≡◌, ◌≤◌, ◌∷◌, [], IfOk, OnOk};
+ghost use Rattle.std.specs.Str.{bytes_eq};
+ghost use Rattle.indexmap.specs.IndexMap.{insert_entry};
 ghost use Rattle.fws_net.specs.Reading.{CauseGiven, StepGiven};
 ghost use Rattle.fws_ios.specs.declared.draft.IosDraft.{IosDraft};
 ghost use Rattle.fws_ios.specs.FileText.{entry_line, is_between, list_number, numbered_kind, remark_line, with_entry};
@@ -31,6 +33,29 @@ impl Model for Lists {
     ghost view = { λ l. map list_of l.entries.entries };
 }
 
+/// This entry alone.
+fn single(alloc: Global, entry: IosEntry) -> Result<Items<IosEntry>, Memory>
+    ensures { IfOk result (λ entries. entries ≡ entry ∷ []) }
+{
+    let mut entries = Items::new(alloc);
+    entries.put(entry)?;
+    Ok(entries)
+}
+
+/// Gives a name these entries, in place of others.
+fn insert(
+    alloc: Global,
+    lists: &mut IndexMap<Text, Items<IosEntry>>,
+    name: &Text,
+    entries: Items<IosEntry>,
+) -> Result<(), Memory>
+    ensures { OnOk result (lists.new.entries ≡ insert_entry bytes_eq lists.old.entries name.now entries) }
+{
+    let name = name.copy(alloc)?;
+    lists.insert(name, entries)?;
+    Ok(())
+}
+
 impl Lists {
     /// No lists.
     pub(crate) fn new(alloc: Global) -> Lists
@@ -51,9 +76,8 @@ impl Lists {
                 Ok(())
             }
             None => {
-                let mut entries = Items::new(alloc);
-                entries.put(entry)?;
-                self.entries.insert(name.copy(alloc)?, entries)?;
+                let entries = single(alloc, entry)?;
+                insert(alloc, &mut self.entries, name, entries)?;
                 Ok(())
             }
         }

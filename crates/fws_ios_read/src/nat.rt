@@ -288,14 +288,15 @@ fn nat_expected(
     alloc: Global,
     site: &Site,
     pools: &Pools,
+    expects: NatExpects,
     d: &mut NatDraft,
     name: &Text,
 ) -> Result<(), ReadFault>
     requires { IsSound site.now }
-    ensures { StepGiven result d.new (nat_expected site.now pools.now d.old.expects name.now d.old) }
+    ensures { StepGiven result d.new (nat_expected site.now pools.now expects name.now d.old) }
 {
     let text = name.as_slice();
-    match d.expects {
+    match expects {
         NatExpects::Kind => kind_step(d, text),
         NatExpects::List => Ok(with_list(alloc, d, text)?),
         NatExpects::Source => source_step(d, text),
@@ -331,7 +332,7 @@ fn take_word(
     if !word.is_sound() {
         return Err(ReadFault::Bad(Cause::Syntax));
     }
-    nat_expected(alloc, site, pools, d, &word.text)
+    nat_expected(alloc, site, pools, d.expects, d, &word.text)
 }
 
 /// Takes the words of a translation, up to the first that is refused.

@@ -1,14 +1,14 @@
 //! What was read of a text.
 
 ghost use Rattle.std.specs.Prelude.{◌≡◌, ◌∷◌, ◌++◌, [], not, true, false, nat_eq, filter, Ok, IfOk, OnOk, if◌then◌else◌};
-ghost use Rattle.fws_net.specs.Reading.{StepGiven};
-ghost use Rattle.fws_ios.specs.FileText.{block_line, ended, entry_line, fresh_text, has_pool, in_block, is_elsewhere, with_group, with_mark, with_marked, with_nat, with_pool};
+ghost use Rattle.fws_net.specs.Reading.{StepGiven, and_then};
+ghost use Rattle.fws_ios.specs.FileText.{alone, block_line, ended, entry_line, fresh_text, has_pool, in_block, is_elsewhere, with_group, with_mark, with_marked, with_nat, with_pool};
 
 use crate::groups::face_line;
 use crate::lists::{Lists, entry_line};
 use fws_ios::{Block, IosConfig, IosGroup, IosList, IosNat, Marked};
 use fws_iv::Ivs;
-use fws_net::ReadFault;
+use fws_net::{Cause, ReadFault};
 use fws_num::{Items, Memory, Text, Word};
 use indexmap::IndexSet;
 use std::alloc::Global;
@@ -228,5 +228,22 @@ impl Progress {
     {
         let mut progress = self;
         progress.drawn(alloc)
+    }
+}
+
+/// Opens what lines belong to from here on that begin with a blank, if no word stands behind it.
+pub(crate) fn open_alone(
+    block: Block,
+    words: &[Word],
+    progress: &mut Progress,
+) -> Result<(), ReadFault>
+    ensures { StepGiven result progress.new (and_then (alone block words.now) (λ opened. Ok (in_block opened progress.old))) }
+{
+    match words {
+        [] => {
+            progress.open(block);
+            Ok(())
+        }
+        [_, ..] => Err(ReadFault::Bad(Cause::Syntax)),
     }
 }

@@ -5,6 +5,7 @@ ghost use Rattle.std.specs.List.{list_all};
 ghost use Rattle.fws_num.specs.Numbers.{is_digit};
 ghost use Rattle.fws_rule.specs.Literals.{one};
 ghost use Rattle.fws_ios.specs.Values.{address_literal, address_test, has_ports, icmp_type_named, icmp_type_of, is_netmask, is_number, is_prefix_length, port_literal, port_test, ports_above, ports_below, protocol_value, range_literal, wildcard_len, wildcard_of};
+ghost use Rattle.fws_ios_read.specs.Ports.{compared_literal, compared_ports};
 
 use fws_ios::{Place, PortWord};
 use fws_iv::{Ivs, one};
@@ -140,6 +141,27 @@ fn single_port(alloc: Global, port: u16) -> Result<Ivs, Memory>
     one(alloc, u32::from(port), u32::from(port))
 }
 
+/// The ports that are compared so with this one, or else that are equal to it.
+fn compared_ports(alloc: Global, word: PortWord, port: u16) -> Result<Ivs, Memory>
+    ensures { IfOk result (λ set. set ≡ compared_ports word port) }
+{
+    match word {
+        PortWord::Equal | PortWord::Range | PortWord::Unequal => single_port(alloc, port),
+        PortWord::Less => ports_below(alloc, port),
+        PortWord::Greater => ports_above(alloc, port),
+    }
+}
+
+/// The literal of a test of the ports that are compared so.
+fn compared_literal(word: PortWord, test: Test) -> Lit
+    ensures { result ≡ compared_literal word test }
+{
+    match word {
+        PortWord::Unequal => negative(test),
+        PortWord::Equal | PortWord::Range | PortWord::Less | PortWord::Greater => positive(test),
+    }
+}
+
 /// The literal of a port that is compared so; that of a range needs its last port too.
 pub(crate) fn port_literal(
     alloc: Global,
@@ -149,14 +171,8 @@ pub(crate) fn port_literal(
 ) -> Result<Lit, Memory>
     ensures { IfOk result (λ lit. lit ≡ port_literal place word port) }
 {
-    match word {
-        PortWord::Equal | PortWord::Range => {
-            Ok(positive(port_test(place, single_port(alloc, port)?)))
-        }
-        PortWord::Unequal => Ok(negative(port_test(place, single_port(alloc, port)?))),
-        PortWord::Less => Ok(positive(port_test(place, ports_below(alloc, port)?))),
-        PortWord::Greater => Ok(positive(port_test(place, ports_above(alloc, port)?))),
-    }
+    let set = compared_ports(alloc, word, port)?;
+    Ok(compared_literal(word, port_test(place, set)))
 }
 
 /// The literal of a range of ports.
