@@ -1,25 +1,29 @@
 //! The lines of a text (ipfw(8)).
 
-ghost use Rattle.std.specs.Prelude.{◌≡◌, ◌+◌, ◌&&◌, ◌∷◌, List, IfOk};
+ghost use Rattle.std.specs.Prelude.{◌≡◌, ◌+◌, ◌&&◌, ◌∷◌, List, Ok, IfOk, OnOk};
+ghost use Rattle.std.specs.Option.{option_map_or};
 ghost use Rattle.std.specs.Str.{bytes_eq};
 ghost use Rattle.fws_num.specs.declared.word.Word.{Word as AnyWord};
 ghost use Rattle.fws_num.specs.Words.{is_sound};
-ghost use Rattle.fws_net.specs.Reading.{CauseGiven, StepGiven};
+ghost use Rattle.fws_net.specs.Reading.{CauseGiven, StepGiven, and_then};
 ghost use Rattle.fws_net.specs.Routes.{IsSound};
 ghost use Rattle.fws_ipfw.specs.NatText.{nat_of};
-ghost use Rattle.fws_ipfw.specs.FileText.{add_line, all_defined, alone, are_words, behind_program, behind_quiet, command_line, command_step, config_line, defined_behind, defined_by, flush_line, fresh_number, is_full, is_quiet, last_rule, listed_line, nat_line, next_number, quiet_line, redirects_named, redirects_of, rule_line, rule_number, rule_put, unnumbered, words_step};
+ghost use Rattle.fws_ipfw.specs.FileText.{add_line, all_defined, alone, are_words, behind_program, behind_quiet, command_line, command_step, config_line, defined_behind, defined_by, defined_from, flush_line, fresh_number, is_full, is_quiet, last_rule, listed_line, nat_line, next_number, quiet_line, redirects_named, redirects_of, rule_line, rule_number, rule_put, unnumbered, with_defined, with_nat, words_step};
+ghost use Rattle.fws_ipfw.specs.RuleText.{rule_drawn};
+ghost use Rattle.fws_ipfw_read.specs.Rules.{rule_behind};
 
 use crate::instances::Known;
 use crate::keywords::{action_word, misplaced, misspelled};
 use crate::numbers::read_counted;
 use crate::progress::Progress;
 use crate::redirects::read_nat;
-use crate::rule::{read_draft, rule_checks};
+use crate::rule::{fresh_rule, rule_checks, take_rule};
 use fws_ipfw::{Defined, IpfwAct, IpfwRule, RuleDraft};
-use fws_net::{Cause, ReadFault, Site};
+use fws_net::{Cause, Cond, ReadFault, Site};
 use fws_num::{Line, Memory, Word};
 use fws_rule::is;
 use std::alloc::Global;
+use std::mem;
 
 /// The number of a rule that has none, behind rules of which this is the greatest.
 fn next_number(greatest: u32) -> u32
@@ -51,33 +55,57 @@ fn is_full(act: IpfwAct, redirects: u64) -> bool
     }
 }
 
+/// The rule of a draft, whose condition it takes along.
+fn rule_drawn(alloc: Global, number: u32, d: &mut RuleDraft) -> IpfwRule
+    ensures { result ≡ rule_drawn number d.old }
+{
+    IpfwRule {
+        number,
+        cond: mem::replace(&mut d.cond, Cond::new(alloc)),
+        act: d.act,
+        tag: d.tag,
+        keep: d.keep,
+    }
+}
+
 /// Takes a rule with its number.
 fn put_rule(
+    alloc: Global,
     reader: &mut Progress,
     known: &Known,
     number: u32,
-    d: RuleDraft,
+    d: &mut RuleDraft,
 ) -> Result<(), ReadFault>
-    ensures { StepGiven result reader.new (rule_put number known.now reader.old d) }
+    ensures { StepGiven result reader.new (rule_put number known.now reader.old d.old) }
 {
     let named = u64::from(redirects_named(known, d.act));
     let Some(redirects) = reader.redirects().checked_add(named) else {
         return Err(ReadFault::Memory);
     };
-    match rule_checks(number, is_full(d.act, redirects), &d).first() {
+    match rule_checks(number, is_full(d.act, redirects), d).first() {
         Some(cause) => Err(ReadFault::Bad(cause)),
         None => {
-            let rule = IpfwRule {
-                number,
-                cond: d.cond,
-                act: d.act,
-                tag: d.tag,
-                keep: d.keep,
-            };
-            reader.put_rule(rule, redirects)?;
+            reader.put_rule(rule_drawn(alloc, number, d), redirects)?;
             Ok(())
         }
     }
+}
+
+/// Takes a rule with its number: what was read of it, and these words behind it.
+fn rule_behind(
+    alloc: Global,
+    site: &Site,
+    known: &Known,
+    reader: &mut Progress,
+    number: u32,
+    d: &mut RuleDraft,
+    words: &[Word],
+) -> Result<(), ReadFault>
+    requires { IsSound site.now }
+    ensures { StepGiven result reader.new (and_then (rule_behind site.now known.now d.old words.now) (rule_put number known.now reader.old)) }
+{
+    take_rule(alloc, site, known, d, words)?;
+    put_rule(alloc, reader, known, number, d)
 }
 
 /// Takes the words of a rule behind its number.
@@ -92,8 +120,8 @@ fn rule_line(
     requires { IsSound site.now }
     ensures { StepGiven result reader.new (rule_line site.now known.now number words.now reader.old) }
 {
-    let draft = read_draft(alloc, site, known, words)?;
-    put_rule(reader, known, number, draft)
+    let mut d = fresh_rule(alloc);
+    rule_behind(alloc, site, known, reader, number, &mut d, words)
 }
 
 /// The number of a rule; 65535 is judged with the whole line.
@@ -187,6 +215,22 @@ fn listed_line(
     rule_line(alloc, site, known, reader, number, words)
 }
 
+/// Takes the words behind `config`.
+fn instance_line(
+    alloc: Global,
+    site: &Site,
+    reader: &mut Progress,
+    number: u32,
+    words: &[Word],
+) -> Result<(), ReadFault>
+    requires { IsSound site.now }
+    ensures { StepGiven result reader.new (and_then (nat_of site.now number words.now) (λ nat. Ok (with_nat nat reader.old))) }
+{
+    let nat = read_nat(alloc, site, number, words)?;
+    reader.put_nat(nat)?;
+    Ok(())
+}
+
 /// Takes the words behind the number of an instance.
 fn config_line(
     alloc: Global,
@@ -208,9 +252,7 @@ fn config_line(
     if !is(text, b"config") {
         return Err(ReadFault::Bad(misplaced(text)));
     }
-    let nat = read_nat(alloc, site, number, rest)?;
-    reader.put_nat(nat)?;
-    Ok(())
+    instance_line(alloc, site, reader, number, rest)
 }
 
 /// The number of an instance, which no other has.
@@ -422,17 +464,34 @@ fn defined_behind(alloc: Global, site: &Site, words: &[Word]) -> Result<Option<D
     Ok(Some(Defined { number, redirects }))
 }
 
+/// Puts the instance that a line defines behind the others, unless one of them has its number.
+fn note(alloc: Global, site: &Site, line: &Line, known: &mut Known) -> Result<(), Memory>
+    requires { IsSound site.now }
+    ensures { OnOk result (known.new ≡ option_map_or (λ each. with_defined each known.old) (defined_by site.now line.now) known.old) }
+{
+    match defined_behind(alloc, site, behind_program(line.words.as_slice()))? {
+        Some(each) => known.put(each),
+        None => Ok(()),
+    }
+}
+
+/// Notes what lines define, in their order.
+fn note_all(alloc: Global, site: &Site, lines: &[Line], known: &mut Known) -> Result<(), Memory>
+    requires { IsSound site.now }
+    ensures { OnOk result (known.new ≡ defined_from site.now known.old lines.now) }
+{
+    for line in lines {
+        note(alloc, site, line, known)?;
+    }
+    Ok(())
+}
+
 /// The instances that the lines define, refused lines among them.
 pub(crate) fn all_defined(alloc: Global, site: &Site, lines: &[Line]) -> Result<Known, Memory>
     requires { IsSound site.now }
     ensures { IfOk result (λ known. known ≡ all_defined site.now lines.now) }
 {
     let mut known = Known::new(alloc);
-    for line in lines {
-        let words = behind_program(line.words.as_slice());
-        if let Some(each) = defined_behind(alloc, site, words)? {
-            known.put(each)?;
-        }
-    }
+    note_all(alloc, site, lines, &mut known)?;
     Ok(known)
 }

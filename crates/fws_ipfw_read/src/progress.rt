@@ -38,6 +38,17 @@ fn by_number(rules: Items<IpfwRule>) -> Result<Items<IpfwRule>, Memory>
     Ok(Items::from_vec(rules))
 }
 
+/// The configuration of a draft.
+fn config_of(draft: IpfwDraft) -> Result<IpfwConfig, Memory>
+    ensures { IfOk result (λ c. c ≡ record { rules = by_number draft.rules; nats = draft.nats }) }
+{
+    let rules = by_number(draft.rules)?;
+    Ok(IpfwConfig {
+        rules,
+        nats: draft.nats,
+    })
+}
+
 impl Progress {
     /// What was read ahead of the first line.
     pub(crate) fn new(alloc: Global) -> Progress
@@ -118,10 +129,6 @@ impl Progress {
     pub(crate) fn into_config(self) -> Result<IpfwConfig, Memory>
         ensures { IfOk result (λ c. c ≡ record { rules = by_number self.rules; nats = self.nats }) }
     {
-        let draft = self.draft;
-        Ok(IpfwConfig {
-            rules: by_number(draft.rules)?,
-            nats: draft.nats,
-        })
+        config_of(self.draft)
     }
 }

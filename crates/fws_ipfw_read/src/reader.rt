@@ -1,16 +1,16 @@
 //! Reads a text line by line.
 
 ghost use Rattle.std.specs.Prelude.{◌≡◌};
-ghost use Rattle.fws_net.specs.Reading.{ReadGiven};
+ghost use Rattle.fws_net.specs.Reading.{ReadGiven, lines_ended};
 ghost use Rattle.fws_net.specs.Routes.{IsSound};
-ghost use Rattle.fws_ipfw.specs.FileText.{spelled};
+ghost use Rattle.fws_ipfw.specs.FileText.{all_defined, ended, fresh_text, line_step, spelled};
 
 use crate::instances::Known;
 use crate::lines::{all_defined, words_step};
 use crate::progress::Progress;
 use fws_ipfw::{IpfwConfig, IpfwDraft};
 use fws_net::{Cause, LineReader, ReadAnswer, ReadFault, Site, read_with};
-use fws_num::{Comments, Line, read_lines};
+use fws_num::{Comments, Line, Lines, read_lines};
 use std::alloc::Global;
 
 /// Where a text is read: at a site, and among the instances that its lines define.
@@ -65,6 +65,33 @@ impl<'a> LineReader for Reader<'a> {
     }
 }
 
+/// What lines spell at a site, among these instances.
+fn read_among<'a>(
+    alloc: Global,
+    site: &'a Site,
+    known: &'a Known,
+    lines: &Lines,
+) -> Result<IpfwConfig, ReadAnswer>
+    requires { IsSound site.now }
+    ensures { ReadGiven result (lines_ended (line_step site.now known.now) ended fresh_text lines.now) }
+{
+    let setting = Setting { site, known };
+    let reader = Reader {
+        setting,
+        progress: Progress::new(alloc),
+    };
+    read_with(alloc, reader, &setting, lines)
+}
+
+/// What lines spell at a site, among the instances that they define.
+fn read_all(alloc: Global, site: &Site, lines: &Lines) -> Result<IpfwConfig, ReadAnswer>
+    requires { IsSound site.now }
+    ensures { ReadGiven result (lines_ended (line_step site.now (all_defined site.now lines.now.lines)) ended fresh_text lines.now) }
+{
+    let known = all_defined(alloc, site, lines.lines.as_slice())?;
+    read_among(alloc, site, &known, lines)
+}
+
 /// The configuration that an ipfw rule file spells on a site: what `ipfw list` prints, or lines of a script that add
 /// rules and configure instances of address translation.
 ///
@@ -88,14 +115,5 @@ pub fn read(alloc: Global, text: &[u8], site: &Site) -> Result<IpfwConfig, ReadA
     ensures { ReadGiven result (spelled site.now text.now) }
 {
     let lines = read_lines(alloc, Comments::Ipfw, text)?;
-    let known = all_defined(alloc, site, lines.lines.as_slice())?;
-    let setting = Setting {
-        site,
-        known: &known,
-    };
-    let reader = Reader {
-        setting,
-        progress: Progress::new(alloc),
-    };
-    read_with(alloc, reader, &setting, &lines)
+    read_all(alloc, site, &lines)
 }

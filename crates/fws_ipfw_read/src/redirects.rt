@@ -3,7 +3,7 @@
 ghost use Rattle.std.specs.Prelude.{◌≡◌, map, OnOk, IfOk};
 ghost use Rattle.std.specs.List.{list_any};
 ghost use Rattle.fws_net.specs.Causes.{judged, words_read};
-ghost use Rattle.fws_net.specs.Reading.{CauseGiven, StepGiven};
+ghost use Rattle.fws_net.specs.Reading.{CauseGiven, StepGiven, and_then};
 ghost use Rattle.fws_net.specs.Routes.{IsSound};
 ghost use Rattle.fws_ipfw.specs.NatText.{address_and_port, alias_begun, alias_step, fresh_nat, interface_step, is_option_next, local_address_step, local_end_step, nat_checks, nat_drawn, nat_expected_step, nat_made, nat_of, nat_once, nat_option, nat_option_step, nat_step, port_protocol, public_addr, public_address_step, public_end, public_end_step, redirect_made, redirect_protocol_step, redirected_port, takes_alias, with_alias, with_redirect};
 
@@ -255,11 +255,17 @@ fn public_address_step(d: &mut NatDraft, local: End, text: &[u8]) -> Result<(), 
 }
 
 /// Takes a word, by what it is taken for.
-fn expected_step(alloc: Global, site: &Site, d: &mut NatDraft, text: &[u8]) -> Result<(), ReadFault>
+fn expected_step(
+    alloc: Global,
+    site: &Site,
+    expects: NatExpects,
+    d: &mut NatDraft,
+    text: &[u8],
+) -> Result<(), ReadFault>
     requires { IsSound site.now }
-    ensures { StepGiven result d.new (nat_expected_step site.now d.old.expects text.now d.old) }
+    ensures { StepGiven result d.new (nat_expected_step site.now expects text.now d.old) }
 {
-    match d.expects {
+    match expects {
         NatExpects::Option => nat_option_step(alloc, d, text),
         NatExpects::Address => alias_step(d, text),
         NatExpects::Interface => interface_step(site, d, text),
@@ -279,7 +285,7 @@ fn take_word(alloc: Global, site: &Site, d: &mut NatDraft, word: &Word) -> Resul
     if !word.is_sound() {
         return Err(ReadFault::Bad(Cause::Syntax));
     }
-    expected_step(alloc, site, d, word.text.as_slice())
+    expected_step(alloc, site, d.expects, d, word.text.as_slice())
 }
 
 /// Takes the words of an instance, up to the first that is refused.
@@ -370,6 +376,21 @@ fn make_nat(alloc: Global, number: u32, d: &NatDraft) -> Result<IpfwNat, ReadFau
     }
 }
 
+/// The instance of a draft and of these words behind it.
+fn nat_behind(
+    alloc: Global,
+    site: &Site,
+    number: u32,
+    d: &mut NatDraft,
+    words: &[Word],
+) -> Result<IpfwNat, ReadFault>
+    requires { IsSound site.now }
+    ensures { CauseGiven result (and_then (words_read (nat_step site.now) d.old words.now) (nat_made number)) }
+{
+    take_words(alloc, site, d, words)?;
+    make_nat(alloc, number, d)
+}
+
 /// The instance of these words, which stand behind its number and `config`.
 pub(crate) fn read_nat(
     alloc: Global,
@@ -381,6 +402,5 @@ pub(crate) fn read_nat(
     ensures { CauseGiven result (nat_of site.now number words.now) }
 {
     let mut d = fresh_nat(alloc);
-    take_words(alloc, site, &mut d, words)?;
-    make_nat(alloc, number, &d)
+    nat_behind(alloc, site, number, &mut d, words)
 }

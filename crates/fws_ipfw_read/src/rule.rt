@@ -2,9 +2,10 @@
 
 ghost use Rattle.std.specs.Prelude.{◌≡◌, ◌^◌, ◌-◌};
 ghost use Rattle.fws_net.specs.Causes.{judged, words_read};
-ghost use Rattle.fws_net.specs.Reading.{CauseGiven, StepGiven};
+ghost use Rattle.fws_net.specs.Reading.{StepGiven};
 ghost use Rattle.fws_net.specs.Routes.{IsSound};
-ghost use Rattle.fws_ipfw.specs.RuleText.{action_begun, action_step, amount_step, expected_step, flow_step, fresh_rule, goes_back, has_ports, instance_step, log_step, logged_step, may_end, protocol_step, rule_checks, rule_draft, rule_step, skip_step, tag_number_step, tag_step, with_protocol, word_step};
+ghost use Rattle.fws_ipfw.specs.RuleText.{action_begun, action_step, amount_step, expected_step, flow_step, fresh_rule, goes_back, has_ports, instance_step, log_step, logged_step, may_end, protocol_step, rule_checks, rule_step, skip_step, tag_number_step, tag_step, with_protocol, word_step};
+ghost use Rattle.fws_ipfw_read.specs.Rules.{rule_behind};
 
 use crate::addresses::read_protocol_value;
 use crate::instances::Known;
@@ -22,7 +23,7 @@ use fws_rule::{is, protocol_literal};
 use std::alloc::Global;
 
 /// A rule ahead of its first word.
-fn fresh_rule(alloc: Global) -> RuleDraft
+pub(crate) fn fresh_rule(alloc: Global) -> RuleDraft
     ensures { result ≡ fresh_rule }
 {
     RuleDraft {
@@ -206,13 +207,14 @@ fn expected_step(
     alloc: Global,
     site: &Site,
     known: &Known,
+    expects: Expects,
     d: &mut RuleDraft,
     text: &[u8],
 ) -> Result<(), ReadFault>
     requires { IsSound site.now }
-    ensures { StepGiven result d.new (expected_step site.now known.now d.old.expects text.now d.old) }
+    ensures { StepGiven result d.new (expected_step site.now known.now expects text.now d.old) }
 {
-    match d.expects {
+    match expects {
         Expects::Action => action_step(d, text),
         Expects::Code => {
             d.expects = Expects::Log;
@@ -257,7 +259,7 @@ fn take_word(
     if !word.is_sound() {
         return Err(ReadFault::Bad(Cause::Syntax));
     }
-    expected_step(alloc, site, known, d, word.text.as_slice())
+    expected_step(alloc, site, known, d.expects, d, word.text.as_slice())
 }
 
 /// Takes the words of a rule, up to the first that is refused.
@@ -323,20 +325,20 @@ pub(crate) fn rule_checks(number: u32, is_full: bool, d: &RuleDraft) -> Checks
     }
 }
 
-/// What these words say of a rule. A line that ends too early is refused.
-pub(crate) fn read_draft(
+/// Takes the words of a rule behind what was read of it. A line that ends too early is refused.
+pub(crate) fn take_rule(
     alloc: Global,
     site: &Site,
     known: &Known,
+    d: &mut RuleDraft,
     words: &[Word],
-) -> Result<RuleDraft, ReadFault>
+) -> Result<(), ReadFault>
     requires { IsSound site.now }
-    ensures { CauseGiven result (rule_draft site.now known.now words.now) }
+    ensures { StepGiven result d.new (rule_behind site.now known.now d.old words.now) }
 {
-    let mut d = fresh_rule(alloc);
-    take_words(alloc, site, known, &mut d, words)?;
+    take_words(alloc, site, known, d, words)?;
     if may_end(d.expects) {
-        Ok(d)
+        Ok(())
     } else {
         Err(ReadFault::Bad(Cause::Syntax))
     }
