@@ -130,22 +130,27 @@ both_told site B C first second t told_b told_c at = record {
 }
 
 -- the value of a tree that was made of three
-pub either_at : (va vb vc vt : Option Bool) (both : Option (Bool × Bool)) (all : Option (Bool × (Bool × Bool)))
+pub together_at : (va vb vc : Option Bool) (both : Option (Bool × Bool)) (all : Option (Bool × (Bool × Bool)))
     → ((b : Bool) × (c : Bool) × (vb ≡ Some b) × (vc ≡ Some c) × (both ≡ Some (b, c)))
     → ((a : Bool) × (bc : Bool × Bool) × (va ≡ Some a) × (both ≡ Some bc) × (all ≡ Some (a, bc)))
-    → ((x : Bool × (Bool × Bool)) × (all ≡ Some x) × (vt ≡ Some (not x.0 && (x.1.0 || x.1.1))))
-    → (a : Bool) × (b : Bool) × (c : Bool) × (va ≡ Some a) × (vb ≡ Some b) × (vc ≡ Some c) × (vt ≡ Some (not a && (b || c)))
-either_at va vb vc vt both all two three mixed =
+    → (a : Bool) × (b : Bool) × (c : Bool) × (va ≡ Some a) × (vb ≡ Some b) × (vc ≡ Some c) × (all ≡ Some (a, (b, c)))
+together_at va vb vc both all two three =
     let a : Bool = three.0 in
-    let b : Bool = two.0 in
-    let c : Bool = two.1 in
-    let bc : Bool × Bool = (b, c) in
-    let whole : Bool × (Bool × Bool) = (a, bc) in
+    let bc : Bool × Bool = (two.0, two.1) in
     let pairs : three.1 ≡ bc = some_once three.1 bc (sym three.3 ∙ two.4) in
     let there : Bool × Bool → Bool × (Bool × Bool) = λ y. (a, y) in
-    let same : mixed.0 ≡ whole = some_once mixed.0 whole (sym mixed.1 ∙ three.4 ∙ ap (λ y. Some (there y)) pairs) in
+    (a, two.0, two.1, three.2, two.2, two.3, three.4 ∙ ap (λ y. Some (there y)) pairs)
+
+-- and of one whose leaves are made of such ones
+pub either_at : (va vb vc vt : Option Bool) (all : Option (Bool × (Bool × Bool)))
+    → ((a : Bool) × (b : Bool) × (c : Bool) × (va ≡ Some a) × (vb ≡ Some b) × (vc ≡ Some c) × (all ≡ Some (a, (b, c))))
+    → ((x : Bool × (Bool × Bool)) × (all ≡ Some x) × (vt ≡ Some (not x.0 && (x.1.0 || x.1.1))))
+    → (a : Bool) × (b : Bool) × (c : Bool) × (va ≡ Some a) × (vb ≡ Some b) × (vc ≡ Some c) × (vt ≡ Some (not a && (b || c)))
+either_at va vb vc vt all three mixed =
+    let whole : Bool × (Bool × Bool) = (three.0, (three.1, three.2)) in
+    let same : mixed.0 ≡ whole = some_once mixed.0 whole (sym mixed.1 ∙ three.6) in
     let seen : Bool × (Bool × Bool) → Option Bool = λ x. Some (not x.0 && (x.1.0 || x.1.1)) in
-    (a, b, c, three.2, two.2, two.3, mixed.2 ∙ ap seen same)
+    (three.0, three.1, three.2, three.3, three.4, three.5, mixed.2 ∙ ap seen same)
 
 -- and of one that was made of two
 pub both_at : (va vb vt : Option Bool) (both : Option (Bool × Bool))

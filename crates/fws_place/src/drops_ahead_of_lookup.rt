@@ -1,6 +1,6 @@
 //! Whether ipfw can drop established packets ahead of the look-up of connections.
 
-ghost use Rattle.std.specs.Prelude.{◌≡◌, ℕ, Bool, true, ◌&&◌, ◌||◌, not, nat_eq, List, Some, slice_index, IfOk};
+ghost use Rattle.std.specs.Prelude.{◌≡◌, ℕ, Bool, true, false, ◌&&◌, ◌||◌, not, nat_eq, List, Some, slice_index, if◌then◌else◌, IfOk};
 ghost use Rattle.fws_box.specs.Sides.{IsWithin, sides_have};
 ghost use Rattle.fws_net.specs.Points.{tops_of};
 ghost use Rattle.fws_net.specs.Routes.{IsSound, is_local};
@@ -97,6 +97,28 @@ fn exchanged(alloc: Global, tree: &Tree<bool>) -> Result<Tree<bool>, Memory>
     from_rows(alloc, tops, &rows, false)
 }
 
+// The tree that is this one at the host's packets and false elsewhere.
+fn of_host(alloc: Global, site: &Site, tree: &Tree<bool>) -> Result<Tree<bool>, Memory>
+    requires sound { IsSound site.now }
+    requires tops { tree.now.0 ≡ tops_of site.now }
+    ensures tops { IfOk result (λ t. t.0 ≡ tops_of site.now) }
+    ensures value { IfOk result (λ t. (q : List ℕ) → IsWithin (tops_of site.now) q → value t.1 q ≡ (if nat_eq (slice_index q 0) 0 then value tree.now.1 q else Some false)) }
+{
+    let sides = host_sides(alloc, site)?;
+    tree.restrict(alloc, &sides, false)
+}
+
+// The tree that tells of each pair whether it is one of the host's and its packet is accepted when it is new.
+fn accepted_new_of_host(alloc: Global, site: &Site, tables: &Tables) -> Result<Tree<bool>, Memory>
+    requires sound { IsSound site.now }
+    requires regular { AreRegular site.now tables.now }
+    ensures tops { IfOk result (λ t. t.0 ≡ tops_of site.now) }
+    ensures tells { IfOk result (λ t. Tells site.now (λ p r. (is_host p ≡ true) × IsAcceptedNew tables.now p) t.1) }
+{
+    let all = accepted_new(alloc, site, tables)?;
+    of_host(alloc, site, &all)
+}
+
 // The tree that tells of each pair of the host whether the new packet that looks like it is accepted. Rows for the
 // host's packets are enough for it.
 fn accepted_new_alike(alloc: Global, site: &Site, tables: &Tables) -> Result<Tree<bool>, Memory>
@@ -105,9 +127,7 @@ fn accepted_new_alike(alloc: Global, site: &Site, tables: &Tables) -> Result<Tre
     ensures tops { IfOk result (λ t. t.0 ≡ tops_of site.now) }
     ensures tells { IfOk result (λ t. Tells site.now (IsAcceptedNewAlike tables.now) t.1) }
 {
-    let all = accepted_new(alloc, site, tables)?;
-    let sides = host_sides(alloc, site)?;
-    let host = all.restrict(alloc, &sides, false)?;
+    let host = accepted_new_of_host(alloc, site, tables)?;
     exchanged(alloc, &host)
 }
 
@@ -137,6 +157,22 @@ impl Relabelling<(bool, bool), bool> for Both {
     }
 }
 
+/// The tree whose values are those of three. An error is want of memory.
+pub(crate) fn together(
+    alloc: Global,
+    first: &Tree<bool>,
+    second: &Tree<bool>,
+    third: &Tree<bool>,
+) -> Result<Tree<(bool, (bool, bool))>, Memory>
+    requires second { second.now.0 ≡ first.now.0 }
+    requires third { third.now.0 ≡ first.now.0 }
+    ensures tops { IfOk result (λ t. t.0 ≡ first.now.0) }
+    ensures value { IfOk result (λ t. (q : List ℕ) → IsWithin first.now.0 q → (a : Bool) × (b : Bool) × (c : Bool) × (value first.now.1 q ≡ Some a) × (value second.now.1 q ≡ Some b) × (value third.now.1 q ≡ Some c) × (value t.1 q ≡ Some (a, (b, c)))) }
+{
+    let both = second.pair(alloc, third)?;
+    first.pair(alloc, &both)
+}
+
 // The tree that is true where the first one is false and one of the others is true.
 fn dropped_with_either(
     alloc: Global,
@@ -149,8 +185,7 @@ fn dropped_with_either(
     ensures tops { IfOk result (λ t. t.0 ≡ accepted.now.0) }
     ensures value { IfOk result (λ t. (q : List ℕ) → IsWithin accepted.now.0 q → (a : Bool) × (b : Bool) × (c : Bool) × (value accepted.now.1 q ≡ Some a) × (value first.now.1 q ≡ Some b) × (value second.now.1 q ≡ Some c) × (value t.1 q ≡ Some (not a && (b || c)))) }
 {
-    let either = first.pair(alloc, second)?;
-    let all = accepted.pair(alloc, &either)?;
+    let all = together(alloc, accepted, first, second)?;
     all.relabel(alloc, &DroppedWithEither)
 }
 
@@ -268,6 +303,48 @@ fn among_staying(
     named_pair(alloc, site, &breaking)
 }
 
+// The tree that tells of each pair whether it is forwarded and breaks the clause, of those that are dropped though their packet
+// is accepted and some pair that looks like them.
+fn passing_of(
+    alloc: Global,
+    site: &Site,
+    _tables: &Tables,
+    seen: &Tree<bool>,
+) -> Result<Tree<bool>, Memory>
+    requires sound { IsSound site.now }
+    requires regular { AreRegular site.now _tables.now }
+    requires forwarding { site.now.forwarding ≡ true }
+    requires tops { seen.now.0 ≡ tops_of site.now }
+    requires seen { Tells site.now (λ p r. IsDroppedOfPacket site.now _tables.now p r × IsAcceptedAlike site.now _tables.now p r) seen.now.1 }
+    ensures tops { IfOk result (λ t. t.0 ≡ tops_of site.now) }
+    ensures tells { IfOk result (λ t. Tells site.now (λ p r. (passes site.now p r ≡ true) × BreaksAheadOfLookup site.now _tables.now p r) t.1) }
+{
+    let sides = passing_sides(alloc, site)?;
+    seen.restrict(alloc, &sides, false)
+}
+
+// The tree that tells of each pair whether it is forwarded and breaks the clause.
+fn breaking_of_passing(
+    alloc: Global,
+    site: &Site,
+    tables: &Tables,
+    dropped: &Tree<bool>,
+    behind: &Tree<bool>,
+) -> Result<Tree<bool>, Memory>
+    requires sound { IsSound site.now }
+    requires regular { AreRegular site.now tables.now }
+    requires forwarding { site.now.forwarding ≡ true }
+    requires tops { dropped.now.0 ≡ tops_of site.now }
+    requires dropped { Tells site.now (IsDroppedOfPacket site.now tables.now) dropped.now.1 }
+    requires behind_tops { behind.now.0 ≡ tops_of site.now }
+    requires behind { Tells site.now (IsAcceptedAlike site.now tables.now) behind.now.1 }
+    ensures tops { IfOk result (λ t. t.0 ≡ tops_of site.now) }
+    ensures tells { IfOk result (λ t. Tells site.now (λ p r. (passes site.now p r ≡ true) × BreaksAheadOfLookup site.now tables.now p r) t.1) }
+{
+    let seen = true_in_both(alloc, dropped, behind)?;
+    passing_of(alloc, site, tables, &seen)
+}
+
 // A pair that is forwarded and breaks the clause: it is dropped though its packet is accepted, and so is some pair that
 // looks like it.
 fn among_passing(
@@ -288,9 +365,7 @@ fn among_passing(
     if !site.forwarding {
         return Ok(None);
     }
-    let seen = true_in_both(alloc, dropped, behind)?;
-    let sides = passing_sides(alloc, site)?;
-    let breaking = seen.restrict(alloc, &sides, false)?;
+    let breaking = breaking_of_passing(alloc, site, tables, dropped, behind)?;
     named_pair(alloc, site, &breaking)
 }
 

@@ -12,6 +12,7 @@ ghost use Rattle.fws_tree.specs.Plain.{value};
 ghost use Rattle.fws_tree.specs.Regular.{AreRegular};
 
 use crate::breach::Pair;
+use crate::drops_ahead_of_lookup::together;
 use crate::lost::without_lost;
 use crate::naming::named_pair;
 use crate::seeing::{accepted, seen};
@@ -46,8 +47,7 @@ fn dropped_alone(
     ensures tops { IfOk result (λ t. t.0 ≡ accepted.now.0) }
     ensures value { IfOk result (λ t. (q : List ℕ) → IsWithin accepted.now.0 q → (a : Bool) × (b : Bool) × (c : Bool) × (value accepted.now.1 q ≡ Some a) × (value packet.now.1 q ≡ Some b) × (value behind.now.1 q ≡ Some c) × (value t.1 q ≡ Some (not a && b && c))) }
 {
-    let both = packet.pair(alloc, behind)?;
-    let all = accepted.pair(alloc, &both)?;
+    let all = together(alloc, accepted, packet, behind)?;
     all.relabel(alloc, &DroppedAlone)
 }
 

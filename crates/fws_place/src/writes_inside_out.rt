@@ -101,6 +101,40 @@ fn written_within(
     written_among(alloc, site, tables, &within)
 }
 
+// A new packet that is accepted, has a source written and doesn't come from the inside, if there is one.
+fn written_outside(
+    alloc: Global,
+    site: &Site,
+    tables: &Tables,
+    inside: &[Ivs; 12],
+) -> Result<Option<(Pair, Option<Pair>)>, Memory>
+    requires sound { IsSound site.now }
+    requires regular { AreRegular site.now tables.now }
+    requires inside { (p : List ℕ) → IsWithin (tops_of site.now) p → sides_have inside.now p ≡ is_inside (side_of site.now (slice_index p 0)) }
+    ensures { IfOk result (IsSoughtPacket site.now (IsWrittenElsewhere site.now tables.now)) }
+{
+    let elsewhere = written_elsewhere(alloc, site, tables, inside)?;
+    named_packet(alloc, site, &elsewhere)
+}
+
+// A new packet that breaks the clause, by what comes from the inside.
+fn written_by(
+    alloc: Global,
+    site: &Site,
+    tables: &Tables,
+    inside: &[Ivs; 12],
+) -> Result<Option<(Pair, Option<Pair>)>, Memory>
+    requires sound { IsSound site.now }
+    requires regular { AreRegular site.now tables.now }
+    requires inside { (p : List ℕ) → IsWithin (tops_of site.now) p → sides_have inside.now p ≡ is_inside (side_of site.now (slice_index p 0)) }
+    ensures { IfOk result (λ found. IsSought site.now tables.now WritesInsideOut found) }
+{
+    if let Some(found) = written_outside(alloc, site, tables, inside)? {
+        return Ok(Some(found));
+    }
+    written_within(alloc, site, tables, inside)
+}
+
 /// A new packet that is accepted and has a source written, and doesn't come from the inside or doesn't leave to the
 /// outside, if there is one. An error is want of memory.
 pub(crate) fn writes_inside_out(
@@ -113,9 +147,5 @@ pub(crate) fn writes_inside_out(
     ensures { IfOk result (λ found. IsSought site.now tables.now WritesInsideOut found) }
 {
     let inside = inside_sides(alloc, site)?;
-    let elsewhere = written_elsewhere(alloc, site, tables, &inside)?;
-    if let Some(found) = named_packet(alloc, site, &elsewhere)? {
-        return Ok(Some(found));
-    }
-    written_within(alloc, site, tables, &inside)
+    written_by(alloc, site, tables, &inside)
 }
