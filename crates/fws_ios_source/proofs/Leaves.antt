@@ -1,5 +1,5 @@
 -- The values of a tree are among its leaves.
-use Rattle.std.proofs.Common.{◌≡◌, ℕ, zero, suc, ◌-◌, ◌<◌, Option, Some, None, Bool, true, false, ◌&&◌, not, List, [], ◌∷◌, refl, sym, ◌∙◌, ap, subst, arith, length, get_or}
+use Rattle.std.proofs.Common.{◌≡◌, ℕ, zero, suc, ◌-◌, ◌<◌, Option, Some, None, Bool, true, false, ◌&&◌, not, List, [], ◌∷◌, refl, sym, ◌∙◌, ap, arith, length, get_or}
 use Rattle.std.proofs.lemmas.Bool.{and_from, both_ways, not-true, or_left, or_right}
 use Rattle.std.proofs.lemmas.Option.{get_or_from_slice_get, slice_get_within}
 use Rattle.std.specs.Prelude.{Contains, nat_eq, slice_get, if◌then◌else◌}
@@ -58,17 +58,21 @@ true_among [] k lt e = absurd (omega arith)
 true_among (a ∷ leaves) zero lt e = or_left a (list_any (λ leaf. leaf) leaves) e
 true_among (a ∷ leaves) (suc k) lt e = or_right a (list_any (λ leaf. leaf) leaves) (true_among leaves k (omega arith) e)
 
--- a tree that is true where two are, and has no leaf that is true: no point is in both
-pub sets_apart : (first : List ℕ) (t u : Plain Bool) (pairs : List ℕ × Plain (Bool × Bool)) (both : List ℕ × Plain Bool) (leaves : List Bool) (nodes : List Node) → pairs.0 ≡ first
-    → ((p : List ℕ) → IsWithin first p → (a : Bool) × (b : Bool) × (value t p ≡ Some a) × (value u p ≡ Some b) × (value pairs.1 p ≡ Some (a, b)))
-    → ((p : List ℕ) → IsWithin pairs.0 p → (a : Bool × Bool) × (value pairs.1 p ≡ Some a) × (value both.1 p ≡ Some (a.0 && a.1)))
-    → IsShared both.0 both.1 leaves nodes → not (list_any (λ leaf. leaf) leaves) ≡ true → AreApart first t u
-sets_apart first t u pairs both leaves nodes tops pairing relabelled shared lacks x w p d =
-    let two = pairing x w in
-    let here = relabelled x (subst (λ ts. IsWithin ts x) (sym tops) w) in
+-- the value of a tree that is made of the pairs of two
+pub both_at : (va vb vt : Option Bool) (vp : Option (Bool × Bool)) → ((a : Bool) × (b : Bool) × (va ≡ Some a) × (vb ≡ Some b) × (vp ≡ Some (a, b)))
+    → ((x : Bool × Bool) × (vp ≡ Some x) × (vt ≡ Some (x.0 && x.1))) → (a : Bool) × (b : Bool) × (va ≡ Some a) × (vb ≡ Some b) × (vt ≡ Some (a && b))
+both_at va vb vt vp two here =
     let there : Bool × Bool = (two.0, two.1) in
     let same : here.0 ≡ there = some_once here.0 there (sym here.1 ∙ two.4) in
-    let is : (here.0.0 && here.0.1) ≡ true
-    = ap (λ (z : Bool × Bool). z.0 && z.1) same ∙ and_from two.0 two.1 (some_once two.0 true (sym two.2 ∙ p)) (some_once two.1 true (sym two.3 ∙ d)) in
-    let leaf = among_leaves both.0 both.1 leaves nodes shared x true (here.2 ∙ ap Some is) in
+    let made : Bool × Bool → Option Bool = λ z. Some (z.0 && z.1) in
+    (two.0, two.1, two.2, two.3, here.2 ∙ ap made same)
+
+-- a tree that is true where two are, and has no leaf that is true: no point is in both
+pub sets_apart : (first : List ℕ) (t u : Plain Bool) (both : List ℕ × Plain Bool) (leaves : List Bool) (nodes : List Node)
+    → ((p : List ℕ) → IsWithin first p → (a : Bool) × (b : Bool) × (value t p ≡ Some a) × (value u p ≡ Some b) × (value both.1 p ≡ Some (a && b)))
+    → IsShared both.0 both.1 leaves nodes → not (list_any (λ leaf. leaf) leaves) ≡ true → AreApart first t u
+sets_apart first t u both leaves nodes made shared lacks x w p d =
+    let here = made x w in
+    let is : (here.0 && here.1) ≡ true = and_from here.0 here.1 (some_once here.0 true (sym here.2 ∙ p)) (some_once here.1 true (sym here.3 ∙ d)) in
+    let leaf = among_leaves both.0 both.1 leaves nodes shared x true (here.4 ∙ ap Some is) in
     both_ways (list_any (λ a. a) leaves) (not-true (list_any (λ a. a) leaves) lacks) (true_among leaves leaf.0 leaf.1 leaf.2)

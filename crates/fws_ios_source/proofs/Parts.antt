@@ -1,5 +1,5 @@
 -- Sets from which fields are left out.
-use Rattle.std.proofs.Common.{◌≡◌, ℕ, Bool, true, Some, List, refl, sym, ◌∙◌, ap, subst, IsTrue}
+use Rattle.std.proofs.Common.{◌≡◌, ℕ, Bool, true, false, cond, None, Some, IfSome, List, refl, sym, ◌∙◌, ap, subst, IsTrue}
 use Rattle.std.specs.Prelude.{◌↔◌, Result, Ok, Err, IfOk}
 use Rattle.fws_box.specs.Sides.{IsWithin}
 use Rattle.fws_ios_path.specs.Seen.{IsListed, LookSame}
@@ -60,6 +60,11 @@ wider_still a b c ab bc = record {
   permitted = λ x w e. bc.permitted x (subst (λ ts. IsWithin ts x) (sym ab.tops) w) (ab.permitted x w e);
   denied = λ x w e. bc.denied x (subst (λ ts. IsWithin ts x) (sym ab.tops) w) (ab.denied x w e);
 }
+
+-- what is there under a test
+pub some_if : {T : Type 0} (b : Bool) (t : T) (P : T → Type 0) → (b ≡ true → P t) → IfSome (cond b (Some t) None) P
+some_if true t P h = h refl
+some_if false t P h = tt
 
 -- two facts of each result as one
 pub both_ok : {T E : Type 0} (r : Result T E) (P Q R : T → Type 0) → ((t : T) → P t → Q t → R t) → IfOk r P → IfOk r Q → IfOk r R

@@ -1,12 +1,15 @@
 //! The lists, and the translations that ask them.
 
-ghost use Rattle.std.specs.Prelude.{◌≡◌, ◌^◌, ◌<◌, ◌++◌, ◌∷◌, [], List, IfOk, OnOk, Some, length, slice_get};
+ghost use Rattle.std.specs.Prelude.{◌≡◌, false, ◌^◌, ◌<◌, ◌++◌, ◌∷◌, [], List, IfOk, OnOk, Some, length, slice_get};
 ghost use Rattle.fws_ios.specs.declared.config.IosEntry.{IosEntry};
 ghost use Rattle.fws_ios.specs.declared.config.IosList.{IosList};
+ghost use Rattle.fws_ios_list.specs.FirstMatch.{IsFirstMatch};
+ghost use Rattle.fws_ios_path.specs.Seen.{IsListed};
 ghost use Rattle.fws_ios_source.specs.Crossing.{AreTold};
 ghost use Rattle.fws_ios_source.specs.Lists.{list_name, nat_of, AreAsked, AreEntries, IsListAt, PutsList};
 ghost use Rattle.fws_net.specs.Points.{tops_of};
 ghost use Rattle.fws_net.specs.Routes.{IsSound};
+ghost use Rattle.fws_tree.specs.Plain.{value};
 
 use crate::parting::parted_at;
 use crate::translations::Sources;
@@ -27,6 +30,18 @@ fn list_name(alloc: Global, addr: u32) -> Result<Text, Memory>
     Ok(name)
 }
 
+// The entries of a list that permits packets just where the tree is true. An error is want of memory.
+fn entries_for(alloc: Global, site: &Site, tree: &Tree<bool>) -> Result<Items<IosEntry>, Memory>
+    requires sound { IsSound site.now }
+    requires tops { tree.now.0 ≡ tops_of site.now }
+    requires listed { IsListed tree.now.0 (value tree.now.1) }
+    ensures { IfOk result (IsFirstMatch site.now tree.now.1 false) }
+{
+    let mut entries = Items::new(alloc);
+    put_first_match(alloc, &mut entries, site, tree, false)?;
+    Ok(entries)
+}
+
 // The entries of the list at a place. An error is want of memory.
 fn entries_at(
     alloc: Global,
@@ -41,9 +56,7 @@ fn entries_at(
     ensures { IfOk result (AreEntries site.now crossing.now.1 addrs.now.keys place) }
 {
     let sets = parted_at(alloc, crossing, addrs, place)?;
-    let mut entries = Items::new(alloc);
-    put_first_match(alloc, &mut entries, site, &sets.permitted, false)?;
-    Ok(entries)
+    entries_for(alloc, site, &sets.permitted)
 }
 
 // The list at a place, which gives the address. An error is want of memory.

@@ -1,9 +1,11 @@
 //! What a list permits and denies, told by as few fields as can be.
 
-ghost use Rattle.std.specs.Prelude.{◌≡◌, true, IfOk};
+ghost use Rattle.std.specs.Prelude.{◌≡◌, ◌&&◌, ℕ, Bool, true, List, Some, None, if◌then◌else◌, IfOk, IfSome};
 ghost use Rattle.std.specs.List.{list_any};
+ghost use Rattle.fws_box.specs.Sides.{IsWithin};
 ghost use Rattle.fws_ios_source.specs.Crossing.{AreTold};
 ghost use Rattle.fws_ios_source.specs.Parting.{keeps_look, AreApart, AreWider, IsParted, IsPartedAt};
+ghost use Rattle.fws_tree.specs.Plain.{value};
 
 use crate::parted::Parted;
 use crate::picking::picked;
@@ -47,13 +49,65 @@ fn has_true(leaves: &[bool]) -> bool
     leaves.iter().any(|leaf| *leaf)
 }
 
+// The tree that is true where both are. An error is want of memory.
+fn in_both(alloc: Global, first: &Tree<bool>, second: &Tree<bool>) -> Result<Tree<bool>, Memory>
+    requires { second.now.0 ≡ first.now.0 }
+    ensures { IfOk result (λ t. (q : List ℕ) → IsWithin first.now.0 q → (a : Bool) × (b : Bool) × (value first.now.1 q ≡ Some a) × (value second.now.1 q ≡ Some b) × (value t.1 q ≡ Some (a && b))) }
+{
+    let pairs = first.pair(alloc, second)?;
+    pairs.relabel(alloc, &Both)
+}
+
 // Whether no packet is in both sets. An error is want of memory.
 fn are_apart(alloc: Global, first: &Tree<bool>, second: &Tree<bool>) -> Result<bool, Memory>
     requires { second.now.0 ≡ first.now.0 }
     ensures { IfOk result (λ apart. apart ≡ true → AreApart first.now.0 first.now.1 second.now.1) }
 {
-    let both = first.pair(alloc, second)?.relabel(alloc, &Both)?;
+    let both = in_both(alloc, first, second)?;
     Ok(!has_true(both.shared().leaves))
+}
+
+// Sets that aren't wanted any more.
+fn dismiss(_sets: Parted) {}
+
+// The sets without a test of the fields, which may not stay apart. An error is want of memory.
+fn projected(alloc: Global, sets: &Parted, fields: u16) -> Result<Parted, Memory>
+    requires look { keeps_look fields ≡ true }
+    requires parted { IsParted sets.now }
+    ensures tops { IfOk result (λ new. new.denied.0 ≡ new.permitted.0) }
+    ensures parted { IfOk result (λ new. AreApart new.permitted.0 new.permitted.1 new.denied.1 → IsParted new) }
+    ensures wider { IfOk result (AreWider sets.now) }
+{
+    let permitted = sets.permitted.exists(alloc, fields)?;
+    let denied = sets.denied.exists(alloc, fields)?;
+    Ok(Parted { permitted, denied })
+}
+
+// The sets, if they stay apart.
+fn kept_if(apart: bool, sets: Parted) -> Option<Parted>
+    ensures { result ≡ (if apart then Some sets else None) }
+{
+    if apart {
+        return Some(sets);
+    }
+    None
+}
+
+// The sets without a test of the fields, if they stay apart. An error is want of memory.
+fn parted_without(alloc: Global, sets: &Parted, fields: u16) -> Result<Option<Parted>, Memory>
+    requires look { keeps_look fields ≡ true }
+    requires parted { IsParted sets.now }
+    ensures parted { IfOk result (λ found. IfSome found IsParted) }
+    ensures wider { IfOk result (λ found. IfSome found (AreWider sets.now)) }
+{
+    let new = projected(alloc, sets, fields)?;
+    match are_apart(alloc, &new.permitted, &new.denied) {
+        Ok(apart) => Ok(kept_if(apart, new)),
+        Err(fault) => {
+            dismiss(new);
+            Err(fault)
+        }
+    }
 }
 
 // The sets without a test of the fields, where they stay apart; else as they are. An error is want of memory.
@@ -63,12 +117,17 @@ fn left_out(alloc: Global, sets: Parted, fields: u16) -> Result<Parted, Memory>
     ensures parted { IfOk result IsParted }
     ensures wider { IfOk result (AreWider sets) }
 {
-    let permitted = sets.permitted.exists(alloc, fields)?;
-    let denied = sets.denied.exists(alloc, fields)?;
-    if are_apart(alloc, &permitted, &denied)? {
-        return Ok(Parted { permitted, denied });
+    match parted_without(alloc, &sets, fields) {
+        Ok(Some(new)) => {
+            dismiss(sets);
+            Ok(new)
+        }
+        Ok(None) => Ok(sets),
+        Err(fault) => {
+            dismiss(sets);
+            Err(fault)
+        }
     }
-    Ok(sets)
 }
 
 // The sets without tests of fields that needn't be tested. An error is want of memory.

@@ -1,5 +1,7 @@
-use Rattle.std.proofs.Common.{List, ◌++◌, sym, ◌∙◌, ap, subst}
+use Rattle.std.proofs.Common.{List, false}
+use Rattle.std.proofs.lemmas.Result.{IfOk-weaker}
 use Rattle.fws_ios.specs.declared.config.IosEntry.{IosEntry}
+use Rattle.fws_ios_list.specs.FirstMatch.{IsFirstMatch}
 use Rattle.fws_ios_source.specs.Lists.{AreEntries}
 use Rattle.fws_ios_source.proofs.Entries.{entries_tell}
 use Rattle.fws_ios_source.proofs.lists.entries_at.Goals as goal
@@ -9,7 +11,7 @@ returns c =
     let site = c.args.site.now in
     let tree = c.args.crossing.now in
     let keys = c.args.addrs.now.keys in
-    let put = c.in_ok-put_first_match.ensures in
-    let block : List IosEntry = put.0 in
-    subst (λ l. AreEntries site tree.1 keys c.args.place l) (sym (put.1 ∙ ap (λ l. l ++ block) c.new-entries.ensures))
-    (entries_tell site tree.0 tree.1 keys c.args.place c.in_ok-sets.sets block c.requires.tops c.in_ok-sets.ensures put.2)
+    let sets = c.in_ok-sets.sets in
+    let P : List IosEntry → Type 0 = λ block. IsFirstMatch site sets.permitted.1 false block in
+    let Q : List IosEntry → Type 0 = λ block. AreEntries site tree.1 keys c.args.place block in
+    IfOk-weaker c.entries_for.result P Q (λ block first. entries_tell site tree.0 tree.1 keys c.args.place sets block c.requires.tops c.in_ok-sets.ensures first) c.entries_for.ensures
