@@ -183,6 +183,16 @@ impl Reader {
         }
     }
 
+    /// Takes the bytes of the line, all that are left.
+    fn feed_all(&mut self, line: &[u8]) -> Result<(), Memory>
+        ensures { OnOk result (words_ahead self.new [] ≡ words_ahead self.old line.now) }
+    {
+        for c in line {
+            self.feed(*c)?;
+        }
+        Ok(())
+    }
+
     /// Ends the line.
     fn finish(&mut self) -> Result<(), Memory>
         ensures { OnOk result (self.new.words.items ≡ words_ahead self.old []) }
@@ -211,9 +221,7 @@ pub fn words(alloc: Global, line: &[u8], number: u32) -> Result<Vec<Word>, Memor
         mode: Mode::Between,
         text: Text::new(alloc),
     };
-    for c in line {
-        reader.feed(*c)?;
-    }
+    reader.feed_all(line)?;
     reader.finish()?;
     Ok(reader.words)
 }
