@@ -1,4 +1,4 @@
-use Rattle.std.proofs.Common.{◌≡◌, ℕ, ◌<◌, Some, List, length, slice_get, sym, ◌∙◌, ap, subst}
+use Rattle.std.proofs.Common.{◌≡◌, ℕ, ◌<◌, Some, List, length, slice_get, sym, ◌∙◌, ap, subst, arith}
 use Rattle.std.proofs.lemmas.Option.{get_or_from_slice_get, slice_get-get_or}
 use Rattle.std.specs.Prelude.{All}
 use Rattle.fws_net.specs.declared.outcome.Outcome.{Outcome}
@@ -49,3 +49,8 @@ loop-node-preserved c =
           (subst (λ (e : Ends). Tells outward (IsKidAccepted (kids_of tree kids)) e) (sym w.own-is) (subst (λ (l : List Kid). Tells outward (IsKidAccepted (kids_of tree l)) w.kid_ends-own.result) w.as_slice.ensures told)))
     ] in
     ends_more outward leaves nodes n c.loop-node.ends.items c.push.new.self.items c.match-node.own inv.0 inv.1 own c.in_ok-push.ensures.items
+
+pub returns : goal.returns
+returns c =
+    let end : c.loop-node.node-index ≡ length c.args.nodes.now = omega arith in
+    record { size = c.loop-node.invariant.0 ∙ end; each = c.loop-node.invariant.1 }

@@ -1,4 +1,4 @@
-use Rattle.std.proofs.Common.{ℕ, ◌+◌, ◌∷◌, [], ◌++◌, List, sym, ◌∙◌, ap, subst, arith}
+use Rattle.std.proofs.Common.{◌≡◌, ℕ, ◌+◌, ◌∷◌, [], ◌++◌, List, sym, ◌∙◌, ap, subst, arith}
 use Rattle.fws_pf_list.specs.declared.path.Path.{Path}
 use Rattle.fws_pf_list.specs.Narrowing.{AreNumberPaths}
 use Rattle.fws_pf_list.specs.Paths.{with_part}
@@ -23,3 +23,8 @@ loop-v-preserved c =
           (w.paths-is ∙ w.in_ok-put.ensures.ok ∙ ap (λ (x : Path). paths ++ x ∷ []) (w.narrowed.ensures ∙ ap (λ p. with_part side p path) w.only.ensures)) c.loop-v.invariant
       | else-has w ↦ subst (λ (l : List Path). AreNumberPaths side set path c.args.from (v + 1) l) (sym w.paths-is) (number_less side set path c.args.from v paths (sym c.has.ensures ∙ w.if-has.false) c.loop-v.invariant)
     ]
+
+pub returns : goal.returns
+returns c =
+    let end : c.loop-v.v ≡ c.args.top + 1 = omega arith in
+    subst (λ n. AreNumberPaths c.args.side c.args.set.now c.args.path c.args.from n c.loop-v.paths) end c.loop-v.invariant
