@@ -3,6 +3,9 @@ use Rattle.fws_tree.proofs.Cells.{extends-trans}
 use Rattle.fws_tree.proofs.Projecting.{any_step}
 use Rattle.fws_tree.proofs.exists.any_of.Goals as goal
 
+pub returns-in_err-any-clause-extends : goal.returns-in_err-any-clause-extends
+returns-in_err-any-clause-extends c = extends-trans _ _ _ c.loop-kid.invariant.extends c.merge.ensures.extends
+
 pub loop-kid-preserved : goal.loop-kid-preserved
 loop-kid-preserved c = let some : 0 < length c.args.store.now = omega arith in record {
   ordered = c.merge.ensures.ordered;

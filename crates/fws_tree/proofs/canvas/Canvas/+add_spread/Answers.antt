@@ -26,6 +26,12 @@ returns-then-cut-field-2-clause-done t c =
     (done-grows c.args.self.now c.args.field c.args.value c.args.done.now c.args.ranges.now.items c.add_steps.new.ranges.items c.in_ok-add_steps.ensures.grown c.requires.done)
     c.in_ok-insert.ensures.updates (returns-then-cut-field-2-clause-spread t c)
 
+pub returns-in_default-clause-done : goal.returns-in_default-clause-done
+returns-in_default-clause-done t c = done-grows c.args.self.now c.args.field c.args.value c.args.done.now c.args.ranges.now.items c.add_held.new.ranges.items c.in_ok-add_held.ensures.grown c.requires.done
+
+pub returns-then-cut-field-clause-done : goal.returns-then-cut-field-clause-done
+returns-then-cut-field-clause-done t c = done-grows c.args.self.now c.args.field c.args.value c.args.done.now c.args.ranges.now.items c.add_held-then-cut-field.new.ranges.items c.in_ok-add_held-2.ensures.grown c.requires.done
+
 pub add_spread-requires : goal.add_spread-requires
 add_spread-requires t c =
     let d : Step = record { hi = 0; node = 0 } in
@@ -56,6 +62,9 @@ returns-clause-spread t c =
     spread_cut c.args.self.now c.args.field c.args.value c.args.at c.in-Some.cut c.view-last.result.1 c.view-last.result.0.now c.add_spread-2.new.ranges.items c.view-last.ensures.held
     (spread_all c.args.self.now c.args.field c.args.value c.loop-step.step-index c.view-last.result.0.now c.loop-step.ranges.items c.add_spread-2.new.ranges.items c.loop-step-test.false c.in_ok-add_spread-2.ensures.grown c.loop-step.invariant.steps)
     c.in_ok-add_spread-2.ensures.spread
+
+pub returns-clause-grown : goal.returns-clause-grown
+returns-clause-grown t c = grows-then c.args.ranges.now.items c.loop-step.ranges.items c.add_spread-2.new.ranges.items c.loop-step.invariant.grown c.in_ok-add_spread-2.ensures.grown
 
 pub returns-clause-done : goal.returns-clause-done
 returns-clause-done t c =

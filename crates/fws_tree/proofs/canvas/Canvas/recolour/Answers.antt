@@ -3,8 +3,9 @@ use Rattle.fws_box.specs.Sides.{IsWithin}
 use Rattle.fws_tree.specs.Held.{held_at}
 use Rattle.fws_tree.specs.Painted.{value_at}
 use Rattle.fws_tree.specs.Bits.{AreMasks}
+use Rattle.fws_tree.specs.Building.{Extends}
 use Rattle.fws_tree.specs.Recoloured.{IsRecoloured}
-use Rattle.fws_tree.proofs.Cells.{extends-trans, length-extends, held-extends}
+use Rattle.fws_tree.proofs.Cells.{extends-refl, extends-trans, length-extends, held-extends}
 use Rattle.fws_tree.proofs.Covering.{masks-store}
 use Rattle.fws_tree.proofs.Merging.{given-same}
 use Rattle.fws_tree.proofs.Recolouring.{still_held}
@@ -52,6 +53,21 @@ invariant_of-self-2 g c = record {
   inside = c.in_ok-root.ensures.inside;
   masked = subst (λ (ms : List ℕ). AreMasks c.recoloured.new.values c.recoloured.new.store ms) c.as_slice.ensures.value c.recoloured.ensures.masks;
 }
+
+pub returns-in_err-collect_grown-clause-values : goal.returns-in_err-collect_grown-clause-values
+returns-in_err-collect_grown-clause-values g c = subst (λ (vs : List ℕ). Extends vs c.collect_grown.new.self.values) c.collect_grown.ensures.values (extends-refl c.collect_grown.new.self.values)
+
+pub returns-in_err-catch_up-clause-values : goal.returns-in_err-catch_up-clause-values
+returns-in_err-catch_up-clause-values g c = subst (λ (vs : List ℕ). Extends vs c.collect_grown.new.self.values) c.collect_grown.ensures.values (extends-refl c.collect_grown.new.self.values)
+
+pub returns-in_err-marked-clause-values : goal.returns-in_err-marked-clause-values
+returns-in_err-marked-clause-values g c = subst (λ (vs : List ℕ). Extends vs c.collect_grown.new.self.values) c.collect_grown.ensures.values (extends-refl c.collect_grown.new.self.values)
+
+pub returns-in_err-root-clause-values : goal.returns-in_err-root-clause-values
+returns-in_err-root-clause-values g c = subst (λ (vs : List ℕ). Extends vs c.recoloured.new.values) c.collect_grown.ensures.values c.recoloured.ensures.values
+
+pub returns-clause-values : goal.returns-clause-values
+returns-clause-values g c = subst (λ (vs : List ℕ). Extends vs c.recoloured.new.values) c.collect_grown.ensures.values c.recoloured.ensures.values
 
 pub returns-clause-recoloured : goal.returns-clause-recoloured
 returns-clause-recoloured g c = λ p w.
