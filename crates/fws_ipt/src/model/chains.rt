@@ -3,7 +3,7 @@
 ghost use Rattle.std.specs.Prelude.{◌≡◌, nat_eq, IfOk};
 ghost use Rattle.std.specs.List.{list_any};
 ghost use Rattle.fws_net.specs.Routes.{IsSound};
-ghost use Rattle.fws_ipt.specs.Walk.{chain_walk, rules_at, policy_at, by_policy, builtin_walk};
+ghost use Rattle.fws_ipt.specs.Walk.{chain_walk, rules_walk, rules_at, policy_at, by_policy, builtin_walk};
 
 use crate::config::{IptChain, IptRule};
 use crate::model::acting::{Scene, Step, rule_step};
@@ -28,8 +28,38 @@ fn is_on(path: &[usize], c: usize) -> bool
     path.iter().any(|on| c == *on)
 }
 
+/// Walks rules of the chain that was entered last on the path, while at most `left` chains are entered.
+#[cycle(chains)]
+fn rules_walk(
+    alloc: Global,
+    scene: &Scene,
+    left: usize,
+    path: &[usize],
+    rules: &[IptRule],
+    m: Passage,
+) -> Result<ChainEnd, Memory>
+    requires { IsSound scene.now.site.now }
+    ensures { IfOk result (λ end. end ≡ rules_walk (chain_walk scene.now.chains.now scene.now.site.now scene.now.entered scene.now.is_est scene.now.hook left path.now) scene.now.site.now scene.now.entered scene.now.is_est scene.now.hook rules.now m) }
+{
+    let mut now = m;
+    for rule in rules {
+        match rule_step(alloc, scene, rule, now)? {
+            Step::Leave(end) => return Ok(end),
+            Step::Onwards(m) => now = m,
+            Step::Call(d, m) => match chain_walk(alloc, scene, left, path, d as usize, m)? {
+                ChainEnd::Through(m) => now = m,
+                end => return Ok(end),
+            },
+            Step::Switch(d, m) => {
+                return chain_walk(alloc, scene, left, path, d as usize, m);
+            }
+        }
+    }
+    Ok(ChainEnd::Through(now))
+}
+
 /// Walks chain `c`, entered from the chains of the path, while at most `left` chains are entered.
-#[tactic(auto, using(crate::proofs::Walks::chain_entered))]
+#[cycle(chains)]
 fn chain_walk(
     alloc: Global,
     scene: &Scene,
@@ -50,23 +80,14 @@ fn chain_walk(
     let mut under = Vec::new(alloc);
     under.push(c)?;
     under.extend_from_slice(path)?;
-    let mut now = m;
-    for rule in rules_at(scene.chains, c) {
-        match rule_step(alloc, scene, rule, now)? {
-            Step::Leave(end) => return Ok(end),
-            Step::Onwards(m) => now = m,
-            Step::Call(d, m) => {
-                match chain_walk(alloc, scene, left - 1, under.as_slice(), d as usize, m)? {
-                    ChainEnd::Through(m) => now = m,
-                    end => return Ok(end),
-                }
-            }
-            Step::Switch(d, m) => {
-                return chain_walk(alloc, scene, left - 1, under.as_slice(), d as usize, m);
-            }
-        }
-    }
-    Ok(ChainEnd::Through(now))
+    rules_walk(
+        alloc,
+        scene,
+        left - 1,
+        under.as_slice(),
+        rules_at(scene.chains, c),
+        m,
+    )
 }
 
 /// Whether the chain with this number accepts at its end.
