@@ -41,6 +41,10 @@ redirecting site port =
     by_entry Recv (λ entry. Dst (host_end (face_addr site entry) port)) 1 (length site.faces + 1)
     ++ ruled (negative (Recv (all_entries site)) ∷ []) (Dst (host_end loopback_addr port)) ∷ []
 
+-- the condition on one side of routing
+abbrev pub at_side : Bool → List Lit → List Lit
+at_side outward cond = cond ++ (if outward then positive Outward else negative Outward) ∷ []
+
 -- NETMAP writes the source in a chain that packets meet as they leave or are delivered, else the destination
 abbrev pub mapping : Bool → Prefix → Act
 mapping on_source net = if on_source then Src (net_end net) else Dst (net_end net)

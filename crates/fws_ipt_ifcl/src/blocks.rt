@@ -1,13 +1,14 @@
 //! The rules to which a rule is unfolded.
 
-ghost use Rattle.std.specs.Prelude.{◌≡◌, ◌+◌, [], ◌∷◌, ◌++◌, length, IfOk, OnOk};
+ghost use Rattle.std.specs.Prelude.{◌≡◌, ◌+◌, [], ◌∷◌, ◌++◌, false, length, IfOk, OnOk};
 ghost use Rattle.fws_net.specs.Routes.{IsSound};
-ghost use Rattle.fws_draw.specs.Rules.{always};
-ghost use Rattle.fws_ipt_ifcl.specs.Blocks.{mapping, masquerading, redirecting, unfolded};
+ghost use Rattle.fws_draw.specs.Rules.{always, ruled};
+ghost use Rattle.fws_ipt_ifcl.specs.Blocks.{all_entries, at_side, guarded_writes, mapping, masquerading, redirecting, unfolded};
+ghost use Rattle.fws_rule.specs.Literals.{positive};
 
-use crate::guards::{all_entries, one_entry, put_guarded};
+use crate::guards::{all_entries, one_entry, put_guarded, put_write};
 use crate::places::file_chain;
-use fws_draw::{always, narrowed, place_behind, put_rule, ruled_by};
+use fws_draw::{narrowed, place_behind, put_rule, ruled_by};
 use fws_ifcl::{Act, Rule};
 use fws_ipt::{IptGo, IptRule};
 use fws_net::{Cond, End, LOOPBACK_ADDR, Site, Test, face_addr};
@@ -68,13 +69,106 @@ fn mapping(on_source: bool, net: Prefix) -> Act
     }
 }
 
-/// One rule that acts everywhere. An error is want of memory.
-fn one_rule(alloc: Global, act: Act) -> Result<Vec<Rule>, Memory>
-    ensures { IfOk result (λ rules. rules.items ≡ always act ∷ []) }
+/// Puts a rule behind the others that acts where the condition holds. An error is want of memory.
+fn put_ruled(alloc: Global, rules: &mut Vec<Rule>, cond: &Cond, act: Act) -> Result<(), Memory>
+    ensures { OnOk result (rules.new.items ≡ rules.old.items ++ ruled cond.now act ∷ []) }
 {
-    let mut rules = Vec::new(alloc);
-    rules.push(always(alloc, act))?;
-    Ok(rules)
+    let cond = cond.copy(alloc)?;
+    put_rule(rules, cond, act)
+}
+
+/// The condition on one side of routing. An error is want of memory.
+fn at_side(alloc: Global, cond: &Cond, outward: bool) -> Result<Cond, Memory>
+    ensures { IfOk result (λ c. c ≡ at_side outward cond.now) }
+{
+    let there = cond.copy(alloc)?;
+    if outward {
+        narrowed(there, positive(Test::Outward))
+    } else {
+        narrowed(there, negative(Test::Outward))
+    }
+}
+
+/// The condition of packets that go out by an interface. An error is want of memory.
+fn leaving(alloc: Global, site: &Site, cond: &Cond) -> Result<Cond, Memory>
+    requires { IsSound site.now }
+    ensures { IfOk result (λ c. c ≡ cond.now ++ positive Test.Outward ∷ positive (Test.Xmit (all_entries site.now)) ∷ []) }
+{
+    let outward = at_side(alloc, cond, true)?;
+    let sent = positive(Test::Xmit(all_entries(alloc, site)?));
+    narrowed(outward, sent)
+}
+
+/// Puts a rule behind the others that writes an end where the condition holds on one side of routing, and
+/// ends the stage there. An error is want of memory.
+fn put_written(
+    alloc: Global,
+    rules: &mut Vec<Rule>,
+    cond: &Cond,
+    outward: bool,
+    act: Act,
+) -> Result<(), Memory>
+    ensures { OnOk result (rules.new.items ≡ rules.old.items ++ guarded_writes (length rules.old.items) (at_side outward cond.now) (always act ∷ [])) }
+{
+    let there = at_side(alloc, cond, outward)?;
+    put_write(alloc, rules, there, act)
+}
+
+/// Puts the rules of MASQUERADE behind the others. An error is want of memory.
+fn put_masquerade(
+    alloc: Global,
+    rules: &mut Vec<Rule>,
+    site: &Site,
+    cond: &Cond,
+) -> Result<(), Memory>
+    requires { IsSound site.now }
+    ensures { OnOk result (rules.new.items ≡ rules.old.items ++ guarded_writes (length rules.old.items) (cond.now ++ positive Test.Outward ∷ positive (Test.Xmit (all_entries site.now)) ∷ []) (masquerading site.now)) }
+{
+    let mut writes = masquerading(alloc, site)?;
+    put_leaving(alloc, rules, site, cond, &mut writes)
+}
+
+/// Puts rules behind the others that write where packets go out by an interface. An error is want of memory.
+fn put_leaving(
+    alloc: Global,
+    rules: &mut Vec<Rule>,
+    site: &Site,
+    cond: &Cond,
+    writes: &mut Vec<Rule>,
+) -> Result<(), Memory>
+    requires { IsSound site.now }
+    ensures { OnOk result (rules.new.items ≡ rules.old.items ++ guarded_writes (length rules.old.items) (cond.now ++ positive Test.Outward ∷ positive (Test.Xmit (all_entries site.now)) ∷ []) writes.old.items) }
+{
+    let there = leaving(alloc, site, cond)?;
+    put_guarded(alloc, rules, there, writes)
+}
+
+/// Puts rules behind the others that write where packets come in. An error is want of memory.
+fn put_coming(
+    alloc: Global,
+    rules: &mut Vec<Rule>,
+    cond: &Cond,
+    writes: &mut Vec<Rule>,
+) -> Result<(), Memory>
+    ensures { OnOk result (rules.new.items ≡ rules.old.items ++ guarded_writes (length rules.old.items) (at_side false cond.now) writes.old.items) }
+{
+    let there = at_side(alloc, cond, false)?;
+    put_guarded(alloc, rules, there, writes)
+}
+
+/// Puts the rules of REDIRECT behind the others. An error is want of memory.
+fn put_redirect(
+    alloc: Global,
+    rules: &mut Vec<Rule>,
+    site: &Site,
+    cond: &Cond,
+    port: Option<u16>,
+) -> Result<(), Memory>
+    requires { IsSound site.now }
+    ensures { OnOk result (rules.new.items ≡ rules.old.items ++ guarded_writes (length rules.old.items) (at_side false cond.now) (redirecting site.now port)) }
+{
+    let mut writes = redirecting(alloc, site, port)?;
+    put_coming(alloc, rules, cond, &mut writes)
 }
 
 /// Puts the rules to which a rule is unfolded behind the others. An error is want of memory.
@@ -88,47 +182,25 @@ pub(crate) fn put_unfolded(
     requires { IsSound site.now }
     ensures { OnOk result (rules.new.items ≡ rules.old.items ++ unfolded site.now on_source (length rules.old.items) rule.now.cond rule.now.go) }
 {
-    let cond = rule.cond.copy(alloc)?;
+    let cond = &rule.cond;
     match rule.go {
-        IptGo::Accept => put_rule(rules, cond, Act::Accept),
-        IptGo::Drop => put_rule(rules, cond, Act::Drop),
-        IptGo::Return => put_rule(rules, cond, Act::Return),
+        IptGo::Accept => put_ruled(alloc, rules, cond, Act::Accept),
+        IptGo::Drop => put_ruled(alloc, rules, cond, Act::Drop),
+        IptGo::Return => put_ruled(alloc, rules, cond, Act::Return),
         IptGo::Next => {
             let next = place_behind(rules.len(), 1)?;
-            put_rule(rules, cond, Act::Skip(next))
+            put_ruled(alloc, rules, cond, Act::Skip(next))
         }
-        IptGo::Jump(c) => put_rule(rules, cond, Act::Call(file_chain(c)?)),
-        IptGo::Goto(c) => put_rule(rules, cond, Act::Goto(file_chain(c)?)),
-        IptGo::Mark(mark) => put_rule(rules, cond, Act::OnlyTag(mark)),
-        IptGo::Source(end) => {
-            let there = narrowed(cond, positive(Test::Outward))?;
-            put_guarded(alloc, rules, there, one_rule(alloc, Act::Src(end))?)
-        }
-        IptGo::Masquerade => {
-            let leaving = narrowed(cond, positive(Test::Outward))?;
-            let sent = positive(Test::Xmit(all_entries(alloc, site)?));
-            put_guarded(
-                alloc,
-                rules,
-                narrowed(leaving, sent)?,
-                masquerading(alloc, site)?,
-            )
-        }
-        IptGo::Dest(end) => {
-            let there = narrowed(cond, negative(Test::Outward))?;
-            put_guarded(alloc, rules, there, one_rule(alloc, Act::Dst(end))?)
-        }
-        IptGo::Redirect(port) => {
-            let there = narrowed(cond, negative(Test::Outward))?;
-            put_guarded(alloc, rules, there, redirecting(alloc, site, port)?)
-        }
+        IptGo::Jump(c) => put_ruled(alloc, rules, cond, Act::Call(file_chain(c)?)),
+        IptGo::Goto(c) => put_ruled(alloc, rules, cond, Act::Goto(file_chain(c)?)),
+        IptGo::Mark(mark) => put_ruled(alloc, rules, cond, Act::OnlyTag(mark)),
+        IptGo::Source(end) => put_written(alloc, rules, cond, true, Act::Src(end)),
+        IptGo::Masquerade => put_masquerade(alloc, rules, site, cond),
+        IptGo::Dest(end) => put_written(alloc, rules, cond, false, Act::Dst(end)),
+        IptGo::Redirect(port) => put_redirect(alloc, rules, site, cond, port),
         IptGo::Netmap(net) => {
-            put_guarded(
-                alloc,
-                rules,
-                cond,
-                one_rule(alloc, mapping(on_source, net))?,
-            )
+            let there = cond.copy(alloc)?;
+            put_write(alloc, rules, there, mapping(on_source, net))
         }
     }
 }

@@ -1,6 +1,7 @@
 //! Entries of interfaces, and rules that write ends where a condition holds.
 
-ghost use Rattle.std.specs.Prelude.{◌≡◌, ◌≤◌, ◌++◌, length, IfOk, OnOk};
+ghost use Rattle.std.specs.Prelude.{◌≡◌, ◌≤◌, ◌++◌, ◌∷◌, [], length, IfOk, OnOk};
+ghost use Rattle.fws_draw.specs.Rules.{always};
 ghost use Rattle.fws_rule.specs.Literals.{one};
 ghost use Rattle.fws_ipt_ifcl.specs.Blocks.{all_entries, guarded_writes};
 
@@ -26,18 +27,34 @@ pub(crate) fn all_entries(alloc: Global, site: &Site) -> Result<Ivs, Memory>
     one(alloc, 1, site.faces.len() as u32 + 1)
 }
 
-/// Puts rules behind the others that write where the condition holds, and end the stage there. An error
+/// Puts the rules behind the others that write where the condition holds, and end the stage there. An error
 /// is want of memory.
 pub(crate) fn put_guarded(
     alloc: Global,
     rules: &mut Vec<Rule>,
     cond: Cond,
-    mut writes: Vec<Rule>,
+    writes: &mut Vec<Rule>,
 ) -> Result<(), Memory>
-    ensures { OnOk result (rules.new.items ≡ rules.old.items ++ guarded_writes (length rules.old.items) cond writes.items) }
+    ensures { OnOk result (rules.new.items ≡ rules.old.items ++ guarded_writes (length rules.old.items) cond writes.old.items) }
 {
-    put_always(alloc, &mut writes, Act::Accept)?;
+    put_always(alloc, writes, Act::Accept)?;
     put_guard(alloc, rules, cond, writes.len())?;
-    rules.append(&mut writes)?;
+    rules.append(writes)?;
+    Ok(())
+}
+
+/// Puts a rule behind the others that writes an end where the condition holds, and ends the stage there. An
+/// error is want of memory.
+pub(crate) fn put_write(
+    alloc: Global,
+    rules: &mut Vec<Rule>,
+    cond: Cond,
+    act: Act,
+) -> Result<(), Memory>
+    ensures { OnOk result (rules.new.items ≡ rules.old.items ++ guarded_writes (length rules.old.items) cond (always act ∷ [])) }
+{
+    put_guard(alloc, rules, cond, 2)?;
+    put_always(alloc, rules, act)?;
+    put_always(alloc, rules, Act::Accept)?;
     Ok(())
 }
