@@ -1,6 +1,6 @@
 //! What was read of a text, with its chains by their names.
 
-ghost use Rattle.std.specs.Prelude.{◌≡◌, ◌&&◌, map, Option, Some, None, IfOk, OnOk};
+ghost use Rattle.std.specs.Prelude.{◌≡◌, ◌&&◌, [], ◌∷◌, ◌++◌, map, Option, Some, None, IfOk, OnOk, OnErr};
 ghost use Rattle.std.specs.List.{list_any};
 ghost use Rattle.fws_ipt.specs.FileText.{fresh_text, is_section, is_hook, opened_at, with_chain, with_other, with_rule};
 ghost use Rattle.fws_ipt.specs.RuleText.{chain_from};
@@ -44,6 +44,26 @@ fn put_rule(chains: &mut [IptChain], n: usize, rule: IptRule) -> Result<(), Memo
     let chain = &mut chains[n];
     chain.rules.put(rule)?;
     Ok(())
+}
+
+/// Puts a chain without rules behind the others.
+fn put_chain(
+    alloc: Global,
+    chains: &mut Items<IptChain>,
+    table: IptTable,
+    name: &[u8],
+    policy: Option<bool>,
+) -> Result<(), Memory>
+    ensures ok { OnOk result (chains.new ≡ chains.old ++ record { table = table; name = name.now; policy = policy; rules = [] } ∷ []) }
+    ensures err { OnErr result (chains.new ≡ chains.old) }
+{
+    let name = Text::of(alloc, name)?;
+    chains.put(IptChain {
+        table,
+        name,
+        policy,
+        rules: Items::new(alloc),
+    })
 }
 
 impl Progress {
@@ -127,14 +147,8 @@ impl Progress {
         requires { chain_from 0 table name.now self.old.chains ≡ None }
         ensures { OnOk result (self.new ≡ with_chain table name.now policy self.old) }
     {
-        let chain = IptChain {
-            table,
-            name: Text::of(alloc, name)?,
-            policy,
-            rules: Items::new(alloc),
-        };
         self.names.put(alloc, table, name)?;
-        match self.draft.chains.put(chain) {
+        match put_chain(alloc, &mut self.draft.chains, table, name, policy) {
             Ok(()) => Ok(()),
             Err(wanting) => {
                 self.names.remove_last();

@@ -3,7 +3,7 @@
 ghost use Rattle.std.specs.Prelude.{◌≡◌, false};
 ghost use Rattle.std.specs.Option.{option_map_or};
 ghost use Rattle.fws_net.specs.Causes.{judged, words_read};
-ghost use Rattle.fws_net.specs.Reading.{CauseGiven, StepGiven};
+ghost use Rattle.fws_net.specs.Reading.{CauseGiven, StepGiven, and_then};
 ghost use Rattle.fws_net.specs.Routes.{IsSound};
 ghost use Rattle.fws_ipt.specs.RuleText.{fresh_rule, target_begun, keyword_step, is_target_option, known_step, any_step, negated_keyword, negated_step, module_step, expected_step, rule_step, is_keyword_next, is_complete, is_misplaced, logs, is_protocol, lacks_protocol, named_len, keeps_network, is_loose, is_rule_left_out, rule_checks, rule_made, rule_of};
 
@@ -16,6 +16,7 @@ use fws_net::{Cause, Checks, Cond, ReadFault, Site};
 use fws_num::{Items, Prefix, Word};
 use fws_rule::is;
 use std::alloc::Global;
+use std::mem;
 
 /// A rule ahead of its first word.
 fn fresh_rule(alloc: Global) -> RuleDraft
@@ -144,13 +145,14 @@ fn expected_step(
     site: &Site,
     reader: &Progress,
     table: IptTable,
+    expects: Expects,
     d: &mut RuleDraft,
     text: &[u8],
 ) -> Result<(), ReadFault>
     requires { IsSound site.now }
-    ensures { StepGiven result d.new (expected_step site.now table reader.now.chains d.old.expects text.now d.old) }
+    ensures { StepGiven result d.new (expected_step site.now table reader.now.chains expects text.now d.old) }
 {
-    match d.expects {
+    match expects {
         Expects::Keyword => any_step(alloc, d, text),
         Expects::Negated => negated_step(alloc, d, text),
         Expects::Value(option, negated) => value_step(alloc, site, d, option, negated, text),
@@ -181,7 +183,15 @@ fn take_word(
     if !word.is_sound() {
         return Err(ReadFault::Bad(Cause::Syntax));
     }
-    expected_step(alloc, site, reader, table, d, word.text.as_slice())
+    expected_step(
+        alloc,
+        site,
+        reader,
+        table,
+        d.expects,
+        d,
+        word.text.as_slice(),
+    )
 }
 
 /// Takes the words of a rule, up to the first that is refused.
@@ -301,26 +311,55 @@ fn lacks_protocol(d: &RuleDraft) -> bool
         || (d.has_icmp && !is_protocol(1, d.protocol))
 }
 
-/// The rule of what was read of it.
-fn make_rule(table: IptTable, hook: Option<Hook>, d: RuleDraft) -> Result<IptRule, ReadFault>
-    ensures { CauseGiven result (rule_made table hook d) }
+/// The rule of a draft, whose condition it takes along.
+fn rule_drawn(alloc: Global, d: &mut RuleDraft) -> IptRule
+    ensures { result ≡ record { cond = d.old.cond; go = d.old.go } }
 {
-    if !is_complete(&d) {
+    IptRule {
+        cond: mem::replace(&mut d.cond, Cond::new(alloc)),
+        go: d.go,
+    }
+}
+
+/// The rule of what was read of it, unless it is refused.
+fn make_rule(
+    alloc: Global,
+    table: IptTable,
+    hook: Option<Hook>,
+    d: &mut RuleDraft,
+) -> Result<IptRule, ReadFault>
+    ensures { CauseGiven result (rule_made table hook d.old) }
+{
+    if !is_complete(d) {
         return Err(ReadFault::Bad(Cause::Syntax));
     }
     let checks = Checks {
-        left_out: is_rule_left_out(table, hook, &d),
+        left_out: is_rule_left_out(table, hook, d),
         backward: false,
-        shape: lacks_protocol(&d),
+        shape: lacks_protocol(d),
         expand: false,
     };
     match checks.first() {
         Some(cause) => Err(ReadFault::Bad(cause)),
-        None => Ok(IptRule {
-            cond: d.cond,
-            go: d.go,
-        }),
+        None => Ok(rule_drawn(alloc, d)),
     }
+}
+
+/// The rule of a draft and of these words behind it.
+fn rule_behind(
+    alloc: Global,
+    site: &Site,
+    reader: &Progress,
+    table: IptTable,
+    hook: Option<Hook>,
+    d: &mut RuleDraft,
+    words: &[Word],
+) -> Result<IptRule, ReadFault>
+    requires { IsSound site.now }
+    ensures { CauseGiven result (and_then (words_read (rule_step site.now table reader.now.chains) d.old words.now) (rule_made table hook)) }
+{
+    take_words(alloc, site, reader, table, d, words)?;
+    make_rule(alloc, table, hook, d)
 }
 
 /// The rule of these words, in a table with the chains that were read. The hook is that of its chain, if
@@ -337,6 +376,5 @@ pub(crate) fn read_rule(
     ensures { CauseGiven result (rule_of site.now table hook reader.now.chains words.now) }
 {
     let mut d = fresh_rule(alloc);
-    take_words(alloc, site, reader, table, &mut d, words)?;
-    make_rule(table, hook, d)
+    rule_behind(alloc, site, reader, table, hook, &mut d, words)
 }

@@ -5,8 +5,8 @@ use Rattle.fws_ipt_read.proofs.progress.Progress.declare.Goals as goal
 
 pub invariant_of-self-in-Ok : goal.invariant_of-self-in-Ok
 invariant_of-self-in-Ok c =
-    with_declared c.args.table c.args.name.now _ _ c.args.self.now.chains _ c.self.inside.names _ _ c.self.invariant (ap (λ d. d.chains) c.self.view_is)
-    c.requires c.in_ok-put.ensures.ok refl c.in_ok-of.ensures c.in-Ok.ensures.ok
+    with_declared c.args.table c.args.name.now c.args.name.now _ c.args.self.now.chains _ c.self.inside.names _ _ c.self.invariant (ap (λ d. d.chains) c.self.view_is)
+    c.requires c.in_ok-put.ensures.ok refl refl c.in-Ok.ensures.ok
 
 pub invariant_of-self-in-Err : goal.invariant_of-self-in-Err
 invariant_of-self-in-Err c =
