@@ -112,12 +112,12 @@ itself_alone n = or_left _ _ (and_from (nat_le n n) (nat_le n n) (le-leb n n (om
 -- Projections
 
 -- what a projection over the entry and flags of a part of a tree gives
-pub fixed_value : (site : Site) (entry flags : ℕ) (tree part t : Plain Bool) (sides : List (List Iv)) → entry ≤ length site.faces + 1 → flags ≤ 63
-    → ((q : List ℕ) → IsWithin (tops_of site) q → sides_have sides q ≡ (has (record { lo = entry; hi = entry } ∷ []) (slice_index q 0) && has (record { lo = flags; hi = flags } ∷ []) (slice_index q 6)))
-    → ((q : List ℕ) → IsWithin (tops_of site) q → value part q ≡ cond (sides_have sides q) (value tree q) (Some false))
+pub fixed_value : (site : Site) (entry flags : ℕ) (tree part t : Plain Bool) → entry ≤ length site.faces + 1 → flags ≤ 63
+    → ((q : List ℕ) → IsWithin (tops_of site) q
+    → value part q ≡ cond (has (record { lo = entry; hi = entry } ∷ []) (slice_index q 0) && has (record { lo = flags; hi = flags } ∷ []) (slice_index q 6)) (value tree q) (Some false))
     → ((x : List ℕ) → IsWithin (tops_of site) x → (b : Bool) × (value t x ≡ Some b) × (IsTrue b ↔ IsTrueSomewhere (tops_of site) 65 part x))
     → (x : List ℕ) → IsWithin (tops_of site) x → value t x ≡ Some (truth tree (framed entry flags x))
-fixed_value site entry flags tree part t sides low_entry low_flags sided restricted projected x w =
+fixed_value site entry flags tree part t low_entry low_flags restricted projected x w =
     let here = projected x w in
     here.1 ∙ ap Some (same here.0 (truth tree (framed entry flags x)) (λ h. forth (here.2.0 h)) (λ h. here.2.1 (back h))) where
       same : (a b : Bool) → (a ≡ true → b ≡ true) → (b ≡ true → a ≡ true) → a ≡ b
@@ -140,8 +140,9 @@ fixed_value site entry flags tree part t sides low_entry low_flags sided restric
       forth : IsTrueSomewhere (tops_of site) 65 part x → truth tree (framed entry flags x) ≡ true
       forth somewhere =
           let q = somewhere.0 in
-          let both = only (sides_have sides q) (value tree q) (sym (restricted q somewhere.1) ∙ somewhere.3) in
-          let in_both = and_parts (has (record { lo = entry; hi = entry } ∷ []) (slice_index q 0)) (has (record { lo = flags; hi = flags } ∷ []) (slice_index q 6)) (sym (sided q somewhere.1) ∙ both.0) in
+          let both =
+          only (has (record { lo = entry; hi = entry } ∷ []) (slice_index q 0) && has (record { lo = flags; hi = flags } ∷ []) (slice_index q 6)) (value tree q) (sym (restricted q somewhere.1) ∙ somewhere.3) in
+          let in_both = and_parts (has (record { lo = entry; hi = entry } ∷ []) (slice_index q 0)) (has (record { lo = flags; hi = flags } ∷ []) (slice_index q 6)) both.0 in
           ap (truth tree) (framed_is entry flags x q (within_length (tops_of site) q somewhere.1) somewhere.2 (alone entry (slice_index q 0) in_both.0) (alone flags (slice_index q 6) in_both.1))
           ∙ ap (λ (o : Option Bool). unwrap_or o false) both.1
 
@@ -152,7 +153,7 @@ fixed_value site entry flags tree part t sides low_entry low_flags sided restric
             q,
             v,
             subst (λ (l : List ℕ). Agree 65 l q) (point_back site x w) (agree_framed entry flags x),
-            restricted q v ∙ ap (λ (b : Bool). cond b (value tree q) (Some false)) (sided q v ∙ and_from _ _ (itself_alone entry) (itself_alone flags)) ∙ some_value (value tree q) h,
+            restricted q v ∙ ap (λ (b : Bool). cond b (value tree q) (Some false)) (and_from _ _ (itself_alone entry) (itself_alone flags)) ∙ some_value (value tree q) h,
           )
 
 -- Whole projections

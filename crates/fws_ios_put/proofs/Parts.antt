@@ -160,6 +160,43 @@ marked_as site permit f g h k block fs gs marked = record {
 
 -- What is needed lies within
 
+pub needed_inside : (tcp within excused : Bool) → (tcp && (within && not excused)) ≡ true → (tcp && within) ≡ true
+needed_inside true true excused h = refl
+needed_inside true false excused h = h
+needed_inside false within excused h = h
+
+-- what is needed isn't excused by what isn't needed
+pub twice_denied : (needed tcp within : Bool) → (needed ≡ true → (tcp && within) ≡ true) → needed ≡ (tcp && (within && not (not needed)))
+twice_denied true true true h = refl
+twice_denied true true false h = sym (h refl)
+twice_denied true false within h = sym (h refl)
+twice_denied false true true h = refl
+twice_denied false true false h = refl
+twice_denied false false within h = refl
+
+-- a block for what is needed
+pub marked_needed : (site : Site) (permit : Bool) (within excused needed : List ℕ → Bool) (block : List IosEntry)
+    → ((x : List ℕ) → IsWithin (tops_of site) x → needed x ≡ (is_tcp x && (within x && not (excused x))))
+    → IsMarkedBlock site permit within (λ x. not (needed x)) block → IsMarkedBlock site permit within excused block
+marked_needed site permit within excused needed block is marked = record {
+  formed = marked.formed;
+  decides = λ k m x s.
+      let here = marked.decides k m x s in (
+        here.0,
+        here.1,
+        record {
+          marked = here.2.marked;
+          sound = here.2.sound;
+          whole = λ flagged tcp inside. here.2.whole flagged tcp (by (is_tcp x) (within x) (excused x) (needed x) (is x s.within) tcp inside);
+        },
+      );
+} where
+  by : (t w e n : Bool) → n ≡ (t && (w && not e)) → t ≡ true → (w && not e) ≡ true → (w && not (not n)) ≡ true
+  by t w e n is tcp inside =
+      let both = and_parts w (not e) inside in
+      let wanted : n ≡ true = is ∙ and_from t (w && not e) tcp inside in
+      and_from w (not (not n)) both.0 (ap (λ (b : Bool). not (not b)) wanted)
+
 pub needed_within : (site : Site) (within excused : List ℕ → Bool) (n w : Plain Bool) → ((x : List ℕ) → IsWithin (tops_of site) x → value n x ≡ Some (is_tcp x && (within x && not (excused x))))
     → ((x : List ℕ) → IsWithin (tops_of site) x → value w x ≡ Some (is_tcp x && within x))
     → (x : List ℕ) → IsWithin (tops_of site) x → value n x ≡ Some true → (value w x ≡ Some true) × (slice_index x 1 ≡ 6)

@@ -1,10 +1,12 @@
 //! Lists for packets that come in.
 
-ghost use Rattle.std.specs.Prelude.{◌≡◌, ◌++◌, not, false, List, IfOk, OnOk};
+ghost use Rattle.std.specs.Prelude.{◌≡◌, ◌++◌, ◌&&◌, not, true, false, ℕ, List, IfOk, OnOk};
+ghost use Rattle.fws_box.specs.Sides.{IsWithin};
 ghost use Rattle.fws_ios.specs.declared.config.IosEntry.{IosEntry};
+ghost use Rattle.fws_net.specs.Points.{tops_of};
 ghost use Rattle.fws_net.specs.Routes.{IsSound};
 ghost use Rattle.fws_ios_put.specs.Blocks.{IsAhead, IsBack, IsDeniedBlock, IsFront, IsListOf, IsMarkedBlock};
-ghost use Rattle.fws_ios_put.specs.Choices.{truth, AreAskable, IsAskable, NoneAlone, NoneDenied};
+ghost use Rattle.fws_ios_put.specs.Choices.{is_tcp, truth, AreAskable, IsAskable, NoneAlone, NoneDenied};
 
 use crate::choices::Choices;
 use crate::fixing::{is_somewhere, of_tcp};
@@ -17,6 +19,49 @@ use fws_net::Site;
 use fws_num::{Items, Memory};
 use fws_tree::Tree;
 use std::alloc::Global;
+
+// Where packets of TCP are in the first set and not in the second one. An error is want of memory.
+fn needed_of(
+    alloc: Global,
+    site: &Site,
+    within: &Tree<bool>,
+    excused: &Tree<bool>,
+) -> Result<Tree<bool>, Memory>
+    requires sound { IsSound site.now }
+    requires within { IsAskable site.now within.now }
+    requires excused { IsAskable site.now excused.now }
+    ensures askable { IfOk result (λ t. IsAskable site.now t) }
+    ensures value { IfOk result (λ t. (x : List ℕ) → IsWithin (tops_of site.now) x → truth t.1 x ≡ (is_tcp x && (truth within.now.1 x && not (truth excused.now.1 x)))) }
+{
+    let wanted = without(alloc, site, within, excused)?;
+    of_tcp(alloc, site, &wanted)
+}
+
+// Appends entries that permit packets of TCP with ACK or RST or deny them: all of these where the first tree is true, and none but
+// those where the second one is. An error is want of memory.
+fn put_needed(
+    alloc: Global,
+    entries: &mut Items<IosEntry>,
+    site: &Site,
+    needed: &Tree<bool>,
+    within: &Tree<bool>,
+    permit: bool,
+) -> Result<(), Memory>
+    requires sound { IsSound site.now }
+    requires needed { IsAskable site.now needed.now }
+    requires within { IsAskable site.now within.now }
+    requires part { (x : List ℕ) → IsWithin (tops_of site.now) x → truth needed.now.1 x ≡ true → (is_tcp x && truth within.now.1 x) ≡ true }
+    ensures { OnOk result ((block : List IosEntry) × (entries.new ≡ entries.old ++ block) × IsMarkedBlock site.now permit (truth within.now.1) (λ x. not (truth needed.now.1 x)) block) }
+{
+    let around = of_tcp(alloc, site, within)?;
+    let act = Act {
+        permit,
+        reflect: permit,
+        established: true,
+    };
+    put_cover(alloc, entries, site, needed, &around, act)?;
+    Ok(())
+}
 
 // Appends entries that permit packets of TCP with ACK or RST or deny them: none but those where the first tree is true, and
 // all of these where the second one isn't. An error is want of memory.
@@ -33,15 +78,27 @@ fn put_marked(
     requires excused { IsAskable site.now excused.now }
     ensures { OnOk result ((block : List IosEntry) × (entries.new ≡ entries.old ++ block) × IsMarkedBlock site.now permit (truth within.now.1) (truth excused.now.1) block) }
 {
-    let wanted = without(alloc, site, within, excused)?;
-    let needed = of_tcp(alloc, site, &wanted)?;
-    let around = of_tcp(alloc, site, within)?;
-    let act = Act {
-        permit,
-        reflect: permit,
-        established: true,
-    };
-    put_cover(alloc, entries, site, &needed, &around, act)?;
+    let needed = needed_of(alloc, site, within, excused)?;
+    put_needed(alloc, entries, site, &needed, within, permit)?;
+    Ok(())
+}
+
+// Appends entries that deny packets of TCP with ACK or RST: none but those where the first tree is true, and all of these where
+// the second one isn't true either. An error is want of memory.
+fn put_outside(
+    alloc: Global,
+    entries: &mut Items<IosEntry>,
+    site: &Site,
+    outside: &Tree<bool>,
+    plain: &Tree<bool>,
+) -> Result<(), Memory>
+    requires sound { IsSound site.now }
+    requires outside { IsAskable site.now outside.now }
+    requires plain { IsAskable site.now plain.now }
+    ensures { OnOk result ((block : List IosEntry) × (entries.new ≡ entries.old ++ block) × IsMarkedBlock site.now false (truth outside.now.1) (λ x. not (truth plain.now.1 x)) block) }
+{
+    let excused = negated(alloc, site, plain)?;
+    put_marked(alloc, entries, site, outside, &excused, false)?;
     Ok(())
 }
 
@@ -60,8 +117,7 @@ fn put_lacking(
     ensures { OnOk result ((block : List IosEntry) × (entries.new ≡ entries.old ++ block) × IsMarkedBlock site.now false (λ x. not (truth acked.now.1 x)) (λ x. not (truth plain.now.1 x)) block) }
 {
     let outside = negated(alloc, site, acked)?;
-    let excused = negated(alloc, site, plain)?;
-    put_marked(alloc, entries, site, &outside, &excused, false)?;
+    put_outside(alloc, entries, site, &outside, plain)?;
     Ok(())
 }
 
@@ -103,20 +159,76 @@ fn put_ahead(
     Ok(())
 }
 
+// Whether the first tree is true at some point where the second one isn't. An error is want of memory.
+fn is_beyond(
+    alloc: Global,
+    site: &Site,
+    tree: &Tree<bool>,
+    other: &Tree<bool>,
+) -> Result<bool, Memory>
+    requires tree { IsAskable site.now tree.now }
+    requires other { IsAskable site.now other.now }
+    ensures { IfOk result (λ b. b ≡ false → (x : List ℕ) → IsWithin (tops_of site.now) x → truth tree.now.1 x ≡ true → truth other.now.1 x ≡ true) }
+{
+    let beyond = without(alloc, site, tree, other)?;
+    is_somewhere(alloc, site, &beyond)
+}
+
+// Whether the tree isn't true at some point. An error is want of memory.
+fn is_lacking(alloc: Global, site: &Site, tree: &Tree<bool>) -> Result<bool, Memory>
+    requires { IsAskable site.now tree.now }
+    ensures { IfOk result (λ b. b ≡ false → (x : List ℕ) → IsWithin (tops_of site.now) x → truth tree.now.1 x ≡ true) }
+{
+    let none = negated(alloc, site, tree)?;
+    is_somewhere(alloc, site, &none)
+}
+
+// Whether the tree is true at some point of TCP. An error is want of memory.
+fn is_for_tcp(alloc: Global, site: &Site, tree: &Tree<bool>) -> Result<bool, Memory>
+    requires sound { IsSound site.now }
+    requires tree { IsAskable site.now tree.now }
+    ensures { IfOk result (λ b. b ≡ false → (x : List ℕ) → IsWithin (tops_of site.now) x → is_tcp x ≡ true → truth tree.now.1 x ≡ false) }
+{
+    let tcp = of_tcp(alloc, site, tree)?;
+    is_somewhere(alloc, site, &tcp)
+}
+
+// Whether the first tree is true at some point of TCP where the second one isn't. An error is want of memory.
+fn is_beyond_for_tcp(
+    alloc: Global,
+    site: &Site,
+    tree: &Tree<bool>,
+    other: &Tree<bool>,
+) -> Result<bool, Memory>
+    requires sound { IsSound site.now }
+    requires tree { IsAskable site.now tree.now }
+    requires other { IsAskable site.now other.now }
+    ensures { IfOk result (λ b. b ≡ false → (x : List ℕ) → IsWithin (tops_of site.now) x → is_tcp x ≡ true → truth tree.now.1 x ≡ true → truth other.now.1 x ≡ true) }
+{
+    let beyond = without(alloc, site, tree, other)?;
+    is_for_tcp(alloc, site, &beyond)
+}
+
+// Whether the tree isn't true at some point of TCP. An error is want of memory.
+fn is_lacking_for_tcp(alloc: Global, site: &Site, tree: &Tree<bool>) -> Result<bool, Memory>
+    requires sound { IsSound site.now }
+    requires tree { IsAskable site.now tree.now }
+    ensures { IfOk result (λ b. b ≡ false → (x : List ℕ) → IsWithin (tops_of site.now) x → is_tcp x ≡ true → truth tree.now.1 x ≡ true) }
+{
+    let none = negated(alloc, site, tree)?;
+    is_for_tcp(alloc, site, &none)
+}
+
 // Whether packets of connections are permitted that aren't as new ones. An error is want of memory.
 fn some_alone(alloc: Global, site: &Site, c: &Choices) -> Result<bool, Memory>
     requires sound { IsSound site.now }
     requires askable { AreAskable site.now c.now }
     ensures { IfOk result (λ b. b ≡ false → NoneAlone site.now c.now) }
 {
-    let alone = without(alloc, site, &c.known, &c.fresh)?;
-    if is_somewhere(alloc, site, &alone)? {
+    if is_beyond(alloc, site, &c.known, &c.fresh)? {
         return Ok(true);
     }
-    let acked = without(alloc, site, &c.acked_known, &c.acked_fresh)?;
-    let tcp = of_tcp(alloc, site, &acked)?;
-    let answer = is_somewhere(alloc, site, &tcp)?;
-    Ok(answer)
+    is_beyond_for_tcp(alloc, site, &c.acked_known, &c.acked_fresh)
 }
 
 // Whether packets are denied in all connections. An error is want of memory.
@@ -125,14 +237,10 @@ fn some_denied(alloc: Global, site: &Site, c: &Choices) -> Result<bool, Memory>
     requires askable { AreAskable site.now c.now }
     ensures { IfOk result (λ b. b ≡ false → NoneDenied site.now c.now) }
 {
-    let none = negated(alloc, site, &c.known)?;
-    if is_somewhere(alloc, site, &none)? {
+    if is_lacking(alloc, site, &c.known)? {
         return Ok(true);
     }
-    let acked = negated(alloc, site, &c.acked_known)?;
-    let tcp = of_tcp(alloc, site, &acked)?;
-    let answer = is_somewhere(alloc, site, &tcp)?;
-    Ok(answer)
+    is_lacking_for_tcp(alloc, site, &c.acked_known)
 }
 
 // Appends what stands ahead of the entries for new packets. An error is want of memory.

@@ -1,12 +1,13 @@
 //! Trees of truth values for packets of one kind.
 
-ghost use Rattle.std.specs.Prelude.{◌≡◌, ◌&&◌, not, ◌+◌, ◌-◌, ◌^◌, ◌≤◌, ℕ, false, length, List, IfOk};
-ghost use Rattle.fws_box.specs.Sides.{IsWithin};
+ghost use Rattle.std.specs.Prelude.{◌≡◌, ◌&&◌, not, ◌+◌, ◌-◌, ◌^◌, ◌≤◌, ℕ, false, Some, length, slice_index, List, [], ◌∷◌, if◌then◌else◌, IfOk};
+ghost use Rattle.fws_box.specs.Sides.{IsWithin, sides_have};
 ghost use Rattle.fws_iv.specs.Ivs.{has};
 ghost use Rattle.fws_net.specs.Points.{tops_of};
 ghost use Rattle.fws_net.specs.Routes.{is_local, IsSound};
 ghost use Rattle.fws_sight.specs.declared.seen.Seen.TheVariants.{Entered};
 ghost use Rattle.fws_sight.specs.Shown.{IsTold};
+ghost use Rattle.fws_tree.specs.Plain.{value};
 ghost use Rattle.fws_ios_put.specs.Choices.{framed, is_stray, is_tcp, truth, IsAskable, IsNowhere};
 
 use fws_box::whole_sides;
@@ -58,6 +59,35 @@ pub(crate) fn of_strays(alloc: Global, site: &Site, tree: &Tree<bool>) -> Result
 // The fields of the entry and of flags.
 const ENTRY_AND_FLAGS: u16 = 0x41;
 
+// The sides of the points with this entry and these flags. An error is want of memory.
+fn framed_sides(alloc: Global, site: &Site, entry: u8, flags: u8) -> Result<[Ivs; 12], Memory>
+    requires { IsSound site.now }
+    ensures { IfOk result (λ sides. (q : List ℕ) → IsWithin (tops_of site.now) q → sides_have sides q ≡ (has (record { lo = entry; hi = entry } ∷ []) (slice_index q 0) && has (record { lo = flags; hi = flags } ∷ []) (slice_index q 6))) }
+{
+    let tops = tops(site);
+    let mut sides = whole_sides(alloc, &tops)?;
+    sides[0] = one(alloc, entry as u32, entry as u32)?;
+    sides[6] = one(alloc, flags as u32, flags as u32)?;
+    Ok(sides)
+}
+
+// The tree that is this one at points with this entry and these flags, and false elsewhere. An error is want of memory.
+fn framed_part(
+    alloc: Global,
+    site: &Site,
+    tree: &Tree<bool>,
+    entry: u8,
+    flags: u8,
+) -> Result<Tree<bool>, Memory>
+    requires sound { IsSound site.now }
+    requires tops { tree.now.0 ≡ tops_of site.now }
+    ensures tops { IfOk result (λ t. t.0 ≡ tree.now.0) }
+    ensures value { IfOk result (λ t. (q : List ℕ) → IsWithin (tops_of site.now) q → value t.1 q ≡ (if has (record { lo = entry; hi = entry } ∷ []) (slice_index q 0) && has (record { lo = flags; hi = flags } ∷ []) (slice_index q 6) then value tree.now.1 q else Some false)) }
+{
+    let sides = framed_sides(alloc, site, entry, flags)?;
+    tree.restrict(alloc, &sides, false)
+}
+
 /// The tree as it is at points with this entry and these flags. An error is want of memory.
 pub(crate) fn fixed(
     alloc: Global,
@@ -74,11 +104,7 @@ pub(crate) fn fixed(
     ensures askable { IfOk result (λ t. IsAskable site.now t) }
     ensures value { IfOk result (λ t. (x : List ℕ) → IsWithin (tops_of site.now) x → truth t.1 x ≡ truth tree.now.1 (framed entry flags x)) }
 {
-    let tops = tops(site);
-    let mut sides = whole_sides(alloc, &tops)?;
-    sides[0] = one(alloc, entry as u32, entry as u32)?;
-    sides[6] = one(alloc, flags as u32, flags as u32)?;
-    let part = tree.restrict(alloc, &sides, false)?;
+    let part = framed_part(alloc, site, tree, entry, flags)?;
     let fixed = part.exists(alloc, ENTRY_AND_FLAGS)?;
     Ok(fixed)
 }

@@ -6,16 +6,36 @@ ghost use Rattle.fws_net.specs.Routes.{IsSound};
 ghost use Rattle.fws_net.specs.SiteLaws.{IsOrderly};
 ghost use Rattle.fws_sight.specs.declared.seen.Seen.TheVariants.{Entered};
 ghost use Rattle.fws_sight.specs.Shown.{IsTold};
-ghost use Rattle.fws_ios_put.specs.Layout.{groups_of, leader, AreLeaders, AreLists, IsOwnList, IsPut};
+ghost use Rattle.fws_ios_put.specs.Layout.{groups_of, leader, AreLeaders, AreLists, IsEntryList, IsOwnList, IsPut};
 
 use crate::blocks::list_of;
 use crate::making::choices_of;
 use crate::naming::list_name;
-use fws_ios::{IosGroup, IosList};
+use fws_ios::{IosEntry, IosGroup, IosList};
 use fws_net::Site;
 use fws_num::{Items, Memory};
 use fws_tree::Tree;
 use std::alloc::Global;
+
+// The entries of the list of an entry. An error is want of memory.
+fn own_entries(
+    alloc: Global,
+    site: &Site,
+    new: &Tree<bool>,
+    known: &Tree<bool>,
+    entry: u8,
+) -> Result<Items<IosEntry>, Memory>
+    requires sound { IsSound site.now }
+    requires new_tops { new.now.0 ≡ tops_of site.now }
+    requires known_tops { known.now.0 ≡ tops_of site.now }
+    requires new_told { IsTold Entered (tops_of site.now) new.now.1 }
+    requires known_told { IsTold Entered (tops_of site.now) known.now.1 }
+    requires entry { entry ≤ length site.now.faces + 1 }
+    ensures { IfOk result (IsEntryList site.now new.now.1 known.now.1 entry) }
+{
+    let choices = choices_of(alloc, site, new, known, entry)?;
+    list_of(alloc, site, &choices)
+}
 
 // The list of an entry. An error is want of memory.
 fn own_list(
@@ -36,8 +56,7 @@ fn own_list(
     requires high { entry ≤ length leaders.now }
     ensures { IfOk result (IsOwnList site.now new.now.1 known.now.1 leaders.now entry) }
 {
-    let choices = choices_of(alloc, site, new, known, entry)?;
-    let entries = list_of(alloc, site, &choices)?;
+    let entries = own_entries(alloc, site, new, known, entry)?;
     let name = list_name(alloc, site, leaders, entry)?;
     Ok(IosList { name, entries })
 }

@@ -6,7 +6,7 @@ ghost use Rattle.fws_net.specs.Points.{tops_of};
 ghost use Rattle.fws_net.specs.Routes.{IsSound};
 ghost use Rattle.fws_sight.specs.declared.seen.Seen.TheVariants.{Entered};
 ghost use Rattle.fws_sight.specs.Shown.{IsTold};
-ghost use Rattle.fws_ios_put.specs.Choices.{is_stray, is_tcp, truth, AreAskable, AreMadeOf, IsAskable};
+ghost use Rattle.fws_ios_put.specs.Choices.{framed, is_stray, is_tcp, truth, AreAskable, AreMadeOf, IsAskable};
 
 use crate::choices::Choices;
 use crate::fixing::{fixed, of_strays, of_tcp};
@@ -15,6 +15,40 @@ use fws_net::Site;
 use fws_num::Memory;
 use fws_tree::Tree;
 use std::alloc::Global;
+
+// Where packets that are lost where they arrive are known with ACK alone. An error is want of memory.
+fn known_strays(
+    alloc: Global,
+    site: &Site,
+    acked_known: &Tree<bool>,
+    known: &Tree<bool>,
+) -> Result<Tree<bool>, Memory>
+    requires sound { IsSound site.now }
+    requires acked_known { IsAskable site.now acked_known.now }
+    requires known { IsAskable site.now known.now }
+    ensures askable { IfOk result (λ t. IsAskable site.now t) }
+    ensures value { IfOk result (λ t. (x : List ℕ) → IsWithin (tops_of site.now) x → truth t.1 x ≡ (is_stray site.now x && (truth acked_known.now.1 x && not (truth known.now.1 x)))) }
+{
+    let alone = without(alloc, site, acked_known, known)?;
+    of_strays(alloc, site, &alone)
+}
+
+// Where those are packets of TCP. An error is want of memory.
+fn tcp_strays(
+    alloc: Global,
+    site: &Site,
+    acked_known: &Tree<bool>,
+    known: &Tree<bool>,
+) -> Result<Tree<bool>, Memory>
+    requires sound { IsSound site.now }
+    requires acked_known { IsAskable site.now acked_known.now }
+    requires known { IsAskable site.now known.now }
+    ensures askable { IfOk result (λ t. IsAskable site.now t) }
+    ensures value { IfOk result (λ t. (x : List ℕ) → IsWithin (tops_of site.now) x → truth t.1 x ≡ (is_tcp x && (is_stray site.now x && (truth acked_known.now.1 x && not (truth known.now.1 x))))) }
+{
+    let strays = known_strays(alloc, site, acked_known, known)?;
+    of_tcp(alloc, site, &strays)
+}
 
 // Where new packets with ACK may be permitted: besides where they are, also where they are lost and are known with ACK alone. An
 // error is want of memory.
@@ -32,12 +66,94 @@ fn with_strays(
     ensures askable { IfOk result (λ t. IsAskable site.now t) }
     ensures value { IfOk result (λ t. (x : List ℕ) → IsWithin (tops_of site.now) x → truth t.1 x ≡ (truth own.now.1 x || (is_tcp x && (is_stray site.now x && (truth acked_known.now.1 x && not (truth known.now.1 x)))))) }
 {
-    let alone = without(alloc, site, acked_known, known)?;
-    let strays = of_strays(alloc, site, &alone)?;
-    let tcp = of_tcp(alloc, site, &strays)?;
-    let all = either(alloc, site, own, &tcp)?;
-    Ok(all)
+    let strays = tcp_strays(alloc, site, acked_known, known)?;
+    either(alloc, site, own, &strays)
 }
+
+// Where packets with ACK that come in by an entry may be permitted as new ones, by what trees tell of new packets and of those of
+// connections. An error is want of memory.
+fn acked_fresh(
+    alloc: Global,
+    site: &Site,
+    new: &Tree<bool>,
+    acked_known: &Tree<bool>,
+    known: &Tree<bool>,
+    entry: u8,
+) -> Result<Tree<bool>, Memory>
+    requires sound { IsSound site.now }
+    requires tops { new.now.0 ≡ tops_of site.now }
+    requires told { IsTold Entered (tops_of site.now) new.now.1 }
+    requires acked_known { IsAskable site.now acked_known.now }
+    requires known { IsAskable site.now known.now }
+    requires entry { entry ≤ length site.now.faces + 1 }
+    ensures askable { IfOk result (λ t. IsAskable site.now t) }
+    ensures value { IfOk result (λ t. (x : List ℕ) → IsWithin (tops_of site.now) x → truth t.1 x ≡ (truth new.now.1 (framed entry 16 x) || (is_tcp x && (is_stray site.now x && (truth acked_known.now.1 x && not (truth known.now.1 x)))))) }
+{
+    let own = fixed(alloc, site, new, entry, 16)?;
+    with_strays(alloc, site, &own, acked_known, known)
+}
+
+// Which packets that come in by an entry are permitted in some connection, without flags and with ACK, by what a tree tells of
+// those. An error is want of memory.
+fn known_kinds(
+    alloc: Global,
+    site: &Site,
+    known: &Tree<bool>,
+    entry: u8,
+) -> Result<(Tree<bool>, Tree<bool>), Memory>
+    requires sound { IsSound site.now }
+    requires tops { known.now.0 ≡ tops_of site.now }
+    requires told { IsTold Entered (tops_of site.now) known.now.1 }
+    requires entry { entry ≤ length site.now.faces + 1 }
+    ensures askable { IfOk result (λ kinds. IsAskable site.now kinds.0) }
+    ensures acked_askable { IfOk result (λ kinds. IsAskable site.now kinds.1) }
+    ensures value { IfOk result (λ kinds. (x : List ℕ) → IsWithin (tops_of site.now) x → truth kinds.0.1 x ≡ truth known.now.1 (framed entry 0 x)) }
+    ensures acked_value { IfOk result (λ kinds. (x : List ℕ) → IsWithin (tops_of site.now) x → truth kinds.1.1 x ≡ truth known.now.1 (framed entry 16 x)) }
+{
+    let plain = fixed(alloc, site, known, entry, 0)?;
+    let acked = fixed(alloc, site, known, entry, 16)?;
+    Ok((plain, acked))
+}
+
+// Which of them are permitted as new ones, by what a tree tells of those. An error is want of memory.
+fn fresh_kinds(
+    alloc: Global,
+    site: &Site,
+    new: &Tree<bool>,
+    acked_known: &Tree<bool>,
+    known: &Tree<bool>,
+    entry: u8,
+) -> Result<(Tree<bool>, Tree<bool>), Memory>
+    requires sound { IsSound site.now }
+    requires tops { new.now.0 ≡ tops_of site.now }
+    requires told { IsTold Entered (tops_of site.now) new.now.1 }
+    requires acked_known { IsAskable site.now acked_known.now }
+    requires known { IsAskable site.now known.now }
+    requires entry { entry ≤ length site.now.faces + 1 }
+    ensures askable { IfOk result (λ kinds. IsAskable site.now kinds.0) }
+    ensures acked_askable { IfOk result (λ kinds. IsAskable site.now kinds.1) }
+    ensures value { IfOk result (λ kinds. (x : List ℕ) → IsWithin (tops_of site.now) x → truth kinds.0.1 x ≡ truth new.now.1 (framed entry 0 x)) }
+    ensures acked_value { IfOk result (λ kinds. (x : List ℕ) → IsWithin (tops_of site.now) x → truth kinds.1.1 x ≡ (truth new.now.1 (framed entry 16 x) || (is_tcp x && (is_stray site.now x && (truth acked_known.now.1 x && not (truth known.now.1 x)))))) }
+{
+    let plain = fixed(alloc, site, new, entry, 0)?;
+    let acked = acked_fresh(alloc, site, new, acked_known, known, entry)?;
+    Ok((plain, acked))
+}
+
+// The choices of these kinds of packets.
+fn chosen(fresh: (Tree<bool>, Tree<bool>), known: (Tree<bool>, Tree<bool>)) -> Choices
+    ensures { result ≡ record { fresh = fresh.0; known = known.0; acked_fresh = fresh.1; acked_known = known.1 } }
+{
+    Choices {
+        fresh: fresh.0,
+        known: known.0,
+        acked_fresh: fresh.1,
+        acked_known: known.1,
+    }
+}
+
+// Trees that aren't wanted any more.
+fn dismiss(_kinds: (Tree<bool>, Tree<bool>)) {}
 
 /// The choices of the packets that come in by an entry, by what trees tell of new packets and of those that are accepted in
 /// some connection. An error is want of memory.
@@ -57,15 +173,12 @@ pub(crate) fn choices_of(
     ensures askable { IfOk result (λ c. AreAskable site.now c) }
     ensures made { IfOk result (λ c. AreMadeOf site.now new.now.1 known.now.1 entry c) }
 {
-    let fresh = fixed(alloc, site, new, entry, 0)?;
-    let plain = fixed(alloc, site, known, entry, 0)?;
-    let acked_known = fixed(alloc, site, known, entry, 16)?;
-    let own = fixed(alloc, site, new, entry, 16)?;
-    let acked_fresh = with_strays(alloc, site, &own, &acked_known, &plain)?;
-    Ok(Choices {
-        fresh,
-        known: plain,
-        acked_fresh,
-        acked_known,
-    })
+    let kinds = known_kinds(alloc, site, known, entry)?;
+    match fresh_kinds(alloc, site, new, &kinds.1, &kinds.0, entry) {
+        Ok(fresh) => Ok(chosen(fresh, kinds)),
+        Err(fault) => {
+            dismiss(kinds);
+            Err(fault)
+        }
+    }
 }

@@ -6,6 +6,7 @@ ghost use Rattle.fws_net.specs.SiteLaws.{IsOrderly};
 ghost use Rattle.fws_net.specs.declared.packet.Lang.TheVariants as langs;
 ghost use Rattle.fws_place.specs.Fits.{Fits, IsBreach};
 ghost use Rattle.fws_tree.specs.Regular.{AreRegular};
+ghost use Rattle.fws_ios_put.specs.Choices.{TellsKnown, TellsNew};
 ghost use Rattle.fws_ios_put.specs.Placed.{IsPlaced};
 
 use crate::drafting::drafted;
@@ -19,15 +20,24 @@ use fws_place::{
     ios_established_by_ack, ios_host_passes, ios_keeps_new_packets, ios_new_by_ack,
     ios_pairs_are_told, lost_pairs_are_dropped,
 };
-use fws_tree::Tables;
+use fws_tree::{Tables, Tree};
 use std::alloc::Global;
 
-/// The configuration of tables that fit. An error is want of memory.
-fn put_tables(alloc: Global, site: &Site, t: &Tables) -> Result<IosConfig, Memory>
+/// The configuration of tables that fit, by what trees tell of new packets and of those that are accepted in some connection.
+/// An error is want of memory.
+fn put_told(
+    alloc: Global,
+    site: &Site,
+    t: &Tables,
+    new: &Tree<bool>,
+    known: &Tree<bool>,
+) -> Result<IosConfig, Memory>
     requires sound { IsSound site.now }
     requires orderly { IsOrderly site.now }
     requires regular { AreRegular site.now t.now }
     requires fits { Fits langs.Ios site.now t.now }
+    requires new { TellsNew site.now t.now new.now }
+    requires known { TellsKnown site.now t.now known.now }
     ensures { IfOk result (IsPlaced site.now t.now) }
 {
     ios_accepted_go_on();
@@ -38,11 +48,34 @@ fn put_tables(alloc: Global, site: &Site, t: &Tables) -> Result<IosConfig, Memor
     ios_new_by_ack();
     ios_pairs_are_told();
     lost_pairs_are_dropped();
-    let new = new_tree(alloc, site, t)?;
-    let known = known_tree(alloc, site, t)?;
-    let leaders = leaders_of(alloc, &new, &known, site.faces.len() as u8 + 1)?;
-    let config = drafted(alloc, site, t, &new, &known, leaders.as_slice())?;
+    let leaders = leaders_of(alloc, new, known, site.faces.len() as u8 + 1)?;
+    let config = drafted(alloc, site, t, new, known, leaders.as_slice())?;
     Ok(config)
+}
+
+/// The configuration of tables that fit, by what a tree tells of new packets. An error is want of memory.
+fn put_new(alloc: Global, site: &Site, t: &Tables, new: &Tree<bool>) -> Result<IosConfig, Memory>
+    requires sound { IsSound site.now }
+    requires orderly { IsOrderly site.now }
+    requires regular { AreRegular site.now t.now }
+    requires fits { Fits langs.Ios site.now t.now }
+    requires new { TellsNew site.now t.now new.now }
+    ensures { IfOk result (IsPlaced site.now t.now) }
+{
+    let known = known_tree(alloc, site, t)?;
+    put_told(alloc, site, t, new, &known)
+}
+
+/// The configuration of tables that fit. An error is want of memory.
+fn put_tables(alloc: Global, site: &Site, t: &Tables) -> Result<IosConfig, Memory>
+    requires sound { IsSound site.now }
+    requires orderly { IsOrderly site.now }
+    requires regular { AreRegular site.now t.now }
+    requires fits { Fits langs.Ios site.now t.now }
+    ensures { IfOk result (IsPlaced site.now t.now) }
+{
+    let new = new_tree(alloc, site, t)?;
+    put_new(alloc, site, t, &new)
 }
 
 /// The configuration of Cisco IOS that does with every packet of the site what the tables say; or the first clause of

@@ -1,30 +1,16 @@
-use Rattle.std.proofs.Common.{Bool, ◌&&◌, Some, ap, ◌∙◌}
+use Rattle.std.proofs.Common.{sym, ◌∙◌}
 use Rattle.fws_ios_put.specs.Choices.{is_tcp, truth}
-use Rattle.fws_ios_put.proofs.MadeTrees.{values_told}
-use Rattle.fws_ios_put.proofs.Parts.{marked_block, needed_within}
+use Rattle.fws_ios_put.proofs.Parts.{marked_needed, needed_inside}
 use Rattle.fws_ios_put.proofs.blocks.put_marked.Goals as goal
 
-pub put_cover-requires-clause-needed_listed : goal.put_cover-requires-clause-needed_listed
-put_cover-requires-clause-needed_listed c = values_told c.args.site.now c.in_ok-needed.needed c.in_ok-needed.ensures.askable
-
-pub put_cover-requires-clause-part : goal.put_cover-requires-clause-part
-put_cover-requires-clause-part c = λ x w h.
-    (needed_within c.args.site.now (truth c.args.within.now.1) (truth c.args.excused.now.1) c.in_ok-needed.needed.1 c.in_ok-around.around.1
-    (λ y v. c.in_ok-needed.ensures.askable.valued y v ∙ ap Some (c.in_ok-needed.ensures.value y v ∙ ap (λ (b : Bool). is_tcp y && b) (c.in_ok-wanted.ensures.value y v)))
-    (λ y v. c.in_ok-around.ensures.askable.valued y v ∙ ap Some (c.in_ok-around.ensures.value y v)) x w h).0
-
-pub put_cover-requires-clause-tcp : goal.put_cover-requires-clause-tcp
-put_cover-requires-clause-tcp c = λ marked x w h.
-    (needed_within c.args.site.now (truth c.args.within.now.1) (truth c.args.excused.now.1) c.in_ok-needed.needed.1 c.in_ok-around.around.1
-    (λ y v. c.in_ok-needed.ensures.askable.valued y v ∙ ap Some (c.in_ok-needed.ensures.value y v ∙ ap (λ (b : Bool). is_tcp y && b) (c.in_ok-wanted.ensures.value y v)))
-    (λ y v. c.in_ok-around.ensures.askable.valued y v ∙ ap Some (c.in_ok-around.ensures.value y v)) x w h).1
+pub put_needed-requires-clause-part : goal.put_needed-requires-clause-part
+put_needed-requires-clause-part c = λ x w h.
+    needed_inside (is_tcp x) (truth c.args.within.now.1 x) (truth c.args.excused.now.1 x) (sym (c.in_ok-needed.ensures.value x w) ∙ h)
 
 pub returns : goal.returns
 returns c =
-    let put = c.in_ok-put_cover.ensures in (
+    let put = c.in_ok-put_needed.ensures in (
       put.0,
       put.1,
-      marked_block c.args.site.now c.args.permit (truth c.args.within.now.1) (truth c.args.excused.now.1) c.in_ok-needed.needed.1 c.in_ok-around.around.1 put.0 put.2
-          (λ y v. c.in_ok-needed.ensures.askable.valued y v ∙ ap Some (c.in_ok-needed.ensures.value y v ∙ ap (λ (b : Bool). is_tcp y && b) (c.in_ok-wanted.ensures.value y v)))
-          (λ y v. c.in_ok-around.ensures.askable.valued y v ∙ ap Some (c.in_ok-around.ensures.value y v)),
+      marked_needed c.args.site.now c.args.permit (truth c.args.within.now.1) (truth c.args.excused.now.1) (truth c.in_ok-needed.needed.1) put.0 c.in_ok-needed.ensures.value put.2,
     )

@@ -1,7 +1,13 @@
-use Rattle.fws_ios_put.proofs.Leaving.{none_denied}
+use Rattle.std.proofs.Common.{◌≡◌, Bool, false}
+use Rattle.std.proofs.lemmas.Result.{IfOk-weaker}
+use Rattle.fws_ios_put.specs.Choices.{NoneDenied, truth}
+use Rattle.fws_ios_put.proofs.Leaving.{NoneLackingForTcp}
 use Rattle.fws_ios_put.proofs.blocks.some_denied.Goals as goal
 
 pub returns : goal.returns
-returns c = λ none.
-    none_denied c.args.site.now c.args.c.now c.in_ok-none.none.1 c.in_ok-acked.acked.1 c.in_ok-tcp.tcp.1 c.in_ok-none.ensures.value c.in_ok-acked.ensures.value c.in_ok-tcp.ensures.value
-    (c.in_ok-is_somewhere.ensures c.if-branch.false) (c.in_ok-answer.ensures none)
+returns c =
+    let site = c.args.site.now in
+    let choices = c.args.c.now in
+    let P : Bool → Type 0 = λ b. b ≡ false → NoneLackingForTcp site (truth choices.acked_known.1) in
+    let Q : Bool → Type 0 = λ b. b ≡ false → NoneDenied site choices in
+    IfOk-weaker c.is_lacking_for_tcp.result P Q (λ b h none. record { plain = c.in_ok-is_lacking.ensures c.if-branch.false; acked = h none }) c.is_lacking_for_tcp.ensures

@@ -1,7 +1,4 @@
 use Rattle.fws_ios_put.proofs.laying.own_list.Goals as goal
 
 pub returns : goal.returns
-returns c = record {
-  name = c.in_ok-name.ensures;
-  decides = record { choices = c.in_ok-choices.choices; made = c.in_ok-choices.ensures.made; decides = c.in_ok-entries.ensures };
-}
+returns c = record { name = c.in_ok-name.ensures; decides = c.in_ok-entries.ensures }

@@ -3,7 +3,7 @@ use Rattle.fws_ios_put.proofs.Laid.{placed}
 use Rattle.std.proofs.Common.{List, ℕ, ◌+◌, ap, subst}
 use Rattle.fws_ios_put.specs.Draft.{IsDraft}
 use Rattle.fws_ios_put.specs.Layout.{AreLeaders}
-use Rattle.fws_ios_put.proofs.placing.put_tables.Goals as goal
+use Rattle.fws_ios_put.proofs.placing.put_told.Goals as goal
 
 pub returns : goal.returns
 returns c =
@@ -21,7 +21,7 @@ returns c =
       known_by_ack = c.ios_established_by_ack.ensures site tables regular fits;
       ahead = c.ios_ack_ahead.ensures site tables regular fits;
     } in
-    placed site tables known c.requires.orderly c.in_ok-new.new c.in_ok-known.known c.in_ok-new.ensures c.in_ok-known.ensures c.in_ok-leaders.leaders
-    (subst (λ (most : ℕ). AreLeaders c.in_ok-new.new.1 c.in_ok-known.known.1 most c.in_ok-leaders.leaders) (ap (λ (n : ℕ). n + 1) c.len.ensures) c.in_ok-leaders.ensures)
+    placed site tables known c.requires.orderly c.args.new.now c.args.known.now c.requires.new c.requires.known c.in_ok-leaders.leaders
+    (subst (λ (most : ℕ). AreLeaders c.args.new.now.1 c.args.known.now.1 most c.in_ok-leaders.leaders) (ap (λ (n : ℕ). n + 1) c.len.ensures) c.in_ok-leaders.ensures)
     c.in_ok-config.config
-    (subst (λ (leaders : List ℕ). IsDraft site tables c.in_ok-new.new.1 c.in_ok-known.known.1 leaders c.in_ok-config.config) c.as_slice.ensures c.in_ok-config.ensures)
+    (subst (λ (leaders : List ℕ). IsDraft site tables c.args.new.now.1 c.args.known.now.1 leaders c.in_ok-config.config) c.as_slice.ensures c.in_ok-config.ensures)
