@@ -47,10 +47,6 @@ chains_of c =
 abbrev pub stage_of : Bool → ℕ → Stage
 stage_of outward chain = record { chain = chain; shows_recv = true; shows_xmit = outward; outward = outward; end = true }
 
--- a diagram with no chains and stages
-abbrev pub blank : Ifcl
-blank = record { chains = []; arrive = []; deliver = []; forward = []; send = [] }
-
 -- the whole diagram
 abbrev pub diagram_of : IosConfig → Ifcl
 diagram_of c = record {

@@ -1,6 +1,6 @@
 //! The diagram of a configuration.
 
-ghost use Rattle.std.specs.Prelude.{◌≡◌, ◌++◌, ◌∷◌, [], None, true, false, IfOk, OnOk};
+ghost use Rattle.std.specs.Prelude.{◌≡◌, ◌++◌, ◌∷◌, [], None, true, IfOk, OnOk};
 ghost use Rattle.fws_net.specs.declared.connection.Kind.{Kind};
 ghost use Rattle.fws_net.specs.declared.packet.Packet.{Packet};
 ghost use Rattle.fws_ifcl.specs.Refusals.{refusal_of};
@@ -8,8 +8,7 @@ ghost use Rattle.fws_ifcl.specs.Soundness.{ifcl_ok};
 ghost use Rattle.fws_ifcl.specs.Walk.{means};
 ghost use Rattle.fws_draw.specs.Rules.{ruled};
 ghost use Rattle.fws_ios.specs.Walk.{walk};
-ghost use Rattle.fws_rule.specs.Literals.{negative};
-ghost use Rattle.fws_ios_ifcl.specs.Diagram.{blank, chains_of, destination_rules, diagram_of, kept_destinations, kept_sources, list_rules, source_rules, stage_of};
+ghost use Rattle.fws_ios_ifcl.specs.Diagram.{chains_of, destination_rules, diagram_of, kept_destinations, kept_sources, list_rules, source_rules, stage_of};
 
 use crate::applying::put_all_applied;
 use crate::choosing::put_all_choosing;
@@ -18,7 +17,6 @@ use crate::statics::put_statics;
 use fws_draw::{ruled_by, rules_are_right_by_parts, straight_diagrams_unfold, walks_go_by_places};
 use fws_ifcl::{Act, Chain, Ifcl, Rule, Stage};
 use fws_ios::IosConfig;
-use fws_iv::Ivs;
 use fws_net::{Lit, Site, Test};
 use fws_num::{Items, Memory, Text};
 use fws_rule::{negative, positive};
@@ -48,39 +46,20 @@ fn list_rules(
     Ok(rules)
 }
 
-/// The literal of packets that don't come in by one of these interfaces. An error is want of memory.
-fn not_received(alloc: Global, faces: &Ivs) -> Result<Lit, Memory>
-    ensures { IfOk result (λ lit. lit ≡ negative (Test.Recv faces.now)) }
-{
-    let set = faces.copy(alloc)?;
-    Ok(negative(Test::Recv(set)))
-}
-
-/// The literal of packets that don't go out by one of these interfaces. An error is want of memory.
-fn not_sent(alloc: Global, faces: &Ivs) -> Result<Lit, Memory>
-    ensures { IfOk result (λ lit. lit ≡ negative (Test.Xmit faces.now)) }
-{
-    let set = faces.copy(alloc)?;
-    Ok(negative(Test::Xmit(set)))
-}
-
-/// Puts the rules behind the others of packets that keep their destinations, or have that of their connection. An error is
-/// want of memory.
-fn put_kept_destinations(alloc: Global, rules: &mut Vec<Rule>, c: &IosConfig) -> Result<(), Memory>
-    ensures { OnOk result (rules.new.items ≡ rules.old.items ++ kept_destinations c.now) }
-{
-    put_where(alloc, rules, positive(Test::Est), Act::RecDst)?;
-    put_where(alloc, rules, positive(Test::Est), Act::Accept)?;
-    put_where(alloc, rules, not_received(alloc, &c.outside)?, Act::Accept)?;
-    Ok(())
-}
-
 /// The rules of packets that keep their destinations, or have that of their connection. An error is want of memory.
 fn kept_destinations(alloc: Global, c: &IosConfig) -> Result<Vec<Rule>, Memory>
     ensures { IfOk result (λ rules. rules.items ≡ kept_destinations c.now) }
 {
+    let outside = c.outside.copy(alloc)?;
     let mut rules = Vec::new(alloc);
-    put_kept_destinations(alloc, &mut rules, c)?;
+    put_where(alloc, &mut rules, positive(Test::Est), Act::RecDst)?;
+    put_where(alloc, &mut rules, positive(Test::Est), Act::Accept)?;
+    put_where(
+        alloc,
+        &mut rules,
+        negative(Test::Recv(outside)),
+        Act::Accept,
+    )?;
     Ok(rules)
 }
 
@@ -93,24 +72,22 @@ fn destination_rules(alloc: Global, c: &IosConfig) -> Result<Vec<Rule>, Memory>
     Ok(rules)
 }
 
-/// Puts the rules behind the others of packets that keep their sources, or have that of their connection. An error is want of
-/// memory.
-fn put_kept_sources(alloc: Global, rules: &mut Vec<Rule>, c: &IosConfig) -> Result<(), Memory>
-    ensures { OnOk result (rules.new.items ≡ rules.old.items ++ kept_sources c.now) }
-{
-    put_where(alloc, rules, positive(Test::Est), Act::RecSrc)?;
-    put_where(alloc, rules, positive(Test::Est), Act::Accept)?;
-    put_where(alloc, rules, not_received(alloc, &c.inside)?, Act::Accept)?;
-    put_where(alloc, rules, not_sent(alloc, &c.outside)?, Act::Accept)?;
-    Ok(())
-}
-
 /// The rules of packets that keep their sources, or have that of their connection. An error is want of memory.
 fn kept_sources(alloc: Global, c: &IosConfig) -> Result<Vec<Rule>, Memory>
     ensures { IfOk result (λ rules. rules.items ≡ kept_sources c.now) }
 {
+    let inside = c.inside.copy(alloc)?;
+    let outside = c.outside.copy(alloc)?;
     let mut rules = Vec::new(alloc);
-    put_kept_sources(alloc, &mut rules, c)?;
+    put_where(alloc, &mut rules, positive(Test::Est), Act::RecSrc)?;
+    put_where(alloc, &mut rules, positive(Test::Est), Act::Accept)?;
+    put_where(alloc, &mut rules, negative(Test::Recv(inside)), Act::Accept)?;
+    put_where(
+        alloc,
+        &mut rules,
+        negative(Test::Xmit(outside)),
+        Act::Accept,
+    )?;
     Ok(rules)
 }
 
@@ -150,7 +127,7 @@ fn put_chain(
     Ok(())
 }
 
-/// Puts the chains behind the others. An error is want of memory.
+/// Puts the chains behind the others, with the lists by their names. An error is want of memory.
 fn put_chains(
     alloc: Global,
     chains: &mut Items<Chain>,
@@ -167,14 +144,21 @@ fn put_chains(
     Ok(())
 }
 
-/// Puts the chains behind the others: lists as packets come in, destinations, sources, and lists as packets go out. An error is
-/// want of memory.
+/// Puts the chains behind the others, by their lists. An error is want of memory.
 fn put_all_chains(alloc: Global, chains: &mut Items<Chain>, c: &IosConfig) -> Result<(), Memory>
     ensures { OnOk result (chains.new ≡ chains.old ++ chains_of c.now) }
 {
     let lists = Lists::of(alloc, c.lists.as_slice())?;
-    put_chains(alloc, chains, &lists, c)?;
-    Ok(())
+    put_chains(alloc, chains, &lists, c)
+}
+
+/// The chains: lists as packets come in, destinations, sources, and lists as packets go out. An error is want of memory.
+fn chains_of(alloc: Global, c: &IosConfig) -> Result<Items<Chain>, Memory>
+    ensures { IfOk result (λ chains. chains ≡ chains_of c.now) }
+{
+    let mut chains = Items::new(alloc);
+    put_all_chains(alloc, &mut chains, c)?;
+    Ok(chains)
 }
 
 /// The stage of a chain, on the side of packets that come in or that go out.
@@ -190,55 +174,23 @@ fn stage_of(outward: bool, chain: u32) -> Stage
     }
 }
 
-/// Puts the stages that arriving packets meet behind the others. An error is want of memory.
-fn put_arriving(arrive: &mut Items<Stage>) -> Result<(), Memory>
-    ensures { OnOk result (arrive.new ≡ arrive.old ++ stage_of false 0 ∷ stage_of false 1 ∷ []) }
-{
-    arrive.put(stage_of(false, 0))?;
-    arrive.put(stage_of(false, 1))?;
-    Ok(())
-}
-
-/// Puts the stages that forwarded packets meet behind the others. An error is want of memory.
-fn put_forwarded(forward: &mut Items<Stage>) -> Result<(), Memory>
-    ensures { OnOk result (forward.new ≡ forward.old ++ stage_of true 2 ∷ stage_of true 3 ∷ []) }
-{
-    forward.put(stage_of(true, 2))?;
-    forward.put(stage_of(true, 3))?;
-    Ok(())
-}
-
-/// Puts chains and stages into a diagram that has none. An error is want of memory.
-fn draw(alloc: Global, d: &mut Ifcl, c: &IosConfig) -> Result<(), Memory>
-    requires { d.old ≡ blank }
-    ensures { OnOk result (d.new ≡ diagram_of c.now) }
-{
-    put_arriving(&mut d.arrive)?;
-    put_forwarded(&mut d.forward)?;
-    put_all_chains(alloc, &mut d.chains, c)?;
-    Ok(())
-}
-
-/// The diagram with no chains and stages.
-fn blank(alloc: Global) -> Ifcl
-    ensures { result ≡ blank }
-{
-    Ifcl {
-        chains: Items::new(alloc),
-        arrive: Items::new(alloc),
-        deliver: Items::new(alloc),
-        forward: Items::new(alloc),
-        send: Items::new(alloc),
-    }
-}
-
 /// The diagram, put together from its chains and stages. An error is want of memory.
 fn drawn(alloc: Global, c: &IosConfig) -> Result<Ifcl, Memory>
     ensures { IfOk result (λ d. d ≡ diagram_of c.now) }
 {
-    let mut d = blank(alloc);
-    draw(alloc, &mut d, c)?;
-    Ok(d)
+    let mut arrive = Items::new(alloc);
+    arrive.put(stage_of(false, 0))?;
+    arrive.put(stage_of(false, 1))?;
+    let mut forward = Items::new(alloc);
+    forward.put(stage_of(true, 2))?;
+    forward.put(stage_of(true, 3))?;
+    Ok(Ifcl {
+        chains: chains_of(alloc, c)?,
+        arrive,
+        deliver: Items::new(alloc),
+        forward,
+        send: Items::new(alloc),
+    })
 }
 
 /// The control diagram of a configuration. On every site it does with each packet what the configuration does, new or of a
