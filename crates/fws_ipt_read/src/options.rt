@@ -1,9 +1,13 @@
 //! Options of a rule that test packets, with their values.
 
-ghost use Rattle.std.specs.Prelude.{◌≡◌, OnOk};
-ghost use Rattle.fws_net.specs.Reading.{StepGiven};
+ghost use Rattle.std.specs.Prelude.{◌≡◌, Some, OnOk};
+ghost use Rattle.std.specs.Option.{ok_or};
+ghost use Rattle.fws_net.specs.declared.cause.Cause.TheVariants.{Syntax};
+ghost use Rattle.fws_net.specs.declared.condition.Test.TheVariants.{Flags};
+ghost use Rattle.fws_net.specs.Reading.{CauseGiven, StepGiven};
 ghost use Rattle.fws_net.specs.Routes.{IsSound};
-ghost use Rattle.fws_rule.specs.Literals.{literals};
+ghost use Rattle.fws_rule.specs.Literals.{literals, positive};
+ghost use Rattle.fws_ipt.specs.Values.{flags_of};
 ghost use Rattle.fws_ipt.specs.RuleText.{closed, once, asks_port, asks_flags, asks_icmp, noted, with_literals, test_begun, test_step, from_step, toward_step, with_protocol, protocol_step, mask_step, compared_step, plain_step, value_step};
 
 use crate::flags::{read_flags, syn_literal};
@@ -136,13 +140,27 @@ fn protocol_step(
     Ok(())
 }
 
+/// The bits of flags, which have to be there.
+fn demand_flags(alloc: Global, text: &[u8]) -> Result<u8, ReadFault>
+    ensures { CauseGiven result (ok_or (flags_of text.now) Syntax) }
+{
+    demand(read_flags(alloc, text)?)
+}
+
 /// Takes the mask of `--tcp-flags`.
 fn mask_step(alloc: Global, d: &mut RuleDraft, negated: bool, text: &[u8]) -> Result<(), ReadFault>
     ensures { StepGiven result d.new (mask_step negated text.now d.old) }
 {
-    let mask = demand(read_flags(alloc, text)?)?;
+    let mask = demand_flags(alloc, text)?;
     d.expects = Expects::Compared(mask, negated);
     Ok(())
+}
+
+/// Adds the test of the flags of a mask that are set. A keyword is next.
+fn with_flags(d: &mut RuleDraft, negated: bool, mask: u8, want: u8) -> Result<(), Memory>
+    ensures { OnOk result (d.new ≡ with_literals (literals negated (Some (positive (Flags mask want)))) d.old) }
+{
+    with_literals(d, negated, Some(positive(Test::Flags { mask, want })))
 }
 
 /// Takes the flags of `--tcp-flags` that are set.
@@ -155,8 +173,8 @@ pub(crate) fn compared_step(
 ) -> Result<(), ReadFault>
     ensures { StepGiven result d.new (compared_step mask negated text.now d.old) }
 {
-    let want = demand(read_flags(alloc, text)?)?;
-    with_literals(d, negated, Some(positive(Test::Flags { mask, want })))?;
+    let want = demand_flags(alloc, text)?;
+    with_flags(d, negated, mask, want)?;
     Ok(())
 }
 
