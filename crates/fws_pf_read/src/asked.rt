@@ -8,7 +8,7 @@ ghost use Rattle.fws_pf_read.specs.Asked.{asked_choice};
 
 use fws_net::Cond;
 use fws_num::{Items, Memory};
-use fws_pf::{Choice, Place};
+use fws_pf::{Choice, Item, Place};
 use fws_pf_words::{ItemList, Tables, choice_of, only, times};
 use std::alloc::Global;
 use std::marker::Model;
@@ -39,21 +39,37 @@ impl Model for OptionChoices {
     ghost view = { λ o. map asked_choice o.asked };
 }
 
+/// The choice of this condition.
+fn one_choice(alloc: Global, cond: &Cond) -> Result<Choice, Memory>
+    ensures { IfOk result (λ c. c ≡ only cond.now) }
+{
+    let cond = cond.copy(alloc)?;
+    only(alloc, cond)
+}
+
+/// The choice of these types of ICMP messages.
+fn icmp_choice(alloc: Global, types: &[Item]) -> Result<Choice, Memory>
+    ensures { IfOk result (λ c. c ≡ choice_of [] tests.Icmp types.now) }
+{
+    let tables = Tables::new(alloc);
+    choice_of(alloc, &tables, Place::IcmpType, types)
+}
+
+/// The choice of the types of ICMP messages of a list.
+fn types_choice(alloc: Global, types: &ItemList) -> Result<Choice, Memory>
+    ensures { IfOk result (λ c. c ≡ choice_of [] tests.Icmp types.now) }
+{
+    let items = types.to_items(alloc)?;
+    icmp_choice(alloc, items.as_slice())
+}
+
 /// The choice for which an option asks.
 fn asked_choice(alloc: Global, asked: &Asked) -> Result<Choice, Memory>
     ensures { IfOk result (λ c. c ≡ asked_choice asked.now) }
 {
     match asked {
-        Asked::One(cond) => only(alloc, cond.copy(alloc)?),
-        Asked::Types(items) => {
-            let items = items.to_items(alloc)?;
-            choice_of(
-                alloc,
-                &Tables::new(alloc),
-                Place::IcmpType,
-                items.as_slice(),
-            )
-        }
+        Asked::One(cond) => one_choice(alloc, cond),
+        Asked::Types(types) => types_choice(alloc, types),
     }
 }
 

@@ -10,8 +10,9 @@ ghost use Rattle.fws_pf.specs.Tables.{empty_table};
 ghost use Rattle.fws_pf_words.specs.TableSteps.{table_seen};
 ghost use Rattle.fws_pf_read.specs.Statements.{StatementGiven, seen};
 
+use crate::draft::dismiss_value;
 use crate::rule::dismiss_rule;
-use crate::statement::{Statement, dismiss_value, statement_read};
+use crate::statement::{Statement, statement_read};
 use fws_net::{ReadFault, Site};
 use fws_num::{Line, Memory, Text, Word};
 use fws_pf_words::{
@@ -49,6 +50,20 @@ fn table_said(alloc: Global, name: Text, s: Statement) -> Result<KnownTable, Mem
     }
 }
 
+/// What a statement of these words says where no tag is known.
+fn untagged_read(
+    alloc: Global,
+    setting: &Setting,
+    macros: &Macros,
+    words: &[Word],
+) -> Result<Statement, ReadFault>
+    requires { IsSound setting.now.site }
+    ensures { StatementGiven result (statement_read setting.now macros.now [] words.now) }
+{
+    let mut tags = Tags::new(alloc);
+    statement_read(alloc, setting, macros, &mut tags, words)
+}
+
 /// What a statement of these words says where no table and no tag is known.
 fn unknowing_read(
     alloc: Global,
@@ -61,8 +76,7 @@ fn unknowing_read(
 {
     let taken = Names::new(alloc);
     let setting = Setting::new(site, None, &taken);
-    let mut tags = Tags::new(alloc);
-    statement_read(alloc, &setting, macros, &mut tags, words)
+    untagged_read(alloc, &setting, macros, words)
 }
 
 /// The table of this name that a statement defines; nothing stands in it where the statement is refused.
@@ -141,13 +155,26 @@ fn note_all(
     Ok(())
 }
 
+/// The tables that statements define, in their order, behind these macros.
+fn tables_behind(
+    alloc: Global,
+    site: &Site,
+    macros: &mut Macros,
+    lines: &[Line],
+) -> Result<Tables, Memory>
+    requires { IsSound site.now }
+    ensures { IfOk result (λ tables. tables ≡ tables_from site.now macros.old [] lines.now) }
+{
+    let mut tables = Tables::new(alloc);
+    note_all(alloc, site, macros, &mut tables, lines)?;
+    Ok(tables)
+}
+
 /// The tables that statements define, in their order, refused ones among them. An error is want of memory.
 pub(crate) fn all_tables(alloc: Global, site: &Site, lines: &[Line]) -> Result<Tables, Memory>
     requires { IsSound site.now }
     ensures { IfOk result (λ tables. tables ≡ all_tables site.now lines.now) }
 {
     let mut macros = Macros::new(alloc);
-    let mut tables = Tables::new(alloc);
-    note_all(alloc, site, &mut macros, &mut tables, lines)?;
-    Ok(tables)
+    tables_behind(alloc, site, &mut macros, lines)
 }

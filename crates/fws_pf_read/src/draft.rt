@@ -62,6 +62,32 @@ pub(crate) struct Draft {
     pub(crate) tags: Tags,
 }
 
+/// Drops what was read so far of a value.
+pub(crate) fn dismiss_value(_value: LongValue) {}
+
+/// Drops the values of a place.
+fn dismiss_list(_list: ItemList) {}
+
+/// Drops what options ask for.
+fn dismiss_options(_options: OptionChoices) {}
+
+/// Drops the names of tags.
+fn dismiss_tags(_tags: Tags) {}
+
+/// Drops what was read so far of a rule: each part in a function of its own, since each function that drops one has to walk
+/// through all that it owns.
+pub(crate) fn dismiss_draft(d: Draft) {
+    dismiss_value(d.value);
+    dismiss_list(d.faces);
+    dismiss_list(d.protocols);
+    dismiss_list(d.sources);
+    dismiss_list(d.source_ports);
+    dismiss_list(d.destinations);
+    dismiss_list(d.destination_ports);
+    dismiss_options(d.options);
+    dismiss_tags(d.tags);
+}
+
 /// Whether it is a translation.
 pub(crate) fn is_translation(verb: Verb) -> bool
     ensures { result ≡ is_translation verb }

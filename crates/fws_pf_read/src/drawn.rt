@@ -1,7 +1,8 @@
 //! What a rule asks for.
 
-ghost use Rattle.std.specs.Prelude.{◌≡◌, ◌++◌, min, IfOk, OnOk};
-ghost use Rattle.fws_pf.specs.Drawn.{choices, implies_flags, value_choices};
+ghost use Rattle.std.specs.Prelude.{◌≡◌, [], ◌∷◌, ◌++◌, min, IfOk, OnOk, if◌then◌else◌};
+ghost use Rattle.fws_pf.specs.Drawn.{choices, implied_flags, implies_flags, value_choices};
+ghost use Rattle.fws_pf.specs.RuleText.{only};
 ghost use Rattle.fws_pf_words.specs.Tests.{test_at};
 ghost use Rattle.fws_pf_read.specs.Places.{draft_count, place_choices, with_places};
 ghost use Rattle.fws_pf_read.specs.Views.{draft_of};
@@ -66,6 +67,33 @@ fn place_choices(alloc: Global, tables: &Tables, d: &Draft) -> Result<Items<Choi
     Ok(all)
 }
 
+/// The choice of the flags that a rule implies.
+fn implied_choice(alloc: Global) -> Result<Choice, Memory>
+    ensures { IfOk result (λ c. c ≡ only implied_flags) }
+{
+    let cond = implied_flags(alloc)?;
+    only(alloc, cond)
+}
+
+/// Puts what a rule implies behind the rest.
+fn put_implied(alloc: Global, d: &Draft, all: &mut Items<Choice>) -> Result<(), Memory>
+    ensures { OnOk result (all.new ≡ all.old ++ (if implies_flags (draft_of d.now) then only implied_flags ∷ [] else [])) }
+{
+    if implies_flags(d) {
+        all.put(implied_choice(alloc)?)?;
+    }
+    Ok(())
+}
+
+/// Puts what the options of a rule ask for behind the rest, and last what it implies.
+fn put_options(alloc: Global, d: &Draft, all: &mut Items<Choice>) -> Result<(), Memory>
+    ensures { OnOk result (all.new ≡ all.old ++ d.now.options ++ (if implies_flags (draft_of d.now) then only implied_flags ∷ [] else [])) }
+{
+    d.options.put_to(alloc, all)?;
+    put_implied(alloc, d, all)?;
+    Ok(())
+}
+
 /// What a rule asks for, in the order of its words, and last what it implies.
 pub(crate) fn draft_choices(
     alloc: Global,
@@ -75,10 +103,7 @@ pub(crate) fn draft_choices(
     ensures { IfOk result (λ cs. cs ≡ choices tables.now (draft_of d.now)) }
 {
     let mut all = place_choices(alloc, tables, d)?;
-    d.options.put_to(alloc, &mut all)?;
-    if implies_flags(d) {
-        all.put(only(alloc, implied_flags(alloc)?)?)?;
-    }
+    put_options(alloc, d, &mut all)?;
     Ok(all)
 }
 

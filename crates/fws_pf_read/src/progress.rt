@@ -14,6 +14,7 @@ use fws_pf::{PfConfig, PfNat, PfRule, Verb};
 use fws_pf_words::{Macros, Names, Setting, Tables, Tags, expanded_with};
 use std::alloc::Global;
 use std::marker::Model;
+use std::mem;
 
 /// What was read of a text. Contracts see the draft.
 #[derive(Drop)]
@@ -194,16 +195,32 @@ impl Progress {
         }
     }
 
+    /// The configuration with these tags, and with the rest that was read, which it takes along.
+    fn config_with(&mut self, alloc: Global, tags: Items<Text>) -> PfConfig
+        ensures { result ≡ record self.old.config { tags = tags } }
+    {
+        PfConfig {
+            skip: mem::replace(&mut self.skip, Ivs::none(alloc)),
+            rdr: mem::replace(&mut self.rdr, Items::new(alloc)),
+            nat: mem::replace(&mut self.nat, Items::new(alloc)),
+            filter: mem::replace(&mut self.filter, Items::new(alloc)),
+            tags,
+        }
+    }
+
+    /// The configuration of what was read, which it takes along. An error is want of memory.
+    fn drawn(&mut self, alloc: Global) -> Result<PfConfig, Memory>
+        ensures { IfOk result (λ c. c ≡ self.old.config) }
+    {
+        let tags = self.take_tags(alloc).into_items(alloc)?;
+        Ok(self.config_with(alloc, tags))
+    }
+
     /// The configuration of what was read. An error is want of memory.
     pub(crate) fn into_config(self, alloc: Global) -> Result<PfConfig, Memory>
         ensures { IfOk result (λ c. c ≡ self.config) }
     {
-        Ok(PfConfig {
-            skip: self.skip,
-            rdr: self.rdr,
-            nat: self.nat,
-            filter: self.filter,
-            tags: self.tags.into_items(alloc)?,
-        })
+        let mut progress = self;
+        progress.drawn(alloc)
     }
 }

@@ -1,15 +1,15 @@
 //! Reads a text statement by statement.
 
 ghost use Rattle.std.specs.Prelude.{◌≡◌};
-ghost use Rattle.fws_net.specs.Reading.{ReadGiven};
+ghost use Rattle.fws_net.specs.Reading.{ReadGiven, lines_ended};
 ghost use Rattle.fws_net.specs.Routes.{IsSound};
-ghost use Rattle.fws_pf.specs.FileText.{spelled};
+ghost use Rattle.fws_pf.specs.FileText.{ended, fresh_text, line_step, spelled, spelled_by};
 
 use crate::definitions::all_tables;
 use crate::progress::Progress;
 use crate::text::words_step;
 use fws_net::{Cause, LineReader, ReadAnswer, ReadFault, Site, read_with};
-use fws_num::Line;
+use fws_num::{Line, Lines};
 use fws_pf::{PfConfig, PfDraft};
 use fws_pf_words::{Tables, read_statements};
 use std::alloc::Global;
@@ -65,6 +65,34 @@ impl<'a> LineReader for Reader<'a> {
     }
 }
 
+/// The configuration that statements spell on a site, among these tables.
+fn read_among(
+    alloc: Global,
+    site: &Site,
+    tables: &Tables,
+    lines: &Lines,
+) -> Result<PfConfig, ReadAnswer>
+    requires { IsSound site.now }
+    ensures { ReadGiven result (lines_ended (line_step site.now tables.now) ended fresh_text lines.now) }
+{
+    let ground = Ground { site, tables };
+    let reader = Reader {
+        alloc,
+        ground,
+        progress: Progress::new(alloc),
+    };
+    read_with(alloc, reader, &ground, lines)
+}
+
+/// The configuration that statements spell on a site.
+fn read_lines(alloc: Global, site: &Site, lines: &Lines) -> Result<PfConfig, ReadAnswer>
+    requires { IsSound site.now }
+    ensures { ReadGiven result (spelled_by site.now lines.now) }
+{
+    let tables = all_tables(alloc, site, lines.lines.as_slice())?;
+    read_among(alloc, site, &tables, lines)
+}
+
 /// The configuration that a text of pf.conf(5) spells on a site.
 ///
 /// The answer `Refused` has the first line of the first statement that is refused, counted from 1, and the first cause that its
@@ -85,15 +113,5 @@ pub fn read(alloc: Global, text: &[u8], site: &Site) -> Result<PfConfig, ReadAns
     ensures { ReadGiven result (spelled site.now text.now) }
 {
     let lines = read_statements(alloc, text)?;
-    let tables = all_tables(alloc, site, lines.lines.as_slice())?;
-    let ground = Ground {
-        site,
-        tables: &tables,
-    };
-    let reader = Reader {
-        alloc,
-        ground,
-        progress: Progress::new(alloc),
-    };
-    read_with(alloc, reader, &ground, &lines)
+    read_lines(alloc, site, &lines)
 }

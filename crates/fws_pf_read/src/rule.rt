@@ -12,7 +12,7 @@ ghost use Rattle.fws_pf_words.specs.UsesKnown.{AreUses, ArePiece};
 
 use crate::asked::OptionChoices;
 use crate::checks::draft_checks;
-use crate::draft::Draft;
+use crate::draft::{Draft, dismiss_draft};
 use crate::drawn::draft_choices;
 use crate::ended::draft_ended;
 use crate::made;
@@ -155,7 +155,9 @@ pub(crate) fn rule_within(
 }
 
 /// Drops a rule: in a function of its own, since each function that drops one has to walk through all that it owns.
-pub(crate) fn dismiss_rule(_rule: Rule) {}
+pub(crate) fn dismiss_rule(rule: Rule) {
+    dismiss_draft(rule.draft);
+}
 
 /// The rule of all its words. One that ends too early is refused.
 pub(crate) fn rule_ended(alloc: Global, rule: Rule) -> Result<Rule, ReadFault>

@@ -18,6 +18,7 @@ ghost use Rattle.fws_pf_words.specs.Uses.{behind_name, joined_words, last_joined
 ghost use Rattle.fws_pf_words.specs.UsesKnown.{AreUses, ArePiece};
 ghost use Rattle.fws_pf_read.specs.Statements.{AreTags, StatementGiven, items_of, seen};
 
+use crate::draft::dismiss_value;
 use crate::keywords::{action_word, misplaced};
 use crate::rule::{Rule, dismiss_rule, fresh_rule, rule_ended, rule_step, rule_within};
 use fws_net::{Cause, ReadFault};
@@ -53,9 +54,6 @@ pub(crate) enum Statement {
 
 /// Drops a table.
 fn dismiss_table(_d: LongTable) {}
-
-/// Drops the interfaces that are skipped.
-pub(crate) fn dismiss_value(_v: LongValue) {}
 
 /// Drops a statement: in a function of its own, since each function that drops one has to walk through all that it owns.
 fn dismiss(s: Statement) {
