@@ -10,3 +10,4 @@ mod Found
 mod Places
 mod Putting
 mod Whole
+mod PassingItems
