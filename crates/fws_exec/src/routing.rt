@@ -104,6 +104,27 @@ impl Sheet {
         })
     }
 
+    /// The points of the one class become those of two, where their packets come in: those of the host stand before they
+    /// are sent, all others before they arrive.
+    fn divide_entered(&mut self, alloc: Global, ground: &Ground<'_, '_>) -> Result<(), Memory>
+        requires sheet { IsSheet self.old }
+        requires ground { IsGround ground.now }
+        requires tops { tops_in self.old ≡ tops_of ground.now.site.now }
+        requires class { (c : AnyClass) × (self.old.classes.items ≡ c ∷ []) × (c.spot ≡ Before Arrive) }
+        requires value { (p : List ℕ) → class_at self.old p ≡ 0 }
+        ensures sheet { OnOk result (IsSheet self.new) }
+        ensures tops { tops_in self.new ≡ tops_in self.old }
+        ensures between { OnOk result ((n : ℕ) → stands is_inside self.new.classes.items n ≡ false) }
+        ensures meant { OnOk result ((next : AnyStage → Transit → Outcome) (p : List ℕ) → IsWithin (tops_of ground.now.site.now) p → future nowhere next self.new.classes.items (class_at self.new p) p ≡ (if nat_eq (packet_of p).entry 0 then next Send (entered (packet_of p)) else next Arrive (entered (packet_of p)))) }
+    {
+        let scene = Progress::entered(alloc).scene(alloc, BETWEEN, ground.state)?;
+        let cond = from_none(alloc)?;
+        let sent = Progress::entered(alloc).standing(Spot::Before(Stage::Send));
+        let arriving = Progress::entered(alloc).standing(Spot::Before(Stage::Arrive));
+        self.split(alloc, ground, &scene, &cond, 0, sent, arriving)?;
+        Ok(())
+    }
+
     /// All points of the site where their packets come in: those of the host before they are sent, all
     /// others before they arrive. The code has so many places.
     pub(crate) fn entered(
@@ -118,11 +139,7 @@ impl Sheet {
         ensures meant { IfOk result (λ s. (next : AnyStage → Transit → Outcome) (p : List ℕ) → IsWithin (tops_of ground.now.site.now) p → future nowhere next s.classes.items (class_at s p) p ≡ (if nat_eq (packet_of p).entry 0 then next Send (entered (packet_of p)) else next Arrive (entered (packet_of p)))) }
     {
         let mut sheet = Sheet::whole(alloc, ground.site, places)?;
-        let scene = Progress::entered(alloc).scene(alloc, BETWEEN, ground.state)?;
-        let cond = from_none(alloc)?;
-        let sent = Progress::entered(alloc).standing(Spot::Before(Stage::Send));
-        let arriving = Progress::entered(alloc).standing(Spot::Before(Stage::Arrive));
-        sheet.split(alloc, ground, &scene, &cond, 0, sent, arriving)?;
+        sheet.divide_entered(alloc, ground)?;
         Ok(sheet)
     }
 

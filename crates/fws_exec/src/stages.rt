@@ -55,6 +55,44 @@ impl Sheet {
         Ok(())
     }
 
+    /// The classes before the stage pass the part, whose boxes lie in this arena.
+    fn run_part_in(
+        &mut self,
+        alloc: Global,
+        arena: &Bump,
+        purpose: &Purpose<'_>,
+        stage: Stage,
+        part: Part,
+    ) -> Result<(), Memory>
+        requires sheet { IsSheet self.old }
+        requires sound { IsSound purpose.now.site.now }
+        requires ways { AreWaysOf purpose.now.site.now purpose.now.ways.now }
+        requires tops { tops_in self.old ≡ tops_of purpose.now.site.now }
+        requires part { part_ok purpose.now.code.now part ≡ true }
+        requires between { (n : ℕ) → stands is_inside self.old.classes.items n ≡ false }
+        ensures sheet { OnOk result (IsSheet self.new) }
+        ensures tops { tops_in self.new ≡ tops_in self.old }
+        ensures between { OnOk result ((n : ℕ) → stands is_inside self.new.classes.items n ≡ false) }
+        ensures meant { OnOk result (Becomes purpose.now.site.now self.old self.new (through_part purpose.now.code.now purpose.now.site.now purpose.now.state stage part)) }
+    {
+        let area = whole_site(arena, purpose.site)?;
+        let ground = Ground {
+            bump: arena,
+            area,
+            site: purpose.site,
+            ways: purpose.ways,
+            state: purpose.state,
+        };
+        let errand = Errand {
+            ground,
+            code: purpose.code,
+            part,
+            stage,
+        };
+        self.cross(alloc, &errand)?;
+        Ok(())
+    }
+
     /// The classes before the stage pass the part, whose boxes lie in an arena of its own.
     fn run_part(
         &mut self,
@@ -75,22 +113,7 @@ impl Sheet {
         ensures meant { OnOk result (Becomes purpose.now.site.now self.old self.new (through_part purpose.now.code.now purpose.now.site.now purpose.now.state stage part)) }
     {
         let bump = Bump::new(alloc);
-        let arena = &bump;
-        let area = whole_site(arena, purpose.site)?;
-        let ground = Ground {
-            bump: arena,
-            area,
-            site: purpose.site,
-            ways: purpose.ways,
-            state: purpose.state,
-        };
-        let errand = Errand {
-            ground,
-            code: purpose.code,
-            part,
-            stage,
-        };
-        self.cross(alloc, &errand)?;
+        self.run_part_in(alloc, &bump, purpose, stage, part)?;
         Ok(())
     }
 

@@ -1,5 +1,7 @@
 use Rattle.std.proofs.Common.{◌≡◌, ℕ, ◌+◌, ◌≤◌, true, false, cond, nat_lt, slice_get, refl, sym, ◌∙◌, ap, arith}
+use Rattle.std.proofs.lemmas.Bool.{false≢true}
 use Rattle.std.proofs.lemmas.Bool.Decides.{nat_tests}
+use Rattle.std.specs.Option.{option_map_or}
 use Rattle.fws_net.specs.Conditions.{holds}
 use Rattle.fws_net.specs.Points.{packet_of}
 use Rattle.fws_flat.specs.Walk.{sees, step_of}
@@ -7,9 +9,9 @@ use Rattle.fws_tree.specs.Painted.{value_at}
 use Rattle.fws_exec.specs.declared.spot.Spot.TheVariants.{At}
 use Rattle.fws_exec.specs.Classes.{kind_of, transit_of, meant, meant_behind, future, is_before}
 use Rattle.fws_exec.specs.Courses.{course}
-use Rattle.fws_exec.specs.Sheets.{class_at}
+use Rattle.fws_exec.specs.Sheets.{class_at, stands}
 use Rattle.fws_exec.proofs.Dividing.{chosen, pass_value, before_less}
-use Rattle.fws_exec.proofs.Putting.{future_same, future_of}
+use Rattle.fws_exec.proofs.Putting.{future_same, future_of, stands_of, put_spots}
 use Rattle.fws_exec.proofs.sheet.Sheet.pass_one.Goals as goal
 
 pub returns-then-is_always-clause-kept : goal.returns-then-is_always-clause-kept
@@ -24,6 +26,24 @@ returns-then-is_always-clause-kept c next p w obeys =
     ∙ pass_value (course c.args.errand.now next p) next p c.args.self.now.classes.items c.put.new.self.classes.items (class_at c.args.self.now p) (class_at c.args.self.now p) c.args.number (At c.args.place) c.args.progress c.requires.there
     (λ here. ap (λ k. future (course c.args.errand.now next p) next c.put.new.self.classes.items k p) here ∙ future_of (course c.args.errand.now next p) next c.put.new.self.classes.items c.args.number c.in_ok-hit.hit p c.put.ensures.put.0 ∙ behind ∙ sym acts)
     (λ away. future_same (course c.args.errand.now next p) next c.args.self.now.classes.items c.put.new.self.classes.items (class_at c.args.self.now p) p (c.put.ensures.put.1 (class_at c.args.self.now p) away ∙ ap (λ v. slice_get v.items (class_at c.args.self.now p)) c.arrive.ensures.classes))
+
+pub returns-then-is_always-clause-passed : goal.returns-then-is_always-clause-passed
+returns-then-is_always-clause-passed c =
+    stands_of (is_before (c.args.place + 1)) c.put.new.self.classes.items c.args.number c.in_ok-hit.hit c.put.ensures.put.0 ∙ c.in_ok-hit.ensures.behind
+
+pub returns-then-is_always-clause-spots : goal.returns-then-is_always-clause-spots
+returns-then-is_always-clause-spots c q le n h =
+    put_spots (is_before q) c.args.number c.in_ok-hit.hit c.arrive.new.self.classes.items c.put.new.self.classes.items c.put.ensures.put
+    (before_less q (c.args.place + 1) c.in_ok-hit.hit.spot le c.in_ok-hit.ensures.behind) n (ap (λ v. stands (is_before q) v.items n) c.arrive.ensures.classes ∙ h)
+
+pub split-requires-clause-elsewhere : goal.split-requires-clause-elsewhere
+split-requires-clause-elsewhere c d got same =
+    false≢true (sym (sym (at_place c.args.place)
+    ∙ ap (λ o. option_map_or (λ k. is_before (c.args.place + 1) k.spot) o false) (sym c.requires.there ∙ got)
+    ∙ ap (λ s. is_before (c.args.place + 1) s) same ∙ c.in_ok-hit.ensures.behind))
+  where
+    at_place : (place : ℕ) → nat_lt place (place + 1) ≡ true
+    at_place place = grind (arith, nat_tests)
 
 pub returns-clause-kept : goal.returns-clause-kept
 returns-clause-kept c next p w obeys =
@@ -44,3 +64,11 @@ returns-clause-spots c q le =
   where
     not_past : (q place : ℕ) → q ≤ place + 1 → nat_lt (place + 1) q ≡ false
     not_past q place le = grind (arith, nat_tests)
+
+pub returns-clause-passed : goal.returns-clause-passed
+returns-clause-passed c =
+    let missed : is_before (c.args.place + 1) c.standing-missed.result.spot ≡ false = ap (λ k. is_before (c.args.place + 1) k.spot) c.standing-missed.ensures ∙ not_past c.args.place in
+    (c.in_ok-split.ensures.spots (is_before (c.args.place + 1)) refl c.in_ok-hit.ensures.behind missed).0
+  where
+    not_past : (place : ℕ) → nat_lt (place + 1) (place + 1) ≡ false
+    not_past place = grind (arith, nat_tests)
