@@ -1,11 +1,12 @@
 //! The diagram of a configuration.
 
-ghost use Rattle.std.specs.Prelude.{◌≡◌, ◌++◌, true, None, IfOk, OnOk};
+ghost use Rattle.std.specs.Prelude.{◌≡◌, [], ◌∷◌, ◌++◌, true, None, IfOk, OnOk};
 ghost use Rattle.fws_net.specs.declared.connection.Kind.{Kind};
 ghost use Rattle.fws_net.specs.declared.packet.Packet.{Packet};
 ghost use Rattle.fws_ifcl.specs.Refusals.{refusal_of};
 ghost use Rattle.fws_ifcl.specs.Soundness.{ifcl_ok};
 ghost use Rattle.fws_ifcl.specs.Walk.{means};
+ghost use Rattle.fws_draw.specs.Rules.{ruled};
 ghost use Rattle.fws_pf.specs.Walk.{translations, walk};
 ghost use Rattle.fws_pf_ifcl.specs.Diagram.{chains_of, diagram_of, filter_place, pass_rules, pass_stage, skipping, tracking};
 
@@ -15,24 +16,31 @@ use fws_draw::{
     ruled_by, rules_are_right_by_parts, straight_diagrams_unfold, sum, walks_go_by_places,
 };
 use fws_ifcl::{Act, Chain, Ifcl, Rule, Stage};
-use fws_net::{Site, Test};
+use fws_net::{Lit, Site, Test};
 use fws_num::{Items, Memory, Text};
 use fws_pf::{PfConfig, PfNat};
 use fws_rule::positive;
 use std::alloc::Global;
 
+/// Puts a rule behind the others that acts where the literal holds. An error is want of memory.
+fn put_where(alloc: Global, rules: &mut Vec<Rule>, lit: Lit, act: Act) -> Result<(), Memory>
+    ensures { OnOk result (rules.new.items ≡ rules.old.items ++ ruled (lit ∷ []) act ∷ []) }
+{
+    let rule = ruled_by(alloc, lit, act)?;
+    rules.push(rule)?;
+    Ok(())
+}
+
 /// Puts the rules behind the others at which packets of connections pass. An error is want of memory.
 fn put_tracking(alloc: Global, rules: &mut Vec<Rule>, outward: bool) -> Result<(), Memory>
     ensures { OnOk result (rules.new.items ≡ rules.old.items ++ tracking outward) }
 {
-    let passing = ruled_by(alloc, positive(Test::Est), Act::Accept)?;
     if outward {
-        rules.push(passing)?;
+        put_where(alloc, rules, positive(Test::Est), Act::Accept)?;
         return Ok(());
     }
-    let tracked = ruled_by(alloc, positive(Test::Est), Act::RecDst)?;
-    rules.push(tracked)?;
-    rules.push(passing)?;
+    put_where(alloc, rules, positive(Test::Est), Act::RecDst)?;
+    put_where(alloc, rules, positive(Test::Est), Act::Accept)?;
     Ok(())
 }
 
@@ -42,8 +50,7 @@ fn put_skipping(alloc: Global, rules: &mut Vec<Rule>, c: &PfConfig) -> Result<()
     ensures { OnOk result (rules.new.items ≡ rules.old.items ++ skipping c.now) }
 {
     let skipped = positive(Test::Via(c.skip.copy(alloc)?));
-    let passing = ruled_by(alloc, skipped, Act::Accept)?;
-    rules.push(passing)?;
+    put_where(alloc, rules, skipped, Act::Accept)?;
     Ok(())
 }
 
@@ -80,19 +87,45 @@ fn pass_rules(alloc: Global, outward: bool, c: &PfConfig) -> Result<Vec<Rule>, M
     Ok(rules)
 }
 
+/// The chain of these rules. An error is want of memory.
+fn chain(alloc: Global, name: &[u8], rules: Vec<Rule>) -> Result<Chain, Memory>
+    ensures { IfOk result (λ chain. chain ≡ record { name = name.now; rules = rules.items }) }
+{
+    Ok(Chain {
+        name: Text::of(alloc, name)?,
+        rules: Items::from_vec(rules),
+    })
+}
+
+/// Puts the chain of these rules behind the others. An error is want of memory.
+fn put_chain(
+    alloc: Global,
+    chains: &mut Items<Chain>,
+    name: &[u8],
+    rules: Vec<Rule>,
+) -> Result<(), Memory>
+    ensures { OnOk result (chains.new ≡ chains.old ++ record { name = name.now; rules = rules.items } ∷ []) }
+{
+    let chain = chain(alloc, name, rules)?;
+    chains.put(chain)?;
+    Ok(())
+}
+
+/// Puts the chains of the two passes behind the others. An error is want of memory.
+fn put_chains(alloc: Global, chains: &mut Items<Chain>, c: &PfConfig) -> Result<(), Memory>
+    ensures { OnOk result (chains.new ≡ chains.old ++ chains_of c.now) }
+{
+    put_chain(alloc, chains, b"in", pass_rules(alloc, false, c)?)?;
+    put_chain(alloc, chains, b"out", pass_rules(alloc, true, c)?)?;
+    Ok(())
+}
+
 /// The chains of the two passes. An error is want of memory.
 fn chains_of(alloc: Global, c: &PfConfig) -> Result<Items<Chain>, Memory>
     ensures { IfOk result (λ chains. chains ≡ chains_of c.now) }
 {
     let mut chains = Items::new(alloc);
-    chains.put(Chain {
-        name: Text::of(alloc, b"in")?,
-        rules: Items::from_vec(pass_rules(alloc, false, c)?),
-    })?;
-    chains.put(Chain {
-        name: Text::of(alloc, b"out")?,
-        rules: Items::from_vec(pass_rules(alloc, true, c)?),
-    })?;
+    put_chains(alloc, &mut chains, c)?;
     Ok(chains)
 }
 
