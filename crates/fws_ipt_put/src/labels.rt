@@ -100,6 +100,21 @@ pub(crate) struct Decisions {
     pub(crate) routed: Tree<Verdict>,
 }
 
+/// The trees of what is decided on packets of connections: as they enter, and behind routing. An error is want of memory.
+fn seen_labelled(alloc: Global, views: &Views) -> Result<(Tree<Verdict>, Tree<Verdict>), Memory>
+    ensures entering_tops { IfOk result (λ l. l.0.0 ≡ views.now.packet.0) }
+    ensures routed_tops { IfOk result (λ l. l.1.0 ≡ views.now.behind.0) }
+    ensures entering { IfOk result (λ l. HasImages views.now.packet.0 passing views.now.packet.1 l.0.1) }
+    ensures routed { IfOk result (λ l. HasImages views.now.behind.0 passing views.now.behind.1 l.1.1) }
+{
+    let entering = views.packet.relabel(alloc, &ByTruth)?;
+    let routed = views.behind.relabel(alloc, &ByTruth)?;
+    Ok((entering, routed))
+}
+
+/// A tree that isn't wanted any more.
+fn dismiss(_tree: Tree<Verdict>) {}
+
 /// The trees of what is decided, by what rules see of established packets and by the table of new ones. An error is want
 /// of memory.
 pub(crate) fn labelled(
@@ -116,12 +131,16 @@ pub(crate) fn labelled(
     ensures routed { IfOk result (λ l. HasImages views.now.behind.0 passing views.now.behind.1 l.routed.1) }
 {
     let by_mark = ByMark { rewrites };
-    let entering = views.packet.relabel(alloc, &ByTruth)?;
     let news = fresh.relabel(alloc, &by_mark)?;
-    let routed = views.behind.relabel(alloc, &ByTruth)?;
-    Ok(Decisions {
-        entering,
-        news,
-        routed,
-    })
+    match seen_labelled(alloc, views) {
+        Ok((entering, routed)) => Ok(Decisions {
+            entering,
+            news,
+            routed,
+        }),
+        Err(fault) => {
+            dismiss(news);
+            Err(fault)
+        }
+    }
 }

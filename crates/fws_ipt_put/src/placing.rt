@@ -7,12 +7,14 @@ ghost use Rattle.fws_net.specs.declared.packet.Lang.TheVariants as langs;
 ghost use Rattle.fws_place.specs.Fits.{Fits, IsBreach};
 ghost use Rattle.fws_place.specs.Seen.{IsAcceptedAlike, IsAcceptedSomewhere, Tells};
 ghost use Rattle.fws_tree.specs.Regular.{AreRegular};
+ghost use Rattle.fws_sight.specs.SightLaws.{HasImages};
+ghost use Rattle.fws_ipt_put.specs.Marks.{AreMarks, passing, verdict_of};
 ghost use Rattle.fws_ipt_put.specs.Placed.{IsPlaced, tracks};
 
 use crate::draft::drafted;
-use crate::labels::labelled;
+use crate::labels::{Decisions, labelled};
 use crate::layout::filled;
-use crate::marking::marks_for;
+use crate::marking::{Marks, marks_for};
 use fws_ipt::IptConfig;
 use fws_ipt_tree::Verdict;
 use fws_net::{Lang, Outcome, Site};
@@ -25,16 +27,30 @@ use fws_sight::relabelled_trees_are_told;
 use fws_tree::Tables;
 use std::alloc::Global;
 
-/// The configuration of tables that fit, by what rules see of established packets. An error is want of memory.
-fn put_tables(alloc: Global, site: &Site, t: &Tables, views: &Views) -> Result<IptConfig, Memory>
+/// The configuration of tables that fit, by what is decided in place of what they hold. An error is want of memory.
+fn put_decisions(
+    alloc: Global,
+    site: &Site,
+    _t: &Tables,
+    _views: &Views,
+    known: &Marks,
+    trees: &Decisions,
+) -> Result<IptConfig, Memory>
     requires sound { IsSound site.now }
-    requires regular { AreRegular site.now t.now }
-    requires fits { Fits langs.Iptables site.now t.now }
-    requires packet_tops { views.now.packet.0 ≡ tops_of site.now }
-    requires behind_tops { views.now.behind.0 ≡ tops_of site.now }
-    requires packet { Tells site.now (λ p r. IsAcceptedSomewhere site.now t.now p) views.now.packet.1 }
-    requires behind { Tells site.now (IsAcceptedAlike site.now t.now) views.now.behind.1 }
-    ensures { IfOk result (IsPlaced site.now t.now) }
+    requires regular { AreRegular site.now _t.now }
+    requires fits { Fits langs.Iptables site.now _t.now }
+    requires packet_tops { _views.now.packet.0 ≡ tops_of site.now }
+    requires behind_tops { _views.now.behind.0 ≡ tops_of site.now }
+    requires packet { Tells site.now (λ p r. IsAcceptedSomewhere site.now _t.now p) _views.now.packet.1 }
+    requires behind { Tells site.now (IsAcceptedAlike site.now _t.now) _views.now.behind.1 }
+    requires known { AreMarks _t.now.fresh.0 _t.now.fresh.1 known.now.rewrites.keys known.now.marks.items }
+    requires entering_tops { trees.now.entering.0 ≡ _views.now.packet.0 }
+    requires news_tops { trees.now.news.0 ≡ _t.now.fresh.0 }
+    requires routed_tops { trees.now.routed.0 ≡ _views.now.behind.0 }
+    requires entering { HasImages _views.now.packet.0 passing _views.now.packet.1 trees.now.entering.1 }
+    requires news { HasImages _t.now.fresh.0 (verdict_of known.now.rewrites.keys) _t.now.fresh.1 trees.now.news.1 }
+    requires routed { HasImages _views.now.behind.0 passing _views.now.behind.1 trees.now.routed.1 }
+    ensures { IfOk result (IsPlaced site.now _t.now) }
 {
     fitting_pairs_are_told();
     lost_pairs_are_dropped();
@@ -42,8 +58,6 @@ fn put_tables(alloc: Global, site: &Site, t: &Tables, views: &Views) -> Result<I
     views_are_told();
     relabelled_trees_are_told::<bool, Verdict>();
     relabelled_trees_are_told::<Outcome, Verdict>();
-    let known = marks_for(alloc, &t.fresh)?;
-    let trees = labelled(alloc, &t.fresh, views, &known.rewrites)?;
     let marks = known.marks.as_slice();
     if marks.len() > 4_000_000_000 {
         return Err(Memory);
@@ -59,6 +73,43 @@ fn put_tables(alloc: Global, site: &Site, t: &Tables, views: &Views) -> Result<I
     let _count = draft.chains.len();
     let chains = filled(alloc, site, draft)?;
     Ok(IptConfig { chains })
+}
+
+/// The configuration of tables that fit, by the marks of their rewritings. An error is want of memory.
+fn put_marked(
+    alloc: Global,
+    site: &Site,
+    t: &Tables,
+    views: &Views,
+    known: &Marks,
+) -> Result<IptConfig, Memory>
+    requires sound { IsSound site.now }
+    requires regular { AreRegular site.now t.now }
+    requires fits { Fits langs.Iptables site.now t.now }
+    requires packet_tops { views.now.packet.0 ≡ tops_of site.now }
+    requires behind_tops { views.now.behind.0 ≡ tops_of site.now }
+    requires packet { Tells site.now (λ p r. IsAcceptedSomewhere site.now t.now p) views.now.packet.1 }
+    requires behind { Tells site.now (IsAcceptedAlike site.now t.now) views.now.behind.1 }
+    requires known { AreMarks t.now.fresh.0 t.now.fresh.1 known.now.rewrites.keys known.now.marks.items }
+    ensures { IfOk result (IsPlaced site.now t.now) }
+{
+    let trees = labelled(alloc, &t.fresh, views, &known.rewrites)?;
+    put_decisions(alloc, site, t, views, known, &trees)
+}
+
+/// The configuration of tables that fit, by what rules see of established packets. An error is want of memory.
+fn put_tables(alloc: Global, site: &Site, t: &Tables, views: &Views) -> Result<IptConfig, Memory>
+    requires sound { IsSound site.now }
+    requires regular { AreRegular site.now t.now }
+    requires fits { Fits langs.Iptables site.now t.now }
+    requires packet_tops { views.now.packet.0 ≡ tops_of site.now }
+    requires behind_tops { views.now.behind.0 ≡ tops_of site.now }
+    requires packet { Tells site.now (λ p r. IsAcceptedSomewhere site.now t.now p) views.now.packet.1 }
+    requires behind { Tells site.now (IsAcceptedAlike site.now t.now) views.now.behind.1 }
+    ensures { IfOk result (IsPlaced site.now t.now) }
+{
+    let known = marks_for(alloc, &t.fresh)?;
+    put_marked(alloc, site, t, views, &known)
 }
 
 /// The configuration of iptables that does with every packet of the site what the tables say; or the first clause of
