@@ -1,6 +1,6 @@
-use Rattle.std.proofs.Common.{◌≡◌, ℕ, ◌+◌, cond, ◌&&◌, List, length, sym, ◌∙◌, ap}
+use Rattle.std.proofs.Common.{◌≡◌, ◌+◌, cond, ◌&&◌, length, ◌∙◌, ap}
 use Rattle.fws_box.specs.Boxes.{box_hits, sides_of}
-use Rattle.fws_box.specs.Sides.{sides_have, IsWithin}
+use Rattle.fws_box.specs.Sides.{sides_have}
 use Rattle.fws_net.specs.Conditions.{holds}
 use Rattle.fws_net.specs.Points.{tops_of}
 use Rattle.fws_scene.specs.Scenes.{view_of}

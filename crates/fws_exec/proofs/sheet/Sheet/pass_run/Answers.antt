@@ -1,4 +1,4 @@
-use Rattle.std.proofs.Common.{sym, ◌∙◌, ap}
+use Rattle.std.proofs.Common.{◌∙◌, ap}
 use Rattle.fws_exec.specs.Classes.{future, is_before}
 use Rattle.fws_exec.specs.Courses.{course}
 use Rattle.fws_exec.specs.Sheets.{class_at, stands}
