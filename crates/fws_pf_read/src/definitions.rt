@@ -12,7 +12,8 @@ ghost use Rattle.fws_pf_read.specs.Statements.{StatementGiven, seen};
 
 use crate::draft::dismiss_value;
 use crate::rule::dismiss_rule;
-use crate::statement::{Statement, statement_read};
+use crate::statement::Statement;
+use crate::whole_statement::statement_read;
 use fws_net::{ReadFault, Site};
 use fws_num::{Line, Memory, Text, Word};
 use fws_pf_words::{

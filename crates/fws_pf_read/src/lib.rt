@@ -17,5 +17,6 @@ mod statement;
 mod steps;
 mod target;
 mod text;
+mod whole_statement;
 
 pub use reader::read;

@@ -12,7 +12,8 @@ ghost use Rattle.fws_pf_read.specs.Texts.{plain_step, with_tags};
 
 use crate::progress::Progress;
 use crate::rule::{Rule, choices, dismiss_rule, rule_checks};
-use crate::statement::{Statement, statement_read};
+use crate::statement::Statement;
+use crate::whole_statement::statement_read;
 use fws_net::{Cause, Cond, ReadFault, Site};
 use fws_num::{Items, Memory, Text, Word};
 use fws_pf_words::{

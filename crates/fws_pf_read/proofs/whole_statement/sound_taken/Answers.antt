@@ -3,7 +3,7 @@ use Rattle.fws_pf.specs.Macros.{meant}
 use Rattle.fws_pf_words.specs.Uses.{behind_name, joined_words, name_ahead, words_named}
 use Rattle.fws_pf_read.specs.Statements.{seen}
 use Rattle.fws_pf_read.proofs.Within.{meant_given}
-use Rattle.fws_pf_read.proofs.statement.sound_taken.Goals as goal
+use Rattle.fws_pf_read.proofs.whole_statement.sound_taken.Goals as goal
 
 pub returns-in-Ok-Some-clause-given : goal.returns-in-Ok-Some-clause-given
 returns-in-Ok-Some-clause-given c = λ t tags are.

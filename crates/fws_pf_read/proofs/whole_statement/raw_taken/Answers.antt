@@ -2,7 +2,7 @@ use Rattle.std.proofs.Common.{◌≡◌, true, false, rules, sym, ◌∙◌}
 use Rattle.fws_num.specs.Words.{is_sound}
 use Rattle.fws_pf_read.specs.Statements.{seen}
 use Rattle.fws_pf_read.proofs.Within.{raw_sound, raw_unsound}
-use Rattle.fws_pf_read.proofs.statement.raw_taken.Goals as goal
+use Rattle.fws_pf_read.proofs.whole_statement.raw_taken.Goals as goal
 
 pub returns-then-not-is_sound-clause-given : goal.returns-then-not-is_sound-clause-given
 returns-then-not-is_sound-clause-given c = λ t tags are.

@@ -2,7 +2,7 @@ use Rattle.std.proofs.Common.{refl, arith}
 use Rattle.std.proofs.lemmas.Result.{err_from_is_err_and}
 use Rattle.fws_pf_read.specs.Statements.{seen}
 use Rattle.fws_pf_read.proofs.Within.{raws_refused, raws_step}
-use Rattle.fws_pf_read.proofs.statement.raws_from.Goals as goal
+use Rattle.fws_pf_read.proofs.whole_statement.raws_from.Goals as goal
 
 pub loop-w-init : goal.loop-w-init
 loop-w-init c = record { given = refl; kept = refl; known = c.requires.known }

@@ -1,7 +1,7 @@
 use Rattle.fws_pf_words.specs.UsesKnown.{AreUses}
 use Rattle.fws_pf_read.specs.Statements.{items_of, seen}
 use Rattle.fws_pf_read.proofs.Within.{in_any_case}
-use Rattle.fws_pf_read.proofs.statement.rest_taken.Goals as goal
+use Rattle.fws_pf_read.proofs.whole_statement.rest_taken.Goals as goal
 
 pub returns-clause-known : goal.returns-clause-known
 returns-clause-known c = λ macros.

@@ -4,7 +4,7 @@ use Rattle.fws_num.specs.declared.word.Word.{Word}
 use Rattle.fws_num.specs.Words.{is_sound}
 use Rattle.fws_pf.specs.StatementText.{words_taken}
 use Rattle.fws_pf_read.specs.Statements.{StatementGiven, seen}
-use Rattle.fws_pf_read.proofs.statement.whole_taken.Goals as goal
+use Rattle.fws_pf_read.proofs.whole_statement.whole_taken.Goals as goal
 
 pub returns-clause-given : goal.returns-clause-given
 returns-clause-given c = λ t tags are.

@@ -3,7 +3,7 @@ use Rattle.fws_pf.specs.declared.statement.Statement.TheVariants as any
 use Rattle.fws_pf.specs.StatementText.{raws_taken}
 use Rattle.fws_pf_words.specs.UsesKnown.{AreUses}
 use Rattle.fws_pf_read.specs.Statements.{AreTags, items_of, seen}
-use Rattle.fws_pf_read.proofs.statement.raws_from.Given as goal
+use Rattle.fws_pf_read.proofs.whole_statement.raws_from.Given as goal
 
 abbrev pub invariant-loop-w : goal.invariant-loop-w
 invariant-loop-w l = record {

@@ -1,4 +1,4 @@
-use Rattle.fws_pf_read.proofs.statement.others_taken.Goals as goal
+use Rattle.fws_pf_read.proofs.whole_statement.others_taken.Goals as goal
 
 pub returns-clause-given : goal.returns-clause-given
 returns-clause-given c = λ t macros tags are. c.piece_taken.ensures.given t macros tags tt are

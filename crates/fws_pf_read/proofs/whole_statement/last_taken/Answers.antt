@@ -3,7 +3,7 @@ use Rattle.fws_num.specs.declared.word.Word.{Word}
 use Rattle.fws_pf.specs.StatementText.{words_taken}
 use Rattle.fws_pf_read.specs.Statements.{StatementGiven, seen}
 use Rattle.fws_pf_read.proofs.Judged.{last_passed}
-use Rattle.fws_pf_read.proofs.statement.last_taken.Goals as goal
+use Rattle.fws_pf_read.proofs.whole_statement.last_taken.Goals as goal
 
 pub returns-then-are_printed-clause-given : goal.returns-then-are_printed-clause-given
 returns-then-are_printed-clause-given c = λ t macros tags are.

@@ -7,7 +7,7 @@ use Rattle.fws_pf.specs.Macros.{meant}
 use Rattle.fws_pf.specs.StatementText.{words_taken}
 use Rattle.fws_pf_read.specs.Statements.{StatementGiven, seen}
 use Rattle.fws_pf_read.proofs.Within.{meant_given, meant_refused}
-use Rattle.fws_pf_read.proofs.statement.plain_taken.Goals as goal
+use Rattle.fws_pf_read.proofs.whole_statement.plain_taken.Goals as goal
 
 pub returns-in-Ok-clause-given : goal.returns-in-Ok-clause-given
 returns-in-Ok-clause-given c = λ t tags are.

@@ -3,7 +3,7 @@ use Rattle.std.proofs.lemmas.List.{take_rest}
 use Rattle.fws_pf_read.specs.Statements.{seen}
 use Rattle.fws_pf_read.proofs.Judged.{rest_judged}
 use Rattle.fws_pf_read.proofs.Within.{piece_rest, piece_whole}
-use Rattle.fws_pf_read.proofs.statement.piece_taken.Goals as goal
+use Rattle.fws_pf_read.proofs.whole_statement.piece_taken.Goals as goal
 
 pub returns-then-n-words-clause-given : goal.returns-then-n-words-clause-given
 returns-then-n-words-clause-given c = λ t macros tags piece are.

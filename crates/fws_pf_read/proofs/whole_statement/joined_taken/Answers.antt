@@ -5,7 +5,7 @@ use Rattle.fws_pf_words.specs.Uses.{all_but_last, joined_words, last_joined, wor
 use Rattle.fws_pf_read.specs.Statements.{seen}
 use Rattle.fws_pf_read.proofs.Judged.{front_judged}
 use Rattle.fws_pf_read.proofs.Within.{front_refused, front_taken}
-use Rattle.fws_pf_read.proofs.statement.joined_taken.Goals as goal
+use Rattle.fws_pf_read.proofs.whole_statement.joined_taken.Goals as goal
 
 pub returns-in-Ok-clause-given : goal.returns-in-Ok-clause-given
 returns-in-Ok-clause-given c = λ t tags are.
