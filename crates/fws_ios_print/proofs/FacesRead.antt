@@ -17,6 +17,7 @@ use Rattle.fws_net.specs.declared.site.Site.{Site}
 use Rattle.fws_net.specs.Faces.{entry_named}
 use Rattle.fws_net.specs.Reading.{and_then}
 use Rattle.fws_net.specs.SiteLaws.{IsOrderly}
+use Rattle.fws_rule.specs.Names.{interface_name}
 use Rattle.fws_ios.specs.declared.config.IosConfig.{IosConfig}
 use Rattle.fws_ios.specs.declared.config.IosGroup.{IosGroup}
 use Rattle.fws_ios.specs.declared.config.IosList.{IosList}
@@ -33,7 +34,6 @@ use Rattle.fws_ios_print.proofs.Basics.{if_true, if_false}
 use Rattle.fws_ios_print.proofs.Laws.{Laws}
 use Rattle.fws_ios_print.proofs.LinesTaken.{AreTaken, comment_taken, IsStep, next_taken, none_taken, plain_sound, taken_append, words_more}
 use Rattle.fws_ios_print.proofs.ListsRead.{name_plain, text_at}
-use Rattle.fws_ios_print.proofs.NamesRead.{interface_name, interface_plain, named_entry}
 
 kept : {A : Type 0} (p : A → Bool) (xs : List A) → list_all p xs ≡ true → filter p xs ≡ xs
 kept p [] h = refl
@@ -188,13 +188,13 @@ none_changed site defined p q d e _ (next_taken b word words plain mark step lat
 -- as many interfaces from this entry on
 abbrev pub numbered_lines : Site → IosConfig → ℕ → ℕ → List IosGroup → List (List ℕ)
 numbered_lines site c zero face gs = []
-numbered_lines site c (suc count) face gs = interface_lines c face (interface_name site face) gs ++ numbered_lines site c count (face + 1) (groups_behind face gs)
+numbered_lines site c (suc count) face gs = interface_lines c face (interface_name Ios site face) gs ++ numbered_lines site c count (face + 1) (groups_behind face gs)
 
 item_behind : {A : Type 0} (front : List A) (x : A) (xs : List A) → slice_get (front ++ x ∷ xs) (length front) ≡ Some x
 item_behind [] x xs = refl
 item_behind (y ∷ front) x xs = item_behind front x xs
 
-name_behind : (site : Site) (front : List Iface) (face : Iface) (faces : List Iface) → site.faces ≡ front ++ face ∷ faces → interface_name site (length front + 2) ≡ face.names.ios
+name_behind : (site : Site) (front : List Iface) (face : Iface) (faces : List Iface) → site.faces ≡ front ++ face ∷ faces → interface_name Ios site (length front + 2) ≡ face.names.ios
 name_behind site front face faces e =
     let same : length front + 2 - 2 ≡ length front = omega arith in
     if_false (nat_eq (length front + 2) 1) site.lo.ios (option_map_or (λ face. face.names.ios) (slice_get site.faces (length front + 2 - 2)) []) (ne_eqb (length front + 2) 1 (λ k. omega arith))
@@ -236,11 +236,11 @@ module _ (laws : Laws) (site : Site) (orderly : IsOrderly site) (defined pools :
 
   -- an interface is opened
   opening_step : (b : Block) (face : ℕ) (gs : List IosGroup) (ms : List Marked) → 1 ≤ face → face ≤ face_count site
-      → IsStep site defined false (interface_words (interface_name site face)) pools (faced b gs ms) pools (faced (within face) gs ms)
+      → IsStep site defined false (interface_words (interface_name Ios site face)) pools (faced b gs ms) pools (faced (within face) gs ms)
   opening_step b face gs ms low high n = (
-    if_true (list_all is_printed (interface_name site face)) (let x : Result IosDraft Cause = Ok (faced (blocks.Interface (entry_named Ios site (interface_name site face))) gs ms) in x) (Err Syntax)
-        (plain_sound (interface_name site face) (interface_plain site orderly face low high))
-        ∙ ap (λ o. Ok (faced (blocks.Interface o) gs ms)) (named_entry site orderly face low high),
+    if_true (list_all is_printed (interface_name Ios site face)) (let x : Result IosDraft Cause = Ok (faced (blocks.Interface (entry_named Ios site (interface_name Ios site face))) gs ms) in x) (Err Syntax)
+        (plain_sound (interface_name Ios site face) ((laws.named Ios site orderly).plain face low high))
+        ∙ ap (λ o. Ok (faced (blocks.Interface o) gs ms)) ((laws.named Ios site orderly).leads face low high),
     refl,
   )
 
@@ -358,15 +358,15 @@ module _ (laws : Laws) (site : Site) (orderly : IsOrderly site) (defined pools :
     pub taken : Taken (faced b done ms) lines (faced block all marks)
 
   interface_taken : (b : Block) (face : ℕ) (done all : List IosGroup) (ms marks : List Marked) (lines : List (List ℕ)) → 1 ≤ face → face ≤ face_count site → Taken (faced (within face) done ms) lines (faced (within face) all marks)
-      → AreFaced b done ms (headed (spaced (interface_words (interface_name site face))) lines) all marks
+      → AreFaced b done ms (headed (spaced (interface_words (interface_name Ios site face))) lines) all marks
   interface_taken b face done all ms marks [] low high t = record {
     block = b;
     taken = subst (λ (d : IosDraft). Taken (faced b done ms) [] (record d { block = b })) (none_changed site defined pools pools (faced (within face) done ms) (faced (within face) all marks) [] t refl) none_taken;
   }
   interface_taken b face done all ms marks (line ∷ lines) low high t = record {
     block = within face;
-    taken = next_taken false (codes "interface") (interface_name site face ∷ [])
-        (words_more (codes "interface") (interface_name site face ∷ []) refl (words_more (interface_name site face) [] (interface_plain site orderly face low high) refl)) refl
+    taken = next_taken false (codes "interface") (interface_name Ios site face ∷ [])
+        (words_more (codes "interface") (interface_name Ios site face ∷ []) refl (words_more (interface_name Ios site face) [] ((laws.named Ios site orderly).plain face low high) refl)) refl
         (opening_step b face done ms low high) t;
   }
 
@@ -399,5 +399,5 @@ module _ (laws : Laws) (site : Site) (orderly : IsOrderly site) (defined pools :
         block = later.block;
         taken = subst (λ (l : List IosGroup). Taken d0 (numbered_lines site c (suc count) face gs) (faced later.block l (ms ++ marks_from c (suc count) face))) (append_assoc done own rest ∙ ap (λ (l : List IosGroup). done ++ l) (own_behind face gs))
             (subst (λ (l : List Marked). Taken d0 (numbered_lines site c (suc count) face gs) (faced later.block ((done ++ own) ++ rest) l)) (append_assoc ms (marks_at c face) (marks_from c count (face + 1)))
-            (taken_append site defined pools pools pools d0 d1 d2 (interface_lines c face (interface_name site face) gs) (numbered_lines site c count (face + 1) rest) first.taken later.taken));
+            (taken_append site defined pools pools pools d0 d1 d2 (interface_lines c face (interface_name Ios site face) gs) (numbered_lines site c count (face + 1) rest) first.taken later.taken));
       }

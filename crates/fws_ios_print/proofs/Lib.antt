@@ -6,7 +6,6 @@ pub mod LinesPut
 pub mod LinesTaken
 pub mod ListsRead
 pub mod NamesDiffer
-pub mod NamesRead
 pub mod NatsRead
 pub mod ReadBack
 pub mod Shapes

@@ -18,6 +18,7 @@ use fws_num::{
     Memory, Text, addresses_are_dotted, decimals_are_read, lines_are_read, numbers_are_digits,
     quads_are_dotted, words_are_read,
 };
+use fws_rule::orderly_sites_are_named;
 use std::alloc::Global;
 
 /// The text of a printable configuration is read as that configuration.
@@ -33,6 +34,7 @@ fn printed_texts_are_read()
     ranges_add_members();
     ranges_are_regular();
     same_members_same_list();
+    orderly_sites_are_named();
 }
 
 /// What stands ahead of the lines, as comments.

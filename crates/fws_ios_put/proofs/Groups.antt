@@ -4,7 +4,8 @@ use Rattle.std.proofs.lemmas.Bool.{and_from, cases_Bool, eqb-false, eqb-true, le
 use Rattle.std.specs.List.{list_all, range_with_len}
 use Rattle.std.specs.Prelude.{nat_le, is_some}
 use Rattle.fws_net.specs.declared.site.Site.{Site}
-use Rattle.fws_net.specs.SiteLaws.{IsOrderly}
+use Rattle.fws_net.specs.declared.packet.Lang.TheVariants.{Ios}
+use Rattle.fws_rule.specs.Names.{AreNamed}
 use Rattle.fws_ios.specs.declared.config.IosGroup.{IosGroup}
 use Rattle.fws_ios.specs.Walk.{group_at}
 use Rattle.fws_ios_print.specs.Printable.{face_count, group_place, groups_ascend, is_list_name, is_printed_group}
@@ -41,15 +42,15 @@ module _ (site : Site) (leaders : List ℕ) where
       (le-leb least (2 * a + 0) (omega arith)) (ascending (a + 1) n (2 * a + 0 + 1) (omega arith))
 
   -- each can be printed
-  pub groups_printed : IsOrderly site → (a n : ℕ) → 1 ≤ a → a + n ≤ length site.faces + 2
+  pub groups_printed : AreNamed Ios site → (a n : ℕ) → 1 ≤ a → a + n ≤ length site.faces + 2
       → ((e : ℕ) → 1 ≤ e → e ≤ length site.faces + 1 → (1 ≤ leader leaders e) × (leader leaders e ≤ e)) → list_all (is_printed_group site) (from a n) ≡ true
-  groups_printed orderly a zero low high led = refl
-  groups_printed orderly a (suc n) low high led =
+  groups_printed are_named a zero low high led = refl
+  groups_printed are_named a (suc n) low high led =
       let here = led a low (omega arith) in
       let below : leader leaders a ≤ length site.faces + 1 = (let h = here.1 in omega arith) in
       and_from (is_printed_group site (group_of site leaders a)) (list_all (is_printed_group site) (from (a + 1) n))
-      (and_from (nat_le a (face_count site)) (is_list_name (list_name site leaders (leader leaders a))) (le-leb a (face_count site) (omega arith)) (good_name site orderly leaders (leader leaders a) here.0 below))
-      (groups_printed orderly (a + 1) n (omega arith) (omega arith) led)
+      (and_from (nat_le a (face_count site)) (is_list_name (list_name site leaders (leader leaders a))) (le-leb a (face_count site) (omega arith)) (good_name site are_named leaders (leader leaders a) here.0 below))
+      (groups_printed are_named (a + 1) n (omega arith) (omega arith) led)
 
   -- each entry is guarded
   pub all_guarded : (groups : List IosGroup) (a n : ℕ) → ((e : ℕ) → a ≤ e → e < a + n → (g : IosGroup) × (group_at false (Some e) groups ≡ Some g)) → list_all (is_guarded groups) (range_with_len a n) ≡ true

@@ -5,7 +5,8 @@ use Rattle.std.specs.List.{list_all, range_with_len}
 use Rattle.std.specs.Option.{option_map_or}
 use Rattle.std.specs.Prelude.{◌^◌, ◌-◌, nat_lt, unwrap_or}
 use Rattle.fws_net.specs.declared.site.Site.{Site}
-use Rattle.fws_net.specs.SiteLaws.{IsOrderly}
+use Rattle.fws_net.specs.declared.packet.Lang.TheVariants.{Ios}
+use Rattle.fws_rule.specs.Names.{AreNamed}
 use Rattle.fws_ios.specs.declared.config.IosConfig.{IosConfig}
 use Rattle.fws_ios.specs.declared.config.IosList.{IosList}
 use Rattle.fws_ios.specs.declared.config.IosNat.{IosNat}
@@ -50,7 +51,7 @@ made_alike site new known a b c alike made = record {
       ∙ ap (λ (v : Bool). v || (is_tcp x && (is_stray site x && (truth c.acked_known.1 x && not (truth c.known.1 x))))) (same_truth new a b 16 x alike.0);
 }
 
-module _ (site : Site) (tables : Tables) (known : Known site tables) (orderly : IsOrderly site) (n k : List ℕ × Plain Bool) (tells_n : TellsNew site tables n) (tells_k : TellsKnown site tables k)
+module _ (site : Site) (tables : Tables) (known : Known site tables) (are_named : AreNamed Ios site) (n k : List ℕ × Plain Bool) (tells_n : TellsNew site tables n) (tells_k : TellsKnown site tables k)
     (leaders : List ℕ) (led : AreLeaders n.1 k.1 (length site.faces + 1) leaders) (c : IosConfig) (draft : IsDraft site tables n.1 k.1 leaders c) where
   most : length leaders ≡ length site.faces + 1
   most = led.size
@@ -64,7 +65,7 @@ module _ (site : Site) (tables : Tables) (known : Known site tables) (orderly : 
       let had = led.each entry low high in
       let below : leader leaders entry < length leaders + 1 = (let h = had.high in let size = led.size in omega arith) in
       subst (λ (ls : List IosList). IsFound site n.1 k.1 leaders ls (leader leaders entry)) (sym draft.lists)
-      (own_found site orderly n.1 k.1 leaders draft.own draft.translations.lists (leader leaders entry) (draft.are_lists.found (leader leaders entry) had.low below had.itself))
+      (own_found site are_named n.1 k.1 leaders draft.own draft.translations.lists (leader leaders entry) (draft.are_lists.found (leader leaders entry) had.low below had.itself))
 
   applied : (entry : ℕ) → 1 ≤ entry → entry ≤ length site.faces + 1 → group_at false (Some entry) c.groups ≡ Some (group_of site leaders entry)
   applied entry low high = ap (group_at false (Some entry)) groups_are ∙ at_entry site leaders 1 (length site.faces + 1) entry low (omega arith)
@@ -92,7 +93,7 @@ module _ (site : Site) (tables : Tables) (known : Known site tables) (orderly : 
     nats = ap (list_all is_printed_nat) draft.nats ∙ draft.are_sources.printed_nats;
     sources = λ p w of_site accepted crosses m is.
         draft.are_sources.translated p w of_site accepted crosses c draft.nats
-        (λ name marked. ap (list_named name) draft.lists ∙ marked_found site orderly n.1 k.1 leaders (length leaders + 1) draft.own draft.translations.lists draft.are_lists.named name marked) m is;
+        (λ name marked. ap (list_named name) draft.lists ∙ marked_found site are_named n.1 k.1 leaders (length leaders + 1) draft.own draft.translations.lists draft.are_lists.named name marked) m is;
   }
 
   -- Printing
@@ -104,9 +105,9 @@ module _ (site : Site) (tables : Tables) (known : Known site tables) (orderly : 
   printable =
       let lists = ap (list_all is_printed_list) draft.lists ∙ all_both is_printed_list draft.own draft.translations.lists draft.are_lists.printed draft.are_sources.printed_lists in
       let apart = ap are_apart draft.lists
-      ∙ all_apart site orderly n.1 k.1 leaders (length leaders + 1) draft.own draft.translations.lists draft.are_lists.named draft.are_sources.marked draft.are_lists.apart draft.are_sources.apart in
+      ∙ all_apart site are_named n.1 k.1 leaders (length leaders + 1) draft.own draft.translations.lists draft.are_lists.named draft.are_sources.marked draft.are_lists.apart draft.are_sources.apart in
       let order = ap (groups_ascend 2) groups_are ∙ ascending site leaders 1 (length site.faces + 1) 2 (omega arith) in
-      let groups = ap (list_all (is_printed_group site)) groups_are ∙ groups_printed site leaders orderly 1 (length site.faces + 1) (omega arith) (omega arith) low_leaders in
+      let groups = ap (list_all (is_printed_group site)) groups_are ∙ groups_printed site leaders are_named 1 (length site.faces + 1) (omega arith) (omega arith) low_leaders in
       let sides = good_sides site c.inside c.outside draft.inside draft.outside draft.inside_regular draft.outside_regular in
       let few = ap (λ (nats : List IosNat). nat_lt (length nats) (2 ^ 64 - 1)) draft.nats ∙ draft.are_sources.few in
       all_six (list_all is_printed_list c.lists) (are_apart c.lists) (groups_ascend 2 c.groups) (list_all (is_printed_group site) c.groups) (are_sides site c.inside c.outside)

@@ -5,7 +5,6 @@ pub mod Counting
 pub mod Deciding
 pub mod Framing
 pub mod Groups
-pub mod Interfaces
 pub mod Joining
 pub mod Known
 pub mod Laid

@@ -1,5 +1,5 @@
 -- Names of lists: they differ, can be printed, and aren't those of translation lists.
-use Rattle.std.proofs.Common.{◌≡◌, ℕ, ◌+◌, ◌≤◌, Bool, true, false, cond, ◌&&◌, not, nat_eq, List, [], ◌∷◌, ◌++◌, length, drop, refl, sym, ap, ◌∙◌, arith}
+use Rattle.std.proofs.Common.{◌≡◌, ℕ, ◌+◌, ◌≤◌, Bool, true, false, cond, ◌&&◌, not, nat_eq, Some, List, [], ◌∷◌, ◌++◌, length, drop, refl, sym, ap, ◌∙◌, arith}
 use Rattle.std.proofs.lemmas.Bool.{and_from, and_parts, eqb-true, false≢true, le-leb}
 use Rattle.std.proofs.lemmas.List.Folds.{list_all-append}
 use Rattle.std.specs.List.{list_all}
@@ -7,12 +7,13 @@ use Rattle.std.specs.Prelude.{nat_le, codes}
 use Rattle.std.specs.Str.{bytes_eq}
 use Rattle.fws_num.specs.Written.{is_plain, is_plain_byte}
 use Rattle.fws_net.specs.declared.site.Site.{Site}
-use Rattle.fws_net.specs.SiteLaws.{IsOrderly}
 use Rattle.fws_net.specs.SiteWords.{is_name_byte}
+use Rattle.fws_net.specs.Faces.{entry_named}
+use Rattle.fws_net.specs.declared.packet.Lang.TheVariants.{Ios}
+use Rattle.fws_rule.specs.Names.{interface_name, is_own_byte, AreNamed}
 use Rattle.fws_ios.specs.Values.{is_number as are_digits}
 use Rattle.fws_ios_print.specs.Printable.{is_list_name, state_name}
-use Rattle.fws_ios_put.specs.Layout.{ending, has_followers, ios_name, list_name}
-use Rattle.fws_ios_put.proofs.Interfaces.{interface_spelled, interface_plain, name_bytes, one_entry}
+use Rattle.fws_ios_put.specs.Layout.{ending, has_followers, list_name}
 
 -- the bytes ahead of the first plus
 before_plus : List ℕ → List ℕ
@@ -38,24 +39,37 @@ front_is shared (c ∷ cs) h =
 behind : (text : List ℕ) (shared : Bool) → drop 5 (codes "FROM-" ++ text ++ ending shared) ≡ text ++ ending shared
 behind text shared = refl
 
-pub one_name : (site : Site) → IsOrderly site → (leaders : List ℕ) (m n : ℕ) → 1 ≤ m → m ≤ length site.faces + 1 → 1 ≤ n → n ≤ length site.faces + 1
+own_bytes : (text : List ℕ) → list_all is_own_byte text ≡ true → list_all is_name_byte text ≡ true
+own_bytes [] h = refl
+own_bytes (c ∷ cs) h =
+    let both = and_parts (is_own_byte c) (list_all is_own_byte cs) h in
+    and_from (is_name_byte c) (list_all is_name_byte cs) (and_parts (is_name_byte c) (nat_le 45 c && nat_le c 122) both.0).0 (own_bytes cs both.1)
+
+-- entries whose interfaces have one name are equal
+one_entry : (site : Site) → AreNamed Ios site → (m n : ℕ) → 1 ≤ m → m ≤ length site.faces + 1 → 1 ≤ n → n ≤ length site.faces + 1
+    → interface_name Ios site m ≡ interface_name Ios site n → m ≡ n
+one_entry site named m n low high low_n high_n same = some_is (sym (named.leads m low high) ∙ ap (entry_named Ios site) same ∙ named.leads n low_n high_n) where
+  some_is : {a b : ℕ} → Some a ≡ Some b → a ≡ b
+  some_is h = cc
+
+pub one_name : (site : Site) → AreNamed Ios site → (leaders : List ℕ) (m n : ℕ) → 1 ≤ m → m ≤ length site.faces + 1 → 1 ≤ n → n ≤ length site.faces + 1
     → list_name site leaders m ≡ list_name site leaders n → m ≡ n
-one_name site orderly leaders m n low high low_n high_n same =
-    one_entry site orderly m n low high low_n high_n (
-    sym (front_is (has_followers leaders m) (ios_name site m) (name_bytes (ios_name site m) (interface_spelled site orderly m low high)))
+one_name site named leaders m n low high low_n high_n same =
+    one_entry site named m n low high low_n high_n (
+    sym (front_is (has_followers leaders m) (interface_name Ios site m) (own_bytes (interface_name Ios site m) (named.bytes m low high)))
     ∙ ap (λ (l : List ℕ). before_plus (drop 5 l)) same
-    ∙ front_is (has_followers leaders n) (ios_name site n) (name_bytes (ios_name site n) (interface_spelled site orderly n low_n high_n)))
+    ∙ front_is (has_followers leaders n) (interface_name Ios site n) (own_bytes (interface_name Ios site n) (named.bytes n low_n high_n)))
 
 plain_ending : (shared : Bool) → list_all is_plain_byte (ending shared) ≡ true
 plain_ending true = refl
 plain_ending false = refl
 
 -- the name can be that of a list
-pub good_name : (site : Site) → IsOrderly site → (leaders : List ℕ) (entry : ℕ) → 1 ≤ entry → entry ≤ length site.faces + 1 → is_list_name (list_name site leaders entry) ≡ true
-good_name site orderly leaders entry low high =
-    let text = ios_name site entry in
+pub good_name : (site : Site) → AreNamed Ios site → (leaders : List ℕ) (entry : ℕ) → 1 ≤ entry → entry ≤ length site.faces + 1 → is_list_name (list_name site leaders entry) ≡ true
+good_name site named leaders entry low high =
+    let text = interface_name Ios site entry in
     let end = ending (has_followers leaders entry) in
-    let plain = and_parts (nat_le 1 (length text)) (list_all is_plain_byte text) (interface_plain site orderly entry low high) in
+    let plain = and_parts (nat_le 1 (length text)) (list_all is_plain_byte text) (named.plain entry low high) in
     and_from (is_plain (codes "FROM-" ++ text ++ end) && not (are_digits (codes "FROM-" ++ text ++ end))) (not (bytes_eq (codes "FROM-" ++ text ++ end) state_name))
     (and_from (is_plain (codes "FROM-" ++ text ++ end)) (not (are_digits (codes "FROM-" ++ text ++ end)))
     (and_from (nat_le 1 (length (codes "FROM-" ++ text ++ end))) (list_all is_plain_byte (codes "FROM-" ++ text ++ end)) (some_length (text ++ end))

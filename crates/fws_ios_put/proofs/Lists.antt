@@ -6,7 +6,8 @@ use Rattle.std.proofs.lemmas.Slice.Eq.{bytes_eq-Decides}
 use Rattle.std.specs.List.{AllByRecursion, list_all, list_any}
 use Rattle.std.specs.Str.{bytes_eq}
 use Rattle.fws_net.specs.declared.site.Site.{Site}
-use Rattle.fws_net.specs.SiteLaws.{IsOrderly}
+use Rattle.fws_net.specs.declared.packet.Lang.TheVariants.{Ios}
+use Rattle.fws_rule.specs.Names.{AreNamed}
 use Rattle.fws_ios.specs.declared.config.IosList.{IosList}
 use Rattle.fws_ios.specs.Soundness.{are_apart}
 use Rattle.fws_ios.specs.Walk.{list_named}
@@ -67,7 +68,7 @@ other_name a b differ = false_from_ne_true (bytes_eq a b) (λ h. differ ((bytes_
 
 -- Lists of entries
 
-module _ (site : Site) (orderly : IsOrderly site) (new known : Plain Bool) (leaders : List ℕ) where
+module _ (site : Site) (are_named : AreNamed Ios site) (new known : Plain Bool) (leaders : List ℕ) where
   pub no_lists : AreLists site new known leaders 1 []
   no_lists = record {
     found = λ entry low high leads. absurd (omega arith);
@@ -84,7 +85,7 @@ module _ (site : Site) (orderly : IsOrderly site) (new known : Plain Bool) (lead
   unnamed end high low x named =
       let lt = named.high in
       other_name x.name (list_name site leaders end) (λ h.
-      let same = one_name site orderly leaders named.entry end named.low (omega arith) low high (sym named.name ∙ h) in omega arith)
+      let same = one_name site are_named leaders named.entry end named.low (omega arith) low high (sym named.name ∙ h) in omega arith)
 
   turned : (a b : List ℕ) → bytes_eq a b ≡ false → bytes_eq b a ≡ false
   turned a b h = other_name b a (λ e. not_both (sym ((bytes_eq-Decides a b).1 (sym e)) ∙ h)) where
@@ -125,7 +126,7 @@ module _ (site : Site) (orderly : IsOrderly site) (new known : Plain Bool) (lead
     printed_own : is_printed_list put.0 ≡ true
     printed_own =
         and_from (is_list_name put.0.name && has_entries put.0.entries) (list_all is_printed_entry put.0.entries)
-        (and_from (is_list_name put.0.name) (has_entries put.0.entries) (ap is_list_name put.2.name ∙ good_name site orderly leaders end low high) put.2.decides.decides.there)
+        (and_from (is_list_name put.0.name) (has_entries put.0.entries) (ap is_list_name put.2.name ∙ good_name site are_named leaders end low high) put.2.decides.decides.there)
         put.2.decides.decides.formed.printed
 
     earlier : {entry : ℕ} → IsFound site new known leaders before entry → IsFound site new known leaders (before ++ put.0 ∷ []) entry

@@ -1,8 +1,9 @@
 -- The lists of a configuration, their names, and where they are applied.
-use Rattle.std.specs.Prelude.{◌≡◌, ◌⊎◌, ◌≢◌, ℕ, ◌-◌, ◌<◌, ◌≤◌, Bool, true, false, nat_eq, Some, List, [], ◌∷◌, ◌++◌, length, drop, map, slice_get, slice_index, codes, if◌then◌else◌}
+use Rattle.std.specs.Prelude.{◌≡◌, ◌⊎◌, ◌≢◌, ℕ, ◌-◌, ◌<◌, ◌≤◌, Bool, true, false, nat_eq, Some, List, [], ◌∷◌, ◌++◌, length, drop, map, slice_index, codes, if◌then◌else◌}
 use Rattle.std.specs.List.{AllByRecursion, list_all, list_any, range_with_len}
-use Rattle.std.specs.Option.{option_map_or}
 use Rattle.fws_net.specs.declared.site.Site.{Site}
+use Rattle.fws_net.specs.declared.packet.Lang.TheVariants.{Ios}
+use Rattle.fws_rule.specs.Names.{interface_name}
 use Rattle.fws_ios.specs.declared.config.IosEntry.{IosEntry}
 use Rattle.fws_ios.specs.declared.config.IosGroup.{IosGroup}
 use Rattle.fws_ios.specs.declared.config.IosList.{IosList}
@@ -45,10 +46,6 @@ pub record AreLeaders (new known : Plain Bool) (most : ℕ) (leaders : List ℕ)
 
 -- Names
 
--- the name of the interface with this entry
-abbrev pub ios_name : Site → ℕ → List ℕ
-ios_name site entry = if nat_eq entry 1 then site.lo.ios else option_map_or (λ face. face.names.ios) (slice_get site.faces (entry - 2)) []
-
 -- packets of a later entry meet the same list
 abbrev pub has_followers : List ℕ → ℕ → Bool
 has_followers leaders entry = list_any (nat_eq entry) (drop entry leaders)
@@ -59,7 +56,7 @@ ending shared = if shared then codes "+OTHERS" else []
 
 -- the name of an entry's list
 abbrev pub list_name : Site → List ℕ → ℕ → List ℕ
-list_name site leaders entry = codes "FROM-" ++ ios_name site entry ++ ending (has_followers leaders entry)
+list_name site leaders entry = codes "FROM-" ++ interface_name Ios site entry ++ ending (has_followers leaders entry)
 
 -- Lists
 

@@ -3,11 +3,11 @@
 ghost use Rattle.std.specs.Prelude.{◌≡◌, ◌++◌, ◌+◌, ◌≤◌, length, IfOk, OnOk};
 ghost use Rattle.fws_net.specs.Points.{tops_of};
 ghost use Rattle.fws_net.specs.Routes.{IsSound};
-ghost use Rattle.fws_net.specs.SiteLaws.{IsOrderly};
 ghost use Rattle.fws_net.specs.declared.packet.Lang.TheVariants as langs;
 ghost use Rattle.fws_place.specs.Fits.{Fits};
 ghost use Rattle.fws_sight.specs.declared.seen.Seen.TheVariants.{Entered};
 ghost use Rattle.fws_sight.specs.Shown.{IsTold};
+ghost use Rattle.fws_rule.specs.Names.{AreNamed};
 ghost use Rattle.fws_tree.specs.Regular.{AreRegular};
 ghost use Rattle.fws_ios_put.specs.Draft.{IsDraft};
 ghost use Rattle.fws_ios_put.specs.Layout.{AreLeaders, AreLists};
@@ -41,7 +41,7 @@ pub(crate) fn drafted(
     leaders: &[u8],
 ) -> Result<IosConfig, Memory>
     requires sound { IsSound site.now }
-    requires orderly { IsOrderly site.now }
+    requires named { AreNamed langs.Ios site.now }
     requires regular { AreRegular site.now tables.now }
     requires fits { Fits langs.Ios site.now tables.now }
     requires new_tops { new.now.0 ≡ tops_of site.now }

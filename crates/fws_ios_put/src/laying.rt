@@ -3,7 +3,8 @@
 ghost use Rattle.std.specs.Prelude.{◌≡◌, ◌≤◌, ◌+◌, ℕ, length, IfOk, OnOk};
 ghost use Rattle.fws_net.specs.Points.{tops_of};
 ghost use Rattle.fws_net.specs.Routes.{IsSound};
-ghost use Rattle.fws_net.specs.SiteLaws.{IsOrderly};
+ghost use Rattle.fws_net.specs.declared.packet.Lang.TheVariants.{Ios};
+ghost use Rattle.fws_rule.specs.Names.{AreNamed};
 ghost use Rattle.fws_sight.specs.declared.seen.Seen.TheVariants.{Entered};
 ghost use Rattle.fws_sight.specs.Shown.{IsTold};
 ghost use Rattle.fws_ios_put.specs.Layout.{groups_of, leader, AreLeaders, AreLists, IsEntryList, IsOwnList, IsPut};
@@ -96,7 +97,8 @@ pub(crate) fn lists_of(
     known: &Tree<bool>,
     leaders: &[u8],
 ) -> Result<Items<IosList>, Memory>
-    requires orderly { IsOrderly site.now }
+    requires sound { IsSound site.now }
+    requires named { AreNamed Ios site.now }
     requires new_tops { new.now.0 ≡ tops_of site.now }
     requires known_tops { known.now.0 ≡ tops_of site.now }
     requires new_told { IsTold Entered (tops_of site.now) new.now.1 }

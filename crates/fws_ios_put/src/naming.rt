@@ -2,25 +2,12 @@
 
 ghost use Rattle.std.specs.Prelude.{◌≡◌, ◌≤◌, nat_eq, drop, length, IfOk};
 ghost use Rattle.std.specs.List.{list_any};
-ghost use Rattle.fws_ios_put.specs.Layout.{ending, has_followers, ios_name, list_name};
+ghost use Rattle.fws_ios_put.specs.Layout.{ending, has_followers, list_name};
 
-use fws_net::Site;
+use fws_net::{Lang, Site};
 use fws_num::{Memory, Text};
+use fws_rule::interface_name;
 use std::alloc::Global;
-
-// The name of the interface with this entry.
-fn ios_name(site: &Site, entry: u8) -> &[u8]
-    requires { 1 ≤ entry }
-    ensures { result.now ≡ ios_name site.now entry }
-{
-    if entry == 1 {
-        return site.lo.ios.as_slice();
-    }
-    match site.faces.as_slice().get(entry as usize - 2) {
-        Some(face) => face.names.ios.as_slice(),
-        None => &[],
-    }
-}
 
 // Whether the entry is one of these.
 fn is_among(entries: &[u8], entry: u8) -> bool
@@ -57,7 +44,7 @@ pub(crate) fn list_name(
     ensures { IfOk result (λ name. name ≡ list_name site.now leaders.now entry) }
 {
     let mut name = Text::of(alloc, b"FROM-")?;
-    name.put(ios_name(site, entry))?;
+    name.put(interface_name(site, Lang::Ios, u32::from(entry)))?;
     name.put(ending(has_followers(leaders, entry)))?;
     Ok(name)
 }

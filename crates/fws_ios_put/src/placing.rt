@@ -20,6 +20,7 @@ use fws_place::{
     ios_established_by_ack, ios_host_passes, ios_keeps_new_packets, ios_new_by_ack,
     ios_pairs_are_told, lost_pairs_are_dropped,
 };
+use fws_rule::orderly_sites_are_named;
 use fws_tree::{Tables, Tree};
 use std::alloc::Global;
 
@@ -48,6 +49,7 @@ fn put_told(
     ios_new_by_ack();
     ios_pairs_are_told();
     lost_pairs_are_dropped();
+    orderly_sites_are_named();
     let leaders = leaders_of(alloc, new, known, site.faces.len() as u8 + 1)?;
     let config = drafted(alloc, site, t, new, known, leaders.as_slice())?;
     Ok(config)

@@ -14,13 +14,15 @@ use Rattle.fws_net.specs.declared.condition.Test.{Test}
 use Rattle.fws_net.specs.declared.condition.Test.TheVariants.{Src, Dst, Sport, Dport, Proto, Icmp, Flags, AnyFlag, Recv, Xmit, Via, Outward, Est, Tag, Never}
 use Rattle.fws_net.specs.declared.site.Site.{Site}
 use Rattle.fws_net.specs.SiteLaws.{IsOrderly}
+use Rattle.fws_net.specs.declared.packet.Lang.TheVariants.{Ipfw}
 use Rattle.fws_rule.specs.Literals.{one, positive}
+use Rattle.fws_rule.specs.Names.{interface_name}
 use Rattle.fws_ipfw.specs.declared.draft.Defined.{Defined}
 use Rattle.fws_ipfw.specs.declared.draft.RuleDraft.{RuleDraft}
 use Rattle.fws_ipfw.specs.declared.words.TestOption.TheVariants as options
 use Rattle.fws_ipfw.specs.Values.{set_meaning}
 use Rattle.fws_ipfw_print.specs.Printable.{are_flags, are_ranges, ascend, is_every_interface, is_interface, is_printed_literal, place_of}
-use Rattle.fws_ipfw_print.specs.PrintedText.{flag_words, flags_word, interface_name, literal_words, name_word, numbers_word, ranges_word}
+use Rattle.fws_ipfw_print.specs.PrintedText.{flag_words, flags_word, literal_words, name_word, numbers_word, ranges_word}
 use Rattle.fws_ipfw_print.proofs.Basics.{all_weaker, never}
 use Rattle.fws_ipfw_print.proofs.Laws.{Laws}
 use Rattle.fws_ipfw_print.proofs.LineWords.{is_writable}
@@ -83,7 +85,7 @@ module _ (laws : Laws) (site : Site) (orderly : IsOrderly site) where
   written_by : (negated : Bool) (test : Test) → IsOption site negated test → AreWritten (literal_texts site (record { not = negated; test = test })) (literal_words site (record { not = negated; test = test }))
   written_by false Outward h = tame_written (codes "out" ∷ []) refl
   written_by false (Recv []) h = never h.printed
-  written_by false (Recv (iv ∷ [])) h = (let is = entry_known site iv h.printed in name_written (interface_name site iv.lo) (interface_writable site orderly iv.lo is.some is.within))
+  written_by false (Recv (iv ∷ [])) h = (let is = entry_known site iv h.printed in name_written (interface_name Ipfw site iv.lo) (interface_writable site (laws.named Ipfw site orderly) iv.lo is.some is.within))
   written_by false (Recv (iv ∷ next ∷ set)) h = never h.printed
   written_by false (Sport set) h = tame_written (codes "src-port" ∷ ranges_word set ∷ []) (two_tame (codes "src-port") (ranges_word set) refl (ranges_read laws set (ports_known set h.printed)).1)
   written_by false (Dport set) h = tame_written (codes "dst-port" ∷ ranges_word set ∷ []) (two_tame (codes "dst-port") (ranges_word set) refl (ranges_read laws set (ports_known set h.printed)).1)
@@ -143,8 +145,8 @@ module _ (laws : Laws) (site : Site) (orderly : IsOrderly site) where
     taken_by false (Recv []) h first given lits d rest fresh = never h.printed
     taken_by false (Recv (iv ∷ [])) h first given lits d rest fresh =
         let is = entry_known site iv h.printed in
-        value_then site known (codes "recv") (interface_name site iv.lo) options.Recv (positive (Recv (one iv.lo iv.lo))) first given lits d rest key_recv (λ e. refl) fresh
-        (interface_read site orderly iv.lo is.some is.within)
+        value_then site known (codes "recv") (interface_name Ipfw site iv.lo) options.Recv (positive (Recv (one iv.lo iv.lo))) first given lits d rest key_recv (λ e. refl) fresh
+        (interface_read site (laws.named Ipfw site orderly) iv.lo is.some is.within)
         ∙ ap (λ set. read site known (options_at false (given ++ codes "recv" ∷ []) (lits ++ positive (Recv set) ∷ []) d) rest) is.alone
     taken_by false (Recv (iv ∷ next ∷ set)) h first given lits d rest fresh = never h.printed
     taken_by false (Sport set) h first given lits d rest fresh =

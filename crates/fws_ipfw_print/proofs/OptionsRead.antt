@@ -14,7 +14,9 @@ use Rattle.fws_net.specs.declared.condition.Test.{Test}
 use Rattle.fws_net.specs.declared.condition.Test.TheVariants.{Src, Dst, Sport, Dport, Proto, Icmp, Flags, AnyFlag, Recv, Xmit, Via, Outward, Est, Tag, Never}
 use Rattle.fws_net.specs.declared.site.Site.{Site}
 use Rattle.fws_net.specs.Reading.{and_then}
+use Rattle.fws_net.specs.declared.packet.Lang.TheVariants.{Ipfw}
 use Rattle.fws_rule.specs.Literals.{literals, one}
+use Rattle.fws_rule.specs.Names.{interface_name}
 use Rattle.fws_ipfw.specs.declared.draft.Defined.{Defined}
 use Rattle.fws_ipfw.specs.declared.draft.Expects.TheVariants as expect
 use Rattle.fws_ipfw.specs.declared.draft.RuleDraft.{RuleDraft}
@@ -24,7 +26,7 @@ use Rattle.fws_ipfw.specs.Options.{misplaced, test_option}
 use Rattle.fws_ipfw.specs.RuleText.{destination_ports_step, expected_step, expecting, once, option_step, test_begun, with_literals}
 use Rattle.fws_ipfw.specs.Values.{meaning_of}
 use Rattle.fws_ipfw_print.specs.Printable.{is_printed_negation, is_printed_test, place_of}
-use Rattle.fws_ipfw_print.specs.PrintedText.{first_number, interface_name, negated_words, test_words}
+use Rattle.fws_ipfw_print.specs.PrintedText.{first_number, negated_words, test_words}
 use Rattle.fws_ipfw_print.proofs.Basics.{never}
 use Rattle.fws_ipfw_print.proofs.LineWords.{texts_read, word_then}
 use Rattle.fws_ipfw_print.proofs.NamesRead.{every_read}
@@ -32,7 +34,7 @@ use Rattle.fws_ipfw_print.proofs.NamesRead.{every_read}
 -- Texts of options: their words without quotes
 
 abbrev pub test_texts : Site → Test → List (List ℕ)
-test_texts site (Recv set) = codes "recv" ∷ interface_name site (first_number set) ∷ []
+test_texts site (Recv set) = codes "recv" ∷ interface_name Ipfw site (first_number set) ∷ []
 test_texts site test = test_words site test
 
 abbrev pub literal_texts : Site → Lit → List (List ℕ)

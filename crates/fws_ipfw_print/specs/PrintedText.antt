@@ -1,5 +1,5 @@
 -- The text of a configuration: lines that ipfw(8) takes one by one, with rules as `ipfw list` prints them.
-use Rattle.std.specs.Prelude.{ℕ, zero, suc, ◌+◌, ◌-◌, ◌/◌, ◌%◌, ◌^◌, Bool, ◌&&◌, ◌||◌, nat_eq, nat_le, nat_lt, slice_get, List, [], ◌∷◌, ◌++◌, map, codes, if◌then◌else◌}
+use Rattle.std.specs.Prelude.{ℕ, zero, suc, ◌+◌, ◌-◌, ◌/◌, ◌%◌, ◌^◌, Bool, ◌&&◌, ◌||◌, nat_eq, nat_le, nat_lt, List, [], ◌∷◌, ◌++◌, map, codes, if◌then◌else◌}
 use Rattle.std.specs.Fmt.{decimal}
 use Rattle.std.specs.List.{flat_map, join_by, range_with_len}
 use Rattle.std.specs.Option.{option_map_or}
@@ -13,6 +13,8 @@ use Rattle.fws_net.specs.declared.condition.Test.TheVariants.{Src, Dst, Sport, D
 use Rattle.fws_net.specs.declared.outcome.End.{End}
 use Rattle.fws_net.specs.declared.site.Site.{Site}
 use Rattle.fws_net.specs.SiteSpelling.{net_word}
+use Rattle.fws_net.specs.declared.packet.Lang.TheVariants.{Ipfw}
+use Rattle.fws_rule.specs.Names.{interface_name}
 use Rattle.fws_ipfw.specs.declared.config.IpfwAct.{IpfwAct}
 use Rattle.fws_ipfw.specs.declared.config.IpfwAct.TheVariants as acts
 use Rattle.fws_ipfw.specs.declared.config.IpfwTag.{IpfwTag}
@@ -108,11 +110,6 @@ flag_words mask want =
 
 -- Interfaces
 
--- the name of an entry's interface
-abbrev pub interface_name : Site → ℕ → List ℕ
-interface_name site entry =
-    if nat_eq entry 1 then site.lo.ipfw else option_map_or (λ face. face.names.ipfw) (slice_get site.faces (entry - 2)) []
-
 -- a name; in quotes where two slashes stand in a row, which else begin a comment
 abbrev pub name_word : List ℕ → List ℕ
 name_word name = if has_slashes name then 34 ∷ name ++ 34 ∷ [] else name
@@ -162,7 +159,7 @@ destination_word (lit ∷ lits) = destination_tested lit.test
 -- a test as an option of a rule
 abbrev pub test_words : Site → Test → List (List ℕ)
 test_words site Outward = codes "out" ∷ []
-test_words site (Recv set) = codes "recv" ∷ name_word (interface_name site (first_number set)) ∷ []
+test_words site (Recv set) = codes "recv" ∷ name_word (interface_name Ipfw site (first_number set)) ∷ []
 test_words site (Sport set) = codes "src-port" ∷ ranges_word set ∷ []
 test_words site (Dport set) = codes "dst-port" ∷ ranges_word set ∷ []
 test_words site (Flags mask want) = flag_words mask want

@@ -16,6 +16,7 @@ use fws_num::{
     Memory, Text, addresses_are_dotted, decimals_are_read, joined_are_divided, lines_are_read,
     numbers_are_digits, prefixes_are_read, quads_are_dotted, splits_back,
 };
+use fws_rule::orderly_sites_are_named;
 use std::alloc::Global;
 
 /// The text of a printable configuration is read as that configuration.
@@ -32,6 +33,7 @@ fn printed_texts_are_read()
     splits_back();
     many_ranges_add_members();
     same_members_same_list();
+    orderly_sites_are_named();
 }
 
 /// What stands ahead of the lines, as comments.

@@ -4,14 +4,17 @@ ghost use Rattle.std.specs.Prelude.{◌≡◌, [], ◌∷◌, ◌++◌, codes, O
 ghost use Rattle.std.specs.Fmt.{decimal};
 ghost use Rattle.std.specs.List.{flat_map};
 ghost use Rattle.fws_num.specs.Written.{has_slashes};
+ghost use Rattle.fws_net.specs.declared.packet.Lang.TheVariants.{Ipfw};
+ghost use Rattle.fws_rule.specs.Names.{interface_name};
 ghost use Rattle.fws_ipfw_print.specs.Printable.{place_of};
-ghost use Rattle.fws_ipfw_print.specs.PrintedText.{behind_blanks, behind_place, condition_words, destination_tested, destination_word, first_number, interface_name, literal_words, name_word, negated_words, protocol_tested, protocol_word, source_tested, source_word, test_words};
+ghost use Rattle.fws_ipfw_print.specs.PrintedText.{behind_blanks, behind_place, condition_words, destination_tested, destination_word, first_number, literal_words, name_word, negated_words, protocol_tested, protocol_word, source_tested, source_word, test_words};
 
 use crate::addresses::put_addresses;
 use crate::values::{put_flag_test, put_number, put_ports, put_protocol, put_types, put_word};
 use fws_iv::Ivs;
-use fws_net::{Lit, Site, Test};
+use fws_net::{Lang, Lit, Site, Test};
 use fws_num::{Memory, Text};
+use fws_rule::interface_name;
 use std::alloc::Global;
 
 /// The place of a test in a rule.
@@ -40,19 +43,6 @@ fn first_number(set: &Ivs) -> u32
     match set.parts() {
         [iv, ..] => iv.lo,
         [] => 0,
-    }
-}
-
-/// The name of an entry's interface.
-fn interface_name(site: &Site, entry: u32) -> &[u8]
-    ensures { result.now ≡ interface_name site.now entry }
-{
-    if entry == 1 {
-        return site.lo.ipfw.as_slice();
-    }
-    match site.faces.as_slice().get(entry.saturating_sub(2) as usize) {
-        Some(face) => face.names.ipfw.as_slice(),
-        None => b"",
     }
 }
 
@@ -86,10 +76,10 @@ fn put_name(out: &mut Text, name: &[u8]) -> Result<(), Memory>
 
 /// Appends the test of a receiving interface.
 fn put_interface(out: &mut Text, site: &Site, set: &Ivs) -> Result<(), Memory>
-    ensures { OnOk result (out.new ≡ out.old ++ behind_blanks (codes "recv" ∷ name_word (interface_name site.now (first_number set.now)) ∷ [])) }
+    ensures { OnOk result (out.new ≡ out.old ++ behind_blanks (codes "recv" ∷ name_word (interface_name Ipfw site.now (first_number set.now)) ∷ [])) }
 {
     put_word(out, b"recv")?;
-    put_name(out, interface_name(site, first_number(set)))?;
+    put_name(out, interface_name(site, Lang::Ipfw, first_number(set)))?;
     Ok(())
 }
 

@@ -10,6 +10,7 @@ use Rattle.fws_net.specs.declared.condition.Test.{Test}
 use Rattle.fws_net.specs.declared.condition.Test.TheVariants.{Src, Dst, Sport, Dport, Proto, Icmp, Flags, AnyFlag, Recv, Xmit, Via, Outward, Est, Tag, Never}
 use Rattle.fws_net.specs.declared.site.Site.{Site}
 use Rattle.fws_net.specs.SiteLaws.{IsOrderly}
+use Rattle.fws_net.specs.declared.packet.Lang.TheVariants.{Iptables}
 use Rattle.fws_ipt.specs.declared.config.IptTable.{IptTable}
 use Rattle.fws_ipt.specs.declared.config.IptChain.{IptChain}
 use Rattle.fws_ipt.specs.Spelled.{asks_ports, asks_protocol}
@@ -71,7 +72,7 @@ module _ (laws : Laws) (site : Site) (orderly : IsOrderly site) (table : IptTabl
       let parts = and_parts (shows && is_number most (iv ∷ [])) (not (list_any (λ iv. nat_eq iv.lo 0) (iv ∷ []))) h in
       let one = some_number most iv (and_from (is_number most (iv ∷ [])) (not (list_any (λ iv. nat_eq iv.lo 0) (iv ∷ []))) (and_parts shows (is_number most (iv ∷ [])) parts.0).1 parts.1) in
       let low : iv.lo ≤ length site.faces + 1 = (let same : iv.lo ≡ iv.hi = one.1 in let high : iv.hi ≤ length site.faces + 1 = one.2 in omega arith) in
-      recv_taken laws site table chains iv t rest one.1 (interface_read site orderly iv.lo one.0 low) fresh
+      recv_taken laws site table chains iv t rest one.1 (interface_read site (laws.named Iptables site orderly) iv.lo one.0 low) fresh
   test_taken false (Recv (iv ∷ next ∷ set)) t rest h fresh = never (and_parts shows false (and_parts (shows && false) _ h).0).1
   test_taken false Est t rest h fresh = class_taken laws site table chains false t rest fresh
   test_taken true Est t rest h fresh = class_taken laws site table chains true t rest fresh

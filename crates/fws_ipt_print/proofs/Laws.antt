@@ -1,7 +1,8 @@
--- The laws of spelled texts on which the proofs rest.
+-- The laws of lower crates on which the proofs rest.
 use Rattle.fws_num.specs.Numbers.{AddressesAreDotted, DecimalsAreRead, NumbersAreDigits, PrefixesAreRead, QuadsAreDotted, SplitsBack}
 use Rattle.fws_num.specs.Pieces.{JoinedAreDivided}
 use Rattle.fws_num.specs.Written.{LinesAreRead, WordsAreRead}
+use Rattle.fws_rule.specs.Names.{OrderlySitesAreNamed}
 
 pub record Laws : Type 0 where
   pub decimals : DecimalsAreRead
@@ -13,3 +14,4 @@ pub record Laws : Type 0 where
   pub joined : JoinedAreDivided
   pub words : WordsAreRead
   pub lines : LinesAreRead
+  pub named : OrderlySitesAreNamed

@@ -13,7 +13,9 @@ use Rattle.fws_net.specs.declared.cause.Cause.TheVariants.{Syntax, LeftOut}
 use Rattle.fws_net.specs.declared.site.Site.{Site}
 use Rattle.fws_net.specs.Reading.{and_then}
 use Rattle.fws_net.specs.SiteSpelling.{net_word}
+use Rattle.fws_net.specs.declared.packet.Lang.TheVariants.{Iptables}
 use Rattle.fws_rule.specs.Literals.{literals, one, positive}
+use Rattle.fws_rule.specs.Names.{interface_name}
 use Rattle.fws_ipt.specs.declared.config.IptTable.{IptTable}
 use Rattle.fws_ipt.specs.declared.config.IptChain.{IptChain}
 use Rattle.fws_ipt.specs.declared.words.Keyword.TheVariants as keywords
@@ -26,7 +28,7 @@ use Rattle.fws_ipt.specs.RuleText.{expecting, plain_step, test_begun, value_step
 use Rattle.fws_ipt.specs.Spelled.{asks_protocol}
 use Rattle.fws_ipt.specs.Values.{flags_of, icmp_meaning, interface_meaning, is_state, is_translation_state, is_type_and_code, tested_mark, mark_meaning, meaning_of, numbered_type, protocol_value, range_meaning, set_meaning}
 use Rattle.fws_ipt_print.specs.Printable.{are_ports, ascend_from, all_places}
-use Rattle.fws_ipt_print.specs.PrintedText.{address_words, class_word, flags_word, free_bits, has_free, interface_word, mark_word, port_module, port_words, protocol_word, range_word, ranges_word}
+use Rattle.fws_ipt_print.specs.PrintedText.{address_words, class_word, flags_word, free_bits, has_free, mark_word, port_module, port_words, protocol_word, range_word, ranges_word}
 use Rattle.fws_ipt_print.proofs.Basics.{if_false, never, texts_differ, then_ok}
 use Rattle.fws_ipt_print.proofs.Keys.{address_key, key_of, told}
 use Rattle.fws_ipt_print.proofs.Laws.{Laws}
@@ -336,11 +338,11 @@ module _ (laws : Laws) (site : Site) (table : IptTable) (chains : List IptChain)
       module_then (codes "mark") t (codes "--mark" ∷ mark_word v ∷ rest) known_mark refl
       ∙ plain_then (codes "--mark") (mark_word v) options.Mark (positive (Tag v)) t rest named_mark (λ d. refl) (λ d. refl) fresh (mark_means v h)
 
-  pub recv_taken : (iv : Iv) (t : Told) (rest : List (List ℕ)) → iv.lo ≡ iv.hi → interface_meaning site Recv (interface_word site iv.lo) ≡ Ok (Some (positive (Recv (one iv.lo iv.lo))))
+  pub recv_taken : (iv : Iv) (t : Told) (rest : List (List ℕ)) → iv.lo ≡ iv.hi → interface_meaning site Recv (interface_name Iptables site iv.lo) ≡ Ok (Some (positive (Recv (one iv.lo iv.lo))))
       → list_any (bytes_eq (codes "-i")) t.given ≡ false
-      → read (shown t) (codes "-i" ∷ interface_word site iv.lo ∷ rest) ≡ read (shown (told (positive (Recv (iv ∷ []))) t)) rest
+      → read (shown t) (codes "-i" ∷ interface_name Iptables site iv.lo ∷ rest) ≡ read (shown (told (positive (Recv (iv ∷ []))) t)) rest
   recv_taken iv t rest same means fresh =
-      plain_then (codes "-i") (interface_word site iv.lo) options.InInterface (positive (Recv (iv ∷ []))) t rest named_i (λ d. refl) (λ d. refl) fresh
+      plain_then (codes "-i") (interface_name Iptables site iv.lo) options.InInterface (positive (Recv (iv ∷ []))) t rest named_i (λ d. refl) (λ d. refl) fresh
       (means ∙ ap (λ (hi : ℕ). let x : Iv = record { lo = iv.lo; hi = hi } in Ok (Some (positive (Recv (x ∷ []))))) same)
 
   pub src_taken : (iv : Iv) (t : Told) (rest : List (List ℕ)) → iv.lo ≤ iv.hi → iv.hi ≤ 2 ^ 32 - 1 → list_any (bytes_eq (key_of (Src (iv ∷ [])))) t.given ≡ false

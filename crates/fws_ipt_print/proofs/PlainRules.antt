@@ -16,6 +16,8 @@ use Rattle.fws_net.specs.declared.condition.Test.TheVariants.{Src, Dst, Sport, D
 use Rattle.fws_net.specs.declared.site.Site.{Site}
 use Rattle.fws_net.specs.SiteLaws.{IsOrderly}
 use Rattle.fws_net.specs.SiteSpelling.{net_word}
+use Rattle.fws_net.specs.declared.packet.Lang.TheVariants.{Iptables}
+use Rattle.fws_rule.specs.Names.{interface_name}
 use Rattle.fws_ipt.specs.declared.config.IptGo.{IptGo}
 use Rattle.fws_ipt.specs.declared.config.IptGo.TheVariants as acts
 use Rattle.fws_ipt.specs.declared.config.IptChain.{IptChain}
@@ -24,13 +26,13 @@ use Rattle.fws_ipt.specs.Hooks.{hook_named, hooks}
 use Rattle.fws_ipt.specs.Soundness.{is_named}
 use Rattle.fws_ipt.specs.Spelled.{asks_ports, asks_protocol}
 use Rattle.fws_ipt_print.specs.Printable.{are_ports, is_chain_name, is_class, is_number, is_printed_act, is_printed_chain, is_printed_literal, is_printed_policy, is_printed_rule, is_printed_test}
-use Rattle.fws_ipt_print.specs.PrintedText.{act_words, chain_name, end_word, first_part, flags_word, free_bits, interface_word, literal_words, mark_word, port_module, port_words, protocol_word, range_word, ranges_word, test_words}
+use Rattle.fws_ipt_print.specs.PrintedText.{act_words, chain_name, end_word, first_part, flags_word, free_bits, literal_words, mark_word, port_module, port_words, protocol_word, range_word, ranges_word, test_words}
 use Rattle.fws_ipt_print.proofs.Basics.{never}
 use Rattle.fws_ipt_print.proofs.Chains.{all_at, builtin_known, known_at, policy_builtin}
 use Rattle.fws_ipt_print.proofs.Conditions.{some_number}
 use Rattle.fws_ipt_print.proofs.Laws.{Laws}
 use Rattle.fws_ipt_print.proofs.Marks.{mark_plain}
-use Rattle.fws_ipt_print.proofs.PlainNames.{chain_name_bytes, chain_name_some, interface_spelled, name_plain}
+use Rattle.fws_ipt_print.proofs.PlainNames.{chain_name_bytes, chain_name_some}
 use Rattle.fws_ipt_print.proofs.Plain.{address_plain, joined_plain, number_plain, plain_append, plain_some}
 use Rattle.fws_ipt_print.proofs.PortLists.{list_plain}
 use Rattle.fws_ipt_print.proofs.Values.{end_plain, flags_plain, net_plain, protocol_plain, range_plain}
@@ -90,14 +92,14 @@ module _ (laws : Laws) (site : Site) (orderly : IsOrderly site) where
       (more (ranges_word (iv ∷ next ∷ set)) [] (list_plain laws iv (next ∷ set)) refl)
 
   entry_plain : (shows : Bool) (set : List Iv) → (shows && is_number (length site.faces + 1) set && not (list_any (λ iv. nat_eq iv.lo 0) set)) ≡ true
-      → is_plain (interface_word site (first_part set).lo) ≡ true
+      → is_plain (interface_name Iptables site (first_part set).lo) ≡ true
   entry_plain shows [] h = never (and_parts shows false (and_parts (shows && false) _ h).0).1
   entry_plain shows (iv ∷ []) h =
       let most = length site.faces + 1 in
       let parts = and_parts (shows && is_number most (iv ∷ [])) (not (list_any (λ iv. nat_eq iv.lo 0) (iv ∷ []))) h in
       let one = some_number most iv (and_from (is_number most (iv ∷ [])) (not (list_any (λ iv. nat_eq iv.lo 0) (iv ∷ []))) (and_parts shows (is_number most (iv ∷ [])) parts.0).1 parts.1) in
       let low : iv.lo ≤ length site.faces + 1 = (let same : iv.lo ≡ iv.hi = one.1 in let high : iv.hi ≤ length site.faces + 1 = one.2 in omega arith) in
-      name_plain (interface_word site iv.lo) (interface_spelled site orderly iv.lo one.0 low)
+      (laws.named Iptables site orderly).plain iv.lo one.0 low
   entry_plain shows (iv ∷ next ∷ set) h = never (and_parts shows false (and_parts (shows && false) _ h).0).1
 
   test_plain : (shows : Bool) (lits : List Lit) (negated : Bool) (test : Test) → is_printed_test site shows lits test ≡ true → list_all is_plain (test_words site lits negated test) ≡ true
@@ -111,7 +113,7 @@ module _ (laws : Laws) (site : Site) (orderly : IsOrderly site) where
       let first = and_parts (asks_protocol 6 lits) (nat_le mask 63) last.0 in
       more (flags_word mask) (flags_word want ∷ []) (flags_plain mask (leb-true mask 63 first.1)) (more (flags_word want) [] (flags_plain want (leb-true want 63 last.1)) refl)
   test_plain shows lits negated (Icmp set) h = more (decimal (first_part set).lo) [] (number_plain laws (first_part set).lo) refl
-  test_plain shows lits negated (Recv set) h = more (interface_word site (first_part set).lo) [] (entry_plain shows set h) refl
+  test_plain shows lits negated (Recv set) h = more (interface_name Iptables site (first_part set).lo) [] (entry_plain shows set h) refl
   test_plain shows lits true Est h = refl
   test_plain shows lits false Est h = refl
   test_plain shows lits negated (Tag n) h = more (mark_word n) [] (mark_plain n) refl

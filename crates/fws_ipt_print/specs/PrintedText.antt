@@ -12,6 +12,8 @@ use Rattle.fws_net.specs.declared.condition.Test.TheVariants.{Src, Dst, Sport, D
 use Rattle.fws_net.specs.declared.outcome.End.{End}
 use Rattle.fws_net.specs.declared.site.Site.{Site}
 use Rattle.fws_net.specs.SiteSpelling.{lines_text, net_word}
+use Rattle.fws_net.specs.declared.packet.Lang.TheVariants.{Iptables}
+use Rattle.fws_rule.specs.Names.{interface_name}
 use Rattle.fws_ipt.specs.declared.config.IptTable.{IptTable}
 use Rattle.fws_ipt.specs.declared.config.IptTable.TheVariants.{Filter, Nat, Mangle}
 use Rattle.fws_ipt.specs.declared.config.IptGo.{IptGo}
@@ -114,11 +116,6 @@ flags_word flags =
 
 -- Tests
 
--- the name of an entry's interface
-abbrev pub interface_word : Site → ℕ → List ℕ
-interface_word site entry =
-    if nat_eq entry 1 then site.lo.ipt else option_map_or (λ face. face.names.ipt) (slice_get site.faces (entry - 2)) []
-
 abbrev pub class_word : Bool → List ℕ
 class_word is_new = if is_new then codes "NEW" else codes "RELATED,ESTABLISHED"
 
@@ -132,7 +129,7 @@ test_words site cond negated (Dport set) = port_words (port_module cond) (codes 
 test_words site cond negated (Flags mask want) =
     codes "-m" ∷ codes "tcp" ∷ codes "--tcp-flags" ∷ flags_word mask ∷ flags_word want ∷ []
 test_words site cond negated (Icmp set) = codes "-m" ∷ codes "icmp" ∷ codes "--icmp-type" ∷ decimal (first_part set).lo ∷ []
-test_words site cond negated (Recv set) = codes "-i" ∷ interface_word site (first_part set).lo ∷ []
+test_words site cond negated (Recv set) = codes "-i" ∷ interface_name Iptables site (first_part set).lo ∷ []
 test_words site cond negated Est = codes "-m" ∷ codes "conntrack" ∷ codes "--ctstate" ∷ class_word negated ∷ []
 test_words site cond negated (Tag n) = codes "-m" ∷ codes "mark" ∷ codes "--mark" ∷ mark_word n ∷ []
 test_words site cond negated _ = []

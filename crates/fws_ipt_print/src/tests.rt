@@ -3,26 +3,16 @@
 ghost use Rattle.std.specs.Prelude.{◌≡◌, [], ◌∷◌, ◌++◌, codes, OnOk};
 ghost use Rattle.std.specs.Fmt.{decimal};
 ghost use Rattle.std.specs.List.{flat_map};
-ghost use Rattle.fws_ipt_print.specs.PrintedText.{address_words, behind_blanks, class_word, first_part, flags_word, interface_word, literal_words, mark_word, port_module, port_words, protocol_word, test_words};
+ghost use Rattle.fws_net.specs.declared.packet.Lang.TheVariants.{Iptables};
+ghost use Rattle.fws_rule.specs.Names.{interface_name};
+ghost use Rattle.fws_ipt_print.specs.PrintedText.{address_words, behind_blanks, class_word, first_part, flags_word, literal_words, mark_word, port_module, port_words, protocol_word, test_words};
 
 use crate::numbers::{first_part, put_addresses, put_mark, put_option, put_word};
 use crate::ports::{port_module, put_flags, put_ports, put_protocol};
 use fws_iv::Ivs;
-use fws_net::{Lit, Site, Test};
+use fws_net::{Lang, Lit, Site, Test};
 use fws_num::{Memory, Text, put_dec};
-
-/// The name of an entry's interface.
-fn interface_word(site: &Site, entry: u32) -> &[u8]
-    ensures { result.now ≡ interface_word site.now entry }
-{
-    if entry == 1 {
-        return site.lo.ipt.as_slice();
-    }
-    match site.faces.as_slice().get(entry.saturating_sub(2) as usize) {
-        Some(face) => face.names.ipt.as_slice(),
-        None => b"",
-    }
-}
+use fws_rule::interface_name;
 
 /// Appends the test of a protocol.
 fn put_proto(out: &mut Text, set: &Ivs) -> Result<(), Memory>
@@ -56,10 +46,13 @@ fn put_icmp(out: &mut Text, kind: u32) -> Result<(), Memory>
 
 /// Appends the test of a receiving interface.
 fn put_interface(out: &mut Text, site: &Site, set: &Ivs) -> Result<(), Memory>
-    ensures { OnOk result (out.new ≡ out.old ++ behind_blanks (codes "-i" ∷ interface_word site.now (first_part set.now).lo ∷ [])) }
+    ensures { OnOk result (out.new ≡ out.old ++ behind_blanks (codes "-i" ∷ interface_name Iptables site.now (first_part set.now).lo ∷ [])) }
 {
     put_word(out, b"-i")?;
-    put_word(out, interface_word(site, first_part(set).lo))?;
+    put_word(
+        out,
+        interface_name(site, Lang::Iptables, first_part(set).lo),
+    )?;
     Ok(())
 }
 

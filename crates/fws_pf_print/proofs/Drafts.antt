@@ -16,7 +16,9 @@ use Rattle.fws_net.specs.declared.site.Site.{Site}
 use Rattle.fws_net.specs.Reading.{and_then}
 use Rattle.fws_net.specs.SiteLaws.{IsOrderly}
 use Rattle.fws_net.specs.SiteSpelling.{net_word}
+use Rattle.fws_net.specs.declared.packet.Lang.TheVariants.{Pf}
 use Rattle.fws_rule.specs.Literals.{one}
+use Rattle.fws_rule.specs.Names.{interface_name}
 use Rattle.fws_pf.specs.declared.config.Way.{Way}
 use Rattle.fws_pf.specs.declared.rule_draft.Choice.{Choice}
 use Rattle.fws_pf.specs.declared.rule_draft.Expects.{Expects}
@@ -43,11 +45,11 @@ use Rattle.fws_pf.specs.RuleText.{asking, behind, rule_step, translation_option_
 use Rattle.fws_pf.specs.Statements.{is_mark}
 use Rattle.fws_pf.specs.Values.{Setting, after_part, begins_with_digit, fresh_value, host_part, host_word, interface_part, is_any_mark, item_step, marks, operator_named, part_taken, plain_step, port_range_part, port_word, protocol_part, taken, value_expecting, with_part}
 use Rattle.fws_pf_print.specs.Printable.{is_interface, is_number, is_range, tested}
-use Rattle.fws_pf_print.specs.PrintedText.{addresses_words, between_words, front_words, hosts_words, interface_name, interface_words, name_word, network_len, ports_word, ports_words, protocol_name, protocol_words, sides_words, tests_hosts}
+use Rattle.fws_pf_print.specs.PrintedText.{addresses_words, between_words, front_words, hosts_words, interface_words, name_word, network_len, ports_word, ports_words, protocol_name, protocol_words, sides_words, tests_hosts}
 use Rattle.fws_pf_print.proofs.Basics.{if_true, if_false, never, option_cases}
 use Rattle.fws_pf_print.proofs.Laws.{Laws}
 use Rattle.fws_pf_print.proofs.LineWords.{bare_at, bare_bytes, is_bare, word_at}
-use Rattle.fws_pf_print.proofs.NamesRead.{interface_named, interface_spelled, name_read, unmarked}
+use Rattle.fws_pf_print.proofs.NamesRead.{interface_named, name_read, unmarked}
 use Rattle.fws_pf_print.proofs.Shapes.{none_tested}
 use Rattle.fws_pf_print.proofs.ValuesRead.{address_bare, net_bare, net_no_quad, net_part, network_known, no_operator, no_quad, number_bare, port_begins, port_range_read, port_read, ports_bare, protocol_bare, protocol_read, range_no_port, range_read}
 
@@ -377,15 +379,16 @@ module _ (site : Site) (n : ℕ) (t : PfDraft) where
         let both = and_parts (is_number (length site.faces + 1) (iv ∷ set)) (list_all (λ iv. not (nat_eq iv.lo 0)) (iv ∷ set)) (h (λ e. absurd cc)) in
         let is = entry_of (length site.faces + 1) iv set both.0 in
         let some : iv.lo ≢ 0 = eqb-false iv.lo 0 (not-true (nat_eq iv.lo 0) (and_parts (not (nat_eq iv.lo 0)) (list_all (λ iv. not (nat_eq iv.lo 0)) set) both.1).0) in
-        let name = interface_name site iv.lo in
-        let named = name_read n name (interface_spelled site orderly iv.lo (omega arith) is.1) in
+        let name = interface_name Pf site iv.lo in
+        let are_named = laws.named Pf site orderly in
+        let named = name_read n name (are_named.plain iv.lo (omega arith) is.1) (are_named.bytes iv.lo (omega arith) is.1) in
         let w : Word = word_at n (name_word name) in
         let d = at (seen [] [] [] [] [] []) o expect.On in
         on_begun (seen [] [] [] [] [] []) o next (name_word name ∷ rest) ahead
         ∙ take (asked places.On kinds.Interface d) (settled places.On kinds.Interface (parts.Set (one iv.lo iv.lo)) d) (name_word name) rest
         (begins places.On kinds.Interface w d (with_part (parts.Set (one iv.lo iv.lo)) (fresh_value kinds.Interface)) named.unmarked
         (part_then w (fresh_value kinds.Interface) (parts.Set (one iv.lo iv.lo)) (interface_part site w.text) named.unmarked
-        (ap (interface_part site) named.text_is ∙ interface_named site orderly iv.lo (omega arith) is.1)))
+        (ap (interface_part site) named.text_is ∙ interface_named site are_named iv.lo (omega arith) is.1)))
         ∙ ap (λ (x : List Iv). whole site n t (at (seen (item_of (parts.Set x) ∷ []) [] [] [] [] []) o expect.Inet) rest) (sym is.0)
 
     proto_begun : (s : Seen) (o : Told) (next : Expects) (rest : List (List ℕ)) → AheadOfProto next → whole site n t (at s o next) (codes "proto" ∷ rest) ≡ whole site n t (asked places.Proto kinds.Protocol (at s o expect.On)) rest

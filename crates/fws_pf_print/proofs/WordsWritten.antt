@@ -10,15 +10,17 @@ use Rattle.fws_net.specs.declared.outcome.End.{End}
 use Rattle.fws_net.specs.declared.site.Site.{Site}
 use Rattle.fws_net.specs.SiteLaws.{IsOrderly}
 use Rattle.fws_net.specs.SiteSpelling.{net_word}
+use Rattle.fws_net.specs.declared.packet.Lang.TheVariants.{Pf}
+use Rattle.fws_rule.specs.Names.{interface_name}
 use Rattle.fws_pf.specs.declared.config.Way.{Way}
 use Rattle.fws_pf.specs.declared.config.Way.TheVariants as ways
 use Rattle.fws_pf_print.specs.Printable.{are_flags, is_interface, is_number, protocol_tested, tested}
-use Rattle.fws_pf_print.specs.PrintedText.{addresses_words, between_words, end_port_words, end_words, front_words, hosts_words, interface_name, interface_words, network_len, options_words, ports_words, protocol_words, range_words, sides_words, state_words, static_words, tag_words, target_words, tests_flags, tests_hosts, way_words}
+use Rattle.fws_pf_print.specs.PrintedText.{addresses_words, between_words, end_port_words, end_words, front_words, hosts_words, interface_words, network_len, options_words, ports_words, protocol_words, range_words, sides_words, state_words, static_words, tag_words, target_words, tests_flags, tests_hosts, way_words}
 use Rattle.fws_pf_print.proofs.Basics.{never}
 use Rattle.fws_pf_print.proofs.Conds.{IsDivided, Printed}
 use Rattle.fws_pf_print.proofs.Laws.{Laws}
 use Rattle.fws_pf_print.proofs.LineWords.{arrow, AreWords, bare, more, none, words_append}
-use Rattle.fws_pf_print.proofs.NamesRead.{interface_spelled, name_known}
+use Rattle.fws_pf_print.proofs.NamesRead.{name_known}
 use Rattle.fws_pf_print.proofs.Shapes.{flags_texts, tag_texts, type_texts}
 use Rattle.fws_pf_print.proofs.ValuesRead.{address_bare, flags_read, net_bare, number_bare, ports_bare, protocol_bare, tag_bare}
 
@@ -31,7 +33,10 @@ module _ (laws : Laws) where
       let same : iv.lo ≡ iv.hi = eqb-true iv.lo iv.hi p.0 in
       let high : iv.hi ≤ length site.faces + 1 = leb-true iv.hi (length site.faces + 1) p.1 in
       let some = eqb-false iv.lo 0 (not-true (nat_eq iv.lo 0) (and_parts (not (nat_eq iv.lo 0)) true both.1).0) in
-      more (bare refl) (more (name_known (interface_name site iv.lo) (interface_spelled site orderly iv.lo (omega (arith, some)) (omega (arith, same, high)))).word none)
+      let named = laws.named Pf site orderly in
+      let low : 1 ≤ iv.lo = omega (arith, some) in
+      let within : iv.lo ≤ length site.faces + 1 = omega (arith, same, high) in
+      more (bare refl) (more (name_known (interface_name Pf site iv.lo) (named.plain iv.lo low within) (named.bytes iv.lo low within)).word none)
   interface_written site orderly (iv ∷ other ∷ set) h = never (h (λ e. absurd cc))
 
   protocol_written : (set : List Iv) → AreWords (protocol_words set)

@@ -1,5 +1,5 @@
 -- The text of a configuration: comments, translations and filter rules, as pfctl(8) of FreeBSD loads them.
-use Rattle.std.specs.Prelude.{ℕ, ◌+◌, ◌-◌, ◌/◌, ◌%◌, ◌^◌, Bool, true, false, ◌&&◌, not, nat_eq, nat_le, Option, slice_get, List, [], ◌∷◌, ◌++◌, map, codes, if◌then◌else◌}
+use Rattle.std.specs.Prelude.{ℕ, ◌+◌, ◌-◌, ◌/◌, ◌%◌, ◌^◌, Bool, true, false, ◌&&◌, not, nat_eq, nat_le, Option, List, [], ◌∷◌, ◌++◌, map, codes, if◌then◌else◌}
 use Rattle.std.specs.Fmt.{decimal}
 use Rattle.std.specs.List.{find, flat_map, list_any, range_with_len}
 use Rattle.std.specs.Option.{option_map_or}
@@ -13,6 +13,8 @@ use Rattle.fws_net.specs.declared.condition.Test.TheVariants.{Flags, Icmp, Tag}
 use Rattle.fws_net.specs.declared.outcome.End.{End}
 use Rattle.fws_net.specs.declared.site.Site.{Site}
 use Rattle.fws_net.specs.SiteSpelling.{net_word}
+use Rattle.fws_net.specs.declared.packet.Lang.TheVariants.{Pf}
+use Rattle.fws_rule.specs.Names.{interface_name}
 use Rattle.fws_pf.specs.declared.config.PfConfig.{PfConfig}
 use Rattle.fws_pf.specs.declared.config.PfNat.{PfNat}
 use Rattle.fws_pf.specs.declared.config.PfRule.{PfRule}
@@ -25,11 +27,6 @@ abbrev pub behind_blanks : List (List ℕ) → List ℕ
 behind_blanks words = flat_map (λ word. 32 ∷ word) words
 
 -- Interfaces
-
--- the name of an entry's interface
-abbrev pub interface_name : Site → ℕ → List ℕ
-interface_name site entry =
-    if nat_eq entry 1 then site.lo.pf else option_map_or (λ face. face.names.pf) (slice_get site.faces (entry - 2)) []
 
 abbrev pub ends_in_digit : List ℕ → Bool
 ends_in_digit [] = false
@@ -47,7 +44,7 @@ name_word name = if is_bare_name name then name else 34 ∷ name ++ 34 ∷ []
 -- the interface that is asked for, if one is
 abbrev pub interface_words : Site → List Iv → List (List ℕ)
 interface_words site [] = []
-interface_words site (iv ∷ set) = codes "on" ∷ name_word (interface_name site iv.lo) ∷ []
+interface_words site (iv ∷ set) = codes "on" ∷ name_word (interface_name Pf site iv.lo) ∷ []
 
 -- Protocols
 

@@ -16,6 +16,7 @@ use fws_num::{
     prefixes_are_read, quads_are_dotted, splits_back,
 };
 use fws_pf::{PfConfig, PfNat, PfRule};
+use fws_rule::orderly_sites_are_named;
 use std::alloc::Global;
 
 /// The text of a printable configuration is read as that configuration.
@@ -29,6 +30,7 @@ fn printed_texts_are_read()
     prefixes_are_read();
     quads_are_dotted();
     splits_back();
+    orderly_sites_are_named();
 }
 
 /// What stands ahead of the lines, as comments.

@@ -3,29 +3,19 @@
 ghost use Rattle.std.specs.Prelude.{◌≡◌, [], ◌∷◌, ◌++◌, codes, OnOk};
 ghost use Rattle.std.specs.Fmt.{decimal};
 ghost use Rattle.fws_num.specs.Numbers.{lacks};
+ghost use Rattle.fws_net.specs.declared.packet.Lang.TheVariants.{Pf};
+ghost use Rattle.fws_rule.specs.Names.{interface_name};
 ghost use Rattle.fws_pf_print.specs.Printable.{tag_name};
-ghost use Rattle.fws_pf_print.specs.PrintedText.{behind_blanks, ends_in_digit, front_words, hosts_words, interface_name, interface_words, is_bare_name, name_word, option_words, options_words, ports_word, ports_words, protocol_name, protocol_words, sides_words, tag_words};
+ghost use Rattle.fws_pf_print.specs.PrintedText.{behind_blanks, ends_in_digit, front_words, hosts_words, interface_words, is_bare_name, name_word, option_words, options_words, ports_word, ports_words, protocol_name, protocol_words, sides_words, tag_words};
 
 use crate::addresses::put_addresses;
 use crate::conditions::{first_number, tested, tests_hosts};
 use crate::tags::put_tag_name;
 use crate::values::{put_flag_test, put_number, put_ports, put_protocol, put_word};
 use fws_iv::Iv;
-use fws_net::{Lit, Site, Test};
+use fws_net::{Lang, Lit, Site, Test};
 use fws_num::{Memory, Text};
-
-/// The name of an entry's interface.
-fn interface_name(site: &Site, entry: u32) -> &[u8]
-    ensures { result.now ≡ interface_name site.now entry }
-{
-    if entry == 1 {
-        return site.lo.pf.as_slice();
-    }
-    match site.faces.as_slice().get(entry.saturating_sub(2) as usize) {
-        Some(face) => face.names.pf.as_slice(),
-        None => b"",
-    }
-}
+use fws_rule::interface_name;
 
 /// Whether the last byte is a digit.
 fn ends_in_digit(text: &[u8]) -> bool
@@ -75,10 +65,10 @@ fn put_name(out: &mut Text, name: &[u8]) -> Result<(), Memory>
 
 /// Appends the name of an entry's interface, behind its keyword.
 fn put_on(out: &mut Text, site: &Site, entry: u32) -> Result<(), Memory>
-    ensures { OnOk result (out.new ≡ out.old ++ behind_blanks (codes "on" ∷ name_word (interface_name site.now entry) ∷ [])) }
+    ensures { OnOk result (out.new ≡ out.old ++ behind_blanks (codes "on" ∷ name_word (interface_name Pf site.now entry) ∷ [])) }
 {
     put_word(out, b"on")?;
-    put_name(out, interface_name(site, entry))?;
+    put_name(out, interface_name(site, Lang::Pf, entry))?;
     Ok(())
 }
 

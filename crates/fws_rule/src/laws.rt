@@ -1,7 +1,8 @@
-//! Laws over conditions and walks: functions with nothing to do.
+//! Laws over names, conditions and walks: functions with nothing to do.
 
 ghost use Rattle.fws_rule.specs.Alike.{ConditionsHoldAlike};
 ghost use Rattle.fws_rule.specs.AlikeWays.{AlikePacketsStayAlike};
+ghost use Rattle.fws_rule.specs.Names.{OrderlySitesAreNamed};
 ghost use Rattle.fws_rule.specs.Regular.{AlikeWalksAreRegular, RegularPartsMakeAlikeWalks};
 
 /// A condition holds of two packets or of neither where they differ but in ports, flags and ICMP types at
@@ -25,4 +26,10 @@ pub fn alike_walks_are_regular()
 /// host) is such a walk: a law, with nothing to do.
 pub fn regular_parts_make_alike_walks()
     ensures { RegularPartsMakeAlikeWalks }
+{}
+
+/// The names of an orderly site's interfaces in each system are plain words, and each leads to its entry: a
+/// law, with nothing to do.
+pub fn orderly_sites_are_named()
+    ensures { OrderlySitesAreNamed }
 {}

@@ -12,4 +12,5 @@ returns c = printed_read (record {
   same_members = c.same_members_same_list.ensures;
   ranges_regular = c.ranges_are_regular.ensures;
   ranges_members = c.ranges_add_members.ensures;
+  named = c.orderly_sites_are_named.ensures;
 })

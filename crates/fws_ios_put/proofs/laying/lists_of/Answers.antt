@@ -7,14 +7,14 @@ use Rattle.fws_ios_put.proofs.laying.lists_of.Goals as goal
 pub loop-i-init : goal.loop-i-init
 loop-i-init c =
     subst (λ (ls : List IosList). AreLists c.args.site.now c.args.new.now.1 c.args.known.now.1 c.args.leaders.now 1 ls) (sym c.new-lists.ensures)
-    (no_lists c.args.site.now c.requires.orderly c.args.new.now.1 c.args.known.now.1 c.args.leaders.now)
+    (no_lists c.args.site.now c.requires.named c.args.new.now.1 c.args.known.now.1 c.args.leaders.now)
 
 pub loop-i-preserved : goal.loop-i-preserved
 loop-i-preserved c =
     let i = c.loop-i.i in
     let lt = c.loop-i-test.true in
     let size = c.requires.leaders.size in
-    more_lists c.args.site.now c.requires.orderly c.args.new.now.1 c.args.known.now.1 c.args.leaders.now (i + 1) c.loop-i.lists c.put_own.new.lists (omega arith) (omega arith) c.loop-i.invariant
+    more_lists c.args.site.now c.requires.named c.args.new.now.1 c.args.known.now.1 c.args.leaders.now (i + 1) c.loop-i.lists c.put_own.new.lists (omega arith) (omega arith) c.loop-i.invariant
     c.in_ok-put_own.ensures
 
 pub returns : goal.returns

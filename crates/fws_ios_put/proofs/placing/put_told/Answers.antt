@@ -1,9 +1,13 @@
+use Rattle.fws_net.specs.declared.packet.Lang.TheVariants.{Ios}
 use Rattle.fws_ios_put.proofs.Known.{Known}
 use Rattle.fws_ios_put.proofs.Laid.{placed}
 use Rattle.std.proofs.Common.{List, ℕ, ◌+◌, ap, subst}
 use Rattle.fws_ios_put.specs.Draft.{IsDraft}
 use Rattle.fws_ios_put.specs.Layout.{AreLeaders}
 use Rattle.fws_ios_put.proofs.placing.put_told.Goals as goal
+
+pub drafted-requires-clause-named : goal.drafted-requires-clause-named
+drafted-requires-clause-named c = c.orderly_sites_are_named.ensures Ios c.args.site.now c.requires.orderly
 
 pub returns : goal.returns
 returns c =
@@ -21,7 +25,7 @@ returns c =
       known_by_ack = c.ios_established_by_ack.ensures site tables regular fits;
       ahead = c.ios_ack_ahead.ensures site tables regular fits;
     } in
-    placed site tables known c.requires.orderly c.args.new.now c.args.known.now c.requires.new c.requires.known c.in_ok-leaders.leaders
+    placed site tables known (c.orderly_sites_are_named.ensures Ios site c.requires.orderly) c.args.new.now c.args.known.now c.requires.new c.requires.known c.in_ok-leaders.leaders
     (subst (λ (most : ℕ). AreLeaders c.args.new.now.1 c.args.known.now.1 most c.in_ok-leaders.leaders) (ap (λ (n : ℕ). n + 1) c.len.ensures) c.in_ok-leaders.ensures)
     c.in_ok-config.config
     (subst (λ (leaders : List ℕ). IsDraft site tables c.args.new.now.1 c.args.known.now.1 leaders c.in_ok-config.config) c.as_slice.ensures c.in_ok-config.ensures)

@@ -13,4 +13,5 @@ returns c = printed_read (record {
   lines = c.lines_are_read.ensures;
   ranges = c.many_ranges_add_members.ensures;
   same = c.same_members_same_list.ensures;
+  named = c.orderly_sites_are_named.ensures;
 })

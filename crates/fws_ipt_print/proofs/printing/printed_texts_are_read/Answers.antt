@@ -12,4 +12,5 @@ returns c = printed_read (record {
   joined = c.joined_are_divided.ensures;
   words = c.words_are_read.ensures;
   lines = c.lines_are_read.ensures;
+  named = c.orderly_sites_are_named.ensures;
 })

@@ -10,4 +10,5 @@ returns c = printed_read (record {
   dotted_bytes = c.addresses_are_dotted.ensures;
   splits = c.splits_back.ensures;
   lines = c.lines_are_read.ensures;
+  named = c.orderly_sites_are_named.ensures;
 })
