@@ -12,18 +12,24 @@ mod wanted;
 use crate::stop::Stop;
 use crate::table::follow_table;
 use fws_io::{Shelf, StdShelf, StdSink, write_all};
+use fws_num::Text;
 use fws_top::FILE_LIMIT;
+use std::alloc::Global;
 use std::process::ExitCode;
 use std::rt::Files;
 
 /// The file with the table of cases.
 const TABLE: &[u8] = b"answers.cases";
 
+/// Follows the table, and says what its cases came to.
+fn said_of<S: Shelf>(alloc: Global, files: &mut S) -> Result<Text, Stop> {
+    let table = files.read(alloc, TABLE, FILE_LIMIT)?;
+    follow_table(alloc, files, table.as_slice())
+}
+
 /// Follows the table, and writes what its cases came to.
 fn follow_cases<R: Files + Print + AllocGlobal>(rt: &R) -> Result<(), Stop> {
-    let mut files = StdShelf::new(rt);
-    let table = files.read(rt.alloc(), TABLE, FILE_LIMIT)?;
-    let said = follow_table(rt.alloc(), &mut files, table.as_slice())?;
+    let said = said_of(rt.alloc(), &mut StdShelf::new(rt))?;
     match write_all(&mut StdSink::new(rt), said.as_slice()) {
         Ok(()) => Ok(()),
         Err(_) => Err(Stop::Unread),

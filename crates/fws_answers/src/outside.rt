@@ -2,7 +2,7 @@
 
 use crate::stop::Stop;
 use fws_io::{MemShelf, MemSink, Shelf, SureShelf, SureSink};
-use fws_num::{Items, Memory, Text, Word};
+use fws_num::{Items, Memory, Text, Word, value_named};
 use fws_top::{FILE_LIMIT, run};
 use std::alloc::Global;
 
@@ -36,11 +36,16 @@ fn one_call(alloc: Global, number: u64) -> Result<Items<u64>, Memory> {
     Ok(calls)
 }
 
+/// Adds a word.
+fn put_word(alloc: Global, words: &mut Items<Text>, word: &[u8]) -> Result<(), Memory> {
+    words.put(Text::of(alloc, word)?)
+}
+
 /// The words of a command line, between which blanks stand.
 fn words_of(alloc: Global, command: &[u8]) -> Result<Items<Text>, Memory> {
     let mut words = Items::new(alloc);
     for word in command.split(|c: &u8| *c == b' ') {
-        words.put(Text::of(alloc, word)?)?;
+        put_word(alloc, &mut words, word)?;
     }
     Ok(words)
 }
@@ -49,15 +54,58 @@ fn words_of(alloc: Global, command: &[u8]) -> Result<Items<Text>, Memory> {
 fn found_over<S: Shelf>(
     alloc: Global,
     shelf: &mut S,
-    mut sink: MemSink,
+    sink: &mut MemSink,
     words: &[Text],
-) -> Result<Found, Stop> {
-    let status = run(alloc, words, shelf, &mut sink);
+) -> Result<Found, Memory> {
+    let status = run(alloc, words, shelf, sink);
     Ok(Found {
         status: status as u8,
         text: Text::of(alloc, sink.bytes())?,
     })
 }
+
+/// What a command line comes to over a shelf and a sink that keeps nothing.
+fn found_silently<S: Shelf>(alloc: Global, shelf: &mut S, words: &[Text]) -> Found {
+    let status = run(alloc, words, shelf, &mut SureSink::new());
+    Found {
+        status: status as u8,
+        text: Text::new(alloc),
+    }
+}
+
+/// What a name holds on a shelf.
+fn found_held<S: Shelf>(alloc: Global, shelf: &mut S, name: &[u8]) -> Result<Found, Stop> {
+    let text = shelf.read(alloc, name, FILE_LIMIT)?;
+    Ok(Found { status: 0, text })
+}
+
+/// Over what a command line runs.
+#[derive(Clone, Copy)]
+enum Over {
+    /// The shelf of which a read may fail.
+    Shelf,
+    /// The shelf that never fails.
+    Sure,
+    /// That shelf, and a sink that keeps nothing.
+    Silence,
+}
+
+/// What a case asks.
+#[derive(Clone, Copy)]
+enum Asks {
+    /// What its command line comes to.
+    Run(Over),
+    /// What the name that stands in its place holds.
+    Held,
+}
+
+/// The words of kinds of cases.
+const KINDS: [(&[u8], Asks); 4] = [
+    (b"run", Asks::Run(Over::Shelf)),
+    (b"sure", Asks::Run(Over::Sure)),
+    (b"silent", Asks::Run(Over::Silence)),
+    (b"held", Asks::Held),
+];
 
 impl Outside {
     /// Shelves that hold no name, of which the first fails at the read of this number, and sinks that take a byte at a time.
@@ -83,24 +131,46 @@ impl Outside {
         self.failing = failing;
     }
 
+    /// A sink.
+    fn sink(&self) -> Result<MemSink, Memory> {
+        let failing = one_call(self.alloc, self.failing)?;
+        Ok(MemSink::new(self.alloc, self.most.max(1), failing))
+    }
+
+    /// What a command line comes to over the shelf of which a read may fail.
+    fn find_over_shelf(&mut self, words: &[Text]) -> Result<Found, Memory> {
+        let mut sink = self.sink()?;
+        found_over(self.alloc, &mut self.shelf, &mut sink, words)
+    }
+
+    /// What a command line comes to over the shelf that never fails.
+    fn find_over_sure(&mut self, words: &[Text]) -> Result<Found, Memory> {
+        let mut sink = self.sink()?;
+        found_over(self.alloc, &mut self.sure, &mut sink, words)
+    }
+
+    /// What the words of a command line come to.
+    fn find_over(&mut self, over: Over, words: &[Text]) -> Result<Found, Memory> {
+        match over {
+            Over::Shelf => self.find_over_shelf(words),
+            Over::Sure => self.find_over_sure(words),
+            Over::Silence => Ok(found_silently(self.alloc, &mut self.sure, words)),
+        }
+    }
+
+    /// What a command line comes to.
+    fn find_run(&mut self, over: Over, command: &[u8]) -> Result<Found, Memory> {
+        let words = words_of(self.alloc, command)?;
+        self.find_over(over, words.as_slice())
+    }
+
     /// What the command comes to in this kind of case.
     pub fn find(&mut self, kind: &Word, command: &Word) -> Result<Found, Stop> {
-        let alloc = self.alloc;
-        let words = words_of(alloc, command.text.as_slice())?;
-        let words = words.as_slice();
-        let sink = MemSink::new(alloc, self.most.max(1), one_call(alloc, self.failing)?);
-        match kind.text.as_slice() {
-            b"run" => found_over(alloc, &mut self.shelf, sink, words),
-            b"sure" => found_over(alloc, &mut self.sure, sink, words),
-            b"silent" => Ok(Found {
-                status: run(alloc, words, &mut self.sure, &mut SureSink::new()) as u8,
-                text: Text::new(alloc),
-            }),
-            b"held" => Ok(Found {
-                status: 0,
-                text: self.sure.read(alloc, command.text.as_slice(), FILE_LIMIT)?,
-            }),
-            _ => Err(Stop::Malformed),
+        let command = command.text.as_slice();
+        match value_named(&KINDS, kind.text.as_slice()) {
+            Some(Asks::Run(over)) => Ok(self.find_run(over, command)?),
+            Some(Asks::Held) => found_held(self.alloc, &mut self.sure, command),
+            None => Err(Stop::Malformed),
         }
     }
 }

@@ -5,7 +5,9 @@ use crate::stop::Stop;
 use crate::wanted::is_as_wanted;
 use fws_io::Shelf;
 use fws_load::load_text;
-use fws_num::{Comments, Memory, Text, Word, are_sound, put_dec, read_dec, read_lines};
+use fws_num::{
+    Comments, Line, Memory, Text, Word, are_sound, put_dec, read_dec, read_lines, value_named,
+};
 use fws_top::FILE_LIMIT;
 use std::alloc::Global;
 
@@ -29,6 +31,32 @@ fn filled(alloc: Global, length: usize) -> Result<Text, Memory> {
     Text::of(alloc, bytes.as_slice())
 }
 
+/// A generated filter of so many rules.
+fn filter_of(alloc: Global, rules: &Word) -> Result<Text, Stop> {
+    match u32::try_from(number(rules)?) {
+        Ok(n) if 1 <= n && n <= 4000 => Ok(load_text(alloc, n)?),
+        _ => Err(Stop::Malformed),
+    }
+}
+
+/// What a name can hold.
+#[derive(Clone, Copy)]
+enum Holds {
+    /// The content of a file.
+    File,
+    /// A generated filter.
+    Filter,
+    /// One byte many times.
+    Fill,
+}
+
+/// The words for what a name can hold.
+const CONTENTS: [(&[u8], Holds); 3] = [
+    (b"file", Holds::File),
+    (b"filter", Holds::Filter),
+    (b"fill", Holds::Fill),
+];
+
 /// What a line lets a name hold: the content of a file, a generated filter, or one byte many times.
 fn content_of<S: Shelf>(
     alloc: Global,
@@ -36,18 +64,27 @@ fn content_of<S: Shelf>(
     kind: &Word,
     what: &Word,
 ) -> Result<Text, Stop> {
-    match kind.text.as_slice() {
-        b"file" => Ok(files.read(alloc, what.text.as_slice(), FILE_LIMIT)?),
-        b"filter" => match u32::try_from(number(what)?) {
-            Ok(n) if 1 <= n && n <= 4000 => Ok(load_text(alloc, n)?),
-            _ => Err(Stop::Malformed),
-        },
-        b"fill" => Ok(filled(alloc, number(what)? as usize)?),
-        _ => Err(Stop::Malformed),
+    match value_named(&CONTENTS, kind.text.as_slice()) {
+        Some(Holds::File) => Ok(files.read(alloc, what.text.as_slice(), FILE_LIMIT)?),
+        Some(Holds::Filter) => filter_of(alloc, what),
+        Some(Holds::Fill) => Ok(filled(alloc, number(what)? as usize)?),
+        None => Err(Stop::Malformed),
     }
 }
 
-/// Adds what a case came to: that it is as expected, or what was found instead, of the text just its beginning.
+/// Adds what was found where a case isn't as expected, of the text just its beginning.
+fn put_found(said: &mut Text, command: &Word, found: &Found) -> Result<(), Memory> {
+    said.put(b": NOT as expected at line ")?;
+    put_dec(said, u64::from(command.line))?;
+    said.put(b": found status ")?;
+    put_dec(said, u64::from(found.status))?;
+    said.put(b" and the text\n")?;
+    let text = found.text.as_slice();
+    said.put(&text[..text.len().min(SHOWN)])?;
+    said.put(b"\n")
+}
+
+/// Adds what a case came to: that it is as expected, or what was found instead.
 fn put_verdict(
     said: &mut Text,
     kind: &Word,
@@ -59,16 +96,79 @@ fn put_verdict(
     said.put(b" ")?;
     said.put(command.text.as_slice())?;
     if agrees {
-        return said.put(b": as expected\n");
+        said.put(b": as expected\n")
+    } else {
+        put_found(said, command, found)
     }
-    said.put(b": NOT as expected at line ")?;
-    put_dec(said, u64::from(command.line))?;
-    said.put(b": found status ")?;
-    put_dec(said, u64::from(found.status))?;
-    said.put(b" and the text\n")?;
-    let text = found.text.as_slice();
-    said.put(&text[..text.len().min(SHOWN)])?;
-    said.put(b"\n")
+}
+
+/// Whether what was found has the status of a case and the text that it wants.
+fn is_as_expected<S: Shelf>(
+    alloc: Global,
+    files: &mut S,
+    found: &Found,
+    status: &Word,
+    wanted: &[Word],
+) -> Result<bool, Stop> {
+    Ok(
+        number(status)? == u64::from(found.status)
+            && is_as_wanted(alloc, files, found.text.as_slice(), wanted)?,
+    )
+}
+
+/// Adds what a case came to, in which this was found.
+fn judge_found<S: Shelf>(
+    alloc: Global,
+    files: &mut S,
+    said: &mut Text,
+    kind: &Word,
+    command: &Word,
+    found: &Found,
+    status: &Word,
+    wanted: &[Word],
+) -> Result<(), Stop> {
+    let agrees = is_as_expected(alloc, files, found, status, wanted)?;
+    Ok(put_verdict(said, kind, command, found, agrees)?)
+}
+
+/// Tries a case, and adds what it came to.
+fn try_case<S: Shelf>(
+    alloc: Global,
+    files: &mut S,
+    outside: &mut Outside,
+    said: &mut Text,
+    kind: &Word,
+    command: &Word,
+    status: &Word,
+    wanted: &[Word],
+) -> Result<(), Stop> {
+    let found = outside.find(kind, command)?;
+    judge_found(alloc, files, said, kind, command, &found, status, wanted)
+}
+
+/// Lets a name hold what a line says.
+fn hold<S: Shelf>(
+    alloc: Global,
+    files: &mut S,
+    outside: &mut Outside,
+    kind: &Word,
+    name: &Word,
+    what: &Word,
+) -> Result<(), Stop> {
+    let content = content_of(alloc, files, kind, what)?;
+    Ok(outside.hold(name, &content)?)
+}
+
+/// Empties the shelves; the read with this number fails.
+fn empty_shelves(alloc: Global, outside: &mut Outside, read: &Word) -> Result<(), Stop> {
+    *outside = Outside::new(alloc, number(read)?)?;
+    Ok(())
+}
+
+/// Sets how sinks take what is put.
+fn set_sink(outside: &mut Outside, most: &Word, put: &Word) -> Result<(), Stop> {
+    outside.set_sink(number(most)? as usize, number(put)?);
+    Ok(())
 }
 
 /// Follows a line of the table: prepares what it says, or tries its case and says what it came to.
@@ -79,39 +179,76 @@ fn follow<S: Shelf>(
     said: &mut Text,
     words: &[Word],
 ) -> Result<(), Stop> {
+    if !are_sound(words) {
+        return Err(Stop::Malformed);
+    }
     match words {
-        _ if !are_sound(words) => return Err(Stop::Malformed),
-        [kind, read] if kind.is(b"shelf") => *outside = Outside::new(alloc, number(read)?)?,
-        [kind, most, put] if kind.is(b"sink") => {
-            outside.set_sink(number(most)? as usize, number(put)?);
-        }
-        [kind, name, what] => outside.hold(name, &content_of(alloc, files, kind, what)?)?,
+        [kind, read] if kind.is(b"shelf") => empty_shelves(alloc, outside, read),
+        [kind, most, put] if kind.is(b"sink") => set_sink(outside, most, put),
+        [kind, name, what] => hold(alloc, files, outside, kind, name, what),
         [kind, command, status, wanted @ ..] => {
-            let found = outside.find(kind, command)?;
-            let agrees = number(status)? == u64::from(found.status)
-                && is_as_wanted(alloc, files, found.text.as_slice(), wanted)?;
-            put_verdict(said, kind, command, &found, agrees)?;
+            try_case(alloc, files, outside, said, kind, command, status, wanted)
         }
-        _ => return Err(Stop::Malformed),
+        _ => Err(Stop::Malformed),
+    }
+}
+
+/// Names a line that can't be followed.
+fn put_unfollowed(said: &mut Text, number: u32) -> Result<(), Memory> {
+    said.put(b"line ")?;
+    put_dec(said, u64::from(number))?;
+    said.put(b" can't be followed\n")
+}
+
+/// Follows a line, or names it where it can't be followed.
+fn follow_line<S: Shelf>(
+    alloc: Global,
+    files: &mut S,
+    outside: &mut Outside,
+    said: &mut Text,
+    line: &Line,
+) -> Result<(), Memory> {
+    match follow(alloc, files, outside, said, line.words.as_slice()) {
+        Ok(()) => Ok(()),
+        Err(Stop::Memory) => Err(Memory),
+        Err(Stop::Unread | Stop::Malformed) => put_unfollowed(said, line.number),
+    }
+}
+
+/// Follows lines.
+fn follow_lines<S: Shelf>(
+    alloc: Global,
+    files: &mut S,
+    outside: &mut Outside,
+    said: &mut Text,
+    lines: &[Line],
+) -> Result<(), Memory> {
+    for line in lines {
+        follow_line(alloc, files, outside, said, line)?;
     }
     Ok(())
+}
+
+/// Follows lines over shelves and sinks, and says what their cases came to.
+fn said_over<S: Shelf>(
+    alloc: Global,
+    files: &mut S,
+    outside: &mut Outside,
+    lines: &[Line],
+) -> Result<Text, Memory> {
+    let mut said = Text::new(alloc);
+    follow_lines(alloc, files, outside, &mut said, lines)?;
+    Ok(said)
+}
+
+/// Follows lines, and says what their cases came to.
+fn said_of_lines<S: Shelf>(alloc: Global, files: &mut S, lines: &[Line]) -> Result<Text, Memory> {
+    let mut outside = Outside::new(alloc, 0)?;
+    said_over(alloc, files, &mut outside, lines)
 }
 
 /// Follows the table of a text, and says what its cases came to; a line that can't be followed is named.
 pub fn follow_table<S: Shelf>(alloc: Global, files: &mut S, table: &[u8]) -> Result<Text, Stop> {
     let lines = read_lines(alloc, Comments::HashLine, table)?;
-    let mut outside = Outside::new(alloc, 0)?;
-    let mut said = Text::new(alloc);
-    for line in lines.lines.as_slice() {
-        match follow(alloc, files, &mut outside, &mut said, line.words.as_slice()) {
-            Ok(()) => {}
-            Err(Stop::Memory) => return Err(Stop::Memory),
-            Err(Stop::Unread | Stop::Malformed) => {
-                said.put(b"line ")?;
-                put_dec(&mut said, u64::from(line.number))?;
-                said.put(b" can't be followed\n")?;
-            }
-        }
-    }
-    Ok(said)
+    Ok(said_of_lines(alloc, files, lines.lines.as_slice())?)
 }

@@ -2,7 +2,7 @@
 
 use crate::stop::Stop;
 use fws_io::Shelf;
-use fws_num::Word;
+use fws_num::{Word, value_named};
 use fws_top::FILE_LIMIT;
 use std::alloc::Global;
 
@@ -40,6 +40,47 @@ fn is_line(text: &[u8], line: &[u8]) -> bool {
     }
 }
 
+/// Whether a text is the content of a file.
+fn is_content<S: Shelf>(
+    alloc: Global,
+    files: &mut S,
+    text: &[u8],
+    file: &[u8],
+) -> Result<bool, Stop> {
+    let content = files.read(alloc, file, FILE_LIMIT)?;
+    Ok(content.as_slice() == text)
+}
+
+/// How a text is wanted.
+#[derive(Clone, Copy)]
+enum How {
+    /// As one line.
+    Line,
+    /// As these bytes.
+    Bytes,
+    /// As the content of a file.
+    File,
+    /// With this first line.
+    First,
+    /// With words like these at its beginning.
+    Words,
+    /// Not empty.
+    Something,
+    /// As it may be.
+    Anything,
+}
+
+/// The words for how a text is wanted.
+const HOWS: [(&[u8], How); 7] = [
+    (b"line", How::Line),
+    (b"bytes", How::Bytes),
+    (b"file", How::File),
+    (b"first", How::First),
+    (b"words", How::Words),
+    (b"something", How::Something),
+    (b"anything", How::Anything),
+];
+
 /// Whether a text is as the words of a case want it.
 pub fn is_as_wanted<S: Shelf>(
     alloc: Global,
@@ -50,21 +91,17 @@ pub fn is_as_wanted<S: Shelf>(
     let [how, what @ ..] = wanted else {
         return Err(Stop::Malformed);
     };
-    match (how.text.as_slice(), what) {
-        (b"line", [line]) => Ok(is_line(text, line.text.as_slice())),
-        (b"bytes", [bytes]) => Ok(bytes.is(text)),
-        (b"file", [file]) => {
-            Ok(
-                files
-                    .read(alloc, file.text.as_slice(), FILE_LIMIT)?
-                    .as_slice()
-                    == text,
-            )
-        }
-        (b"first", [line]) => Ok(has_first_line(text, line.text.as_slice())),
-        (b"words", [_, ..]) => Ok(begins_like(text, what)),
-        (b"something", []) => Ok(!text.is_empty()),
-        (b"anything", []) => Ok(true),
+    let Some(how) = value_named(&HOWS, how.text.as_slice()) else {
+        return Err(Stop::Malformed);
+    };
+    match (how, what) {
+        (How::Line, [line]) => Ok(is_line(text, line.text.as_slice())),
+        (How::Bytes, [bytes]) => Ok(bytes.is(text)),
+        (How::File, [file]) => is_content(alloc, files, text, file.text.as_slice()),
+        (How::First, [line]) => Ok(has_first_line(text, line.text.as_slice())),
+        (How::Words, [_, ..]) => Ok(begins_like(text, what)),
+        (How::Something, []) => Ok(!text.is_empty()),
+        (How::Anything, []) => Ok(true),
         _ => Err(Stop::Malformed),
     }
 }

@@ -42,19 +42,29 @@ fn alike(alloc: Global, n: u32, act: Act) -> Result<Chain, Memory> {
     Ok(chain_of(alloc, rules))
 }
 
+/// The literal that a packet comes from one host.
+fn from_host(alloc: Global) -> Result<Lit, Memory> {
+    Ok(Lit {
+        not: false,
+        test: Test::Src(one(alloc, HOST, HOST)?),
+    })
+}
+
+/// A rule that drops the packets of one host.
+fn dropping_rule(alloc: Global) -> Result<Rule, Memory> {
+    let mut cond = Cond::new(alloc);
+    cond.put(from_host(alloc)?)?;
+    Ok(Rule {
+        cond,
+        act: Act::Drop,
+    })
+}
+
 /// A chain of 1,000 rules that drop the packets of one host.
 fn dropping(alloc: Global) -> Result<Chain, Memory> {
     let mut rules = Items::new(alloc);
     for _ in 0..1000 {
-        let mut cond = Cond::new(alloc);
-        cond.put(Lit {
-            not: false,
-            test: Test::Src(one(alloc, HOST, HOST)?),
-        })?;
-        rules.put(Rule {
-            cond,
-            act: Act::Drop,
-        })?;
+        rules.put(dropping_rule(alloc)?)?;
     }
     Ok(chain_of(alloc, rules))
 }
@@ -69,17 +79,58 @@ fn row_of(alloc: Global, n: u32, last: Act) -> Result<Items<Chain>, Memory> {
     Ok(chains)
 }
 
+/// So many calls of a chain, and this chain.
+fn calls_of(alloc: Global, n: u32) -> Result<Items<Chain>, Memory> {
+    let mut chains = Items::new(alloc);
+    chains.put(alike(alloc, n, Act::Call(1))?)?;
+    chains.put(dropping(alloc)?)?;
+    Ok(chains)
+}
+
 /// The chains of a diagram.
 fn chains_of(alloc: Global, shape: Shape, n: u32) -> Result<Items<Chain>, Memory> {
     match shape {
-        Shape::Calls => {
-            let mut chains = Items::new(alloc);
-            chains.put(alike(alloc, n, Act::Call(1))?)?;
-            chains.put(dropping(alloc)?)?;
-            Ok(chains)
-        }
+        Shape::Calls => calls_of(alloc, n),
         Shape::Ladder => row_of(alloc, n, Act::Accept),
         Shape::Ring => row_of(alloc, n, Act::Call(n / 2)),
+    }
+}
+
+/// The stage of the first chain alone.
+fn one_stage(alloc: Global) -> Result<Items<Stage>, Memory> {
+    let mut stages = Items::new(alloc);
+    stages.put(Stage {
+        chain: 0,
+        shows_recv: true,
+        shows_xmit: true,
+        outward: false,
+        end: true,
+    })?;
+    Ok(stages)
+}
+
+/// A diagram whose first chain is that of the stage of forwarded packets.
+fn diagram_of(alloc: Global, shape: Shape, n: u32) -> Result<Ifcl, Memory> {
+    let chains = chains_of(alloc, shape, n)?;
+    let forward = one_stage(alloc)?;
+    Ok(Ifcl {
+        chains,
+        arrive: Items::new(alloc),
+        deliver: Items::new(alloc),
+        forward,
+        send: Items::new(alloc),
+    })
+}
+
+/// How many instructions a diagram has when it is unfolded, or why there are none.
+fn count_code(alloc: Global, diagram: &Ifcl) -> Result<Result<usize, UnfoldAnswer>, Stop> {
+    if !ifcl_ok(diagram) {
+        return Err(Stop::Words);
+    }
+    match unfold(alloc, diagram) {
+        Ok(flat) => Ok(Ok(flat.code.len())),
+        Err(UnfoldAnswer::Memory) => Err(Stop::Memory),
+        Err(refusal) => Ok(Err(refusal)),
     }
 }
 
@@ -89,27 +140,6 @@ pub fn count_unfolded(
     shape: Shape,
     n: u32,
 ) -> Result<Result<usize, UnfoldAnswer>, Stop> {
-    let mut forward = Items::new(alloc);
-    forward.put(Stage {
-        chain: 0,
-        shows_recv: true,
-        shows_xmit: true,
-        outward: false,
-        end: true,
-    })?;
-    let diagram = Ifcl {
-        chains: chains_of(alloc, shape, n)?,
-        arrive: Items::new(alloc),
-        deliver: Items::new(alloc),
-        forward,
-        send: Items::new(alloc),
-    };
-    if !ifcl_ok(&diagram) {
-        return Err(Stop::Words);
-    }
-    match unfold(alloc, &diagram) {
-        Ok(flat) => Ok(Ok(flat.code.len())),
-        Err(UnfoldAnswer::Memory) => Err(Stop::Memory),
-        Err(refusal) => Ok(Err(refusal)),
-    }
+    let diagram = diagram_of(alloc, shape, n)?;
+    count_code(alloc, &diagram)
 }

@@ -27,7 +27,7 @@ use crate::product::count_nodes;
 use crate::recolour::count_recoloured;
 use crate::stop::Stop;
 use fws_io::{Shelf, StdShelf, StdSink, write_all};
-use fws_num::{Items, Memory, Text, put_dec, read_dec};
+use fws_num::{Items, Memory, Text, put_dec, read_dec, value_named};
 use fws_unfold::UnfoldAnswer;
 use std::alloc::Global;
 use std::env;
@@ -39,6 +39,36 @@ const MOST: u64 = 4000;
 
 /// The most chains and calls of a diagram.
 const MOST_CHAINS: u64 = 200_000;
+
+/// How a tree is made.
+#[derive(Clone, Copy)]
+enum Made {
+    /// Of rows that each have cuts of their own in four fields.
+    Fields,
+    /// Of rows that each test one of four fields.
+    Product,
+    /// By recolouring.
+    Recolour,
+}
+
+/// What a job that takes a number makes.
+#[derive(Clone, Copy)]
+enum Kind {
+    /// A tree.
+    Tree(Made),
+    /// Flat code of a diagram.
+    Unfolding(Shape),
+}
+
+/// The words of jobs that take a number.
+const KINDS: [(&[u8], Kind); 6] = [
+    (b"fields", Kind::Tree(Made::Fields)),
+    (b"product", Kind::Tree(Made::Product)),
+    (b"recolour", Kind::Tree(Made::Recolour)),
+    (b"unfold", Kind::Unfolding(Shape::Calls)),
+    (b"chains", Kind::Unfolding(Shape::Ladder)),
+    (b"ring", Kind::Unfolding(Shape::Ring)),
+];
 
 /// The number that a word asks for.
 fn read_count(word: &Text) -> Option<u32>
@@ -91,28 +121,38 @@ fn do_unfolding(alloc: Global, out: &mut Text, shape: Shape, count: &Text) -> Re
     }
 }
 
-/// Does one job on trees, and appends what it says.
-fn do_tree(alloc: Global, out: &mut Text, kind: &Text, count: &Text) -> Result<(), Stop> {
-    let Some(n) = read_count(count) else {
-        return Err(Stop::Words);
-    };
-    match kind.as_slice() {
-        b"fields" => put_line(out, n, &[count_paths(alloc, n)?])?,
-        b"product" => put_line(out, n, &[count_nodes(alloc, n)?])?,
-        b"recolour" => put_line(out, n, &count_recoloured(alloc, n)?)?,
-        _ => return Err(Stop::Words),
+/// Appends a line of the number that was asked for and of what is counted of trees of so many rows.
+fn put_tree(alloc: Global, out: &mut Text, made: Made, n: u32) -> Result<(), Memory>
+    requires { n ≤ MOST }
+{
+    match made {
+        Made::Fields => put_line(out, n, &[count_paths(alloc, n)?]),
+        Made::Product => put_line(out, n, &[count_nodes(alloc, n)?]),
+        Made::Recolour => put_line(out, n, &count_recoloured(alloc, n)?),
     }
-    Ok(())
+}
+
+/// Does one job on trees, and appends what it says.
+fn do_tree(alloc: Global, out: &mut Text, made: Made, count: &Text) -> Result<(), Stop> {
+    match read_count(count) {
+        Some(n) => Ok(put_tree(alloc, out, made, n)?),
+        None => Err(Stop::Words),
+    }
 }
 
 /// Does one job that takes a number, and appends what it says.
 fn do_counting(alloc: Global, out: &mut Text, kind: &Text, count: &Text) -> Result<(), Stop> {
-    match kind.as_slice() {
-        b"unfold" => do_unfolding(alloc, out, Shape::Calls, count),
-        b"chains" => do_unfolding(alloc, out, Shape::Ladder, count),
-        b"ring" => do_unfolding(alloc, out, Shape::Ring, count),
-        _ => do_tree(alloc, out, kind, count),
+    match value_named(&KINDS, kind.as_slice()) {
+        Some(Kind::Tree(made)) => do_tree(alloc, out, made, count),
+        Some(Kind::Unfolding(shape)) => do_unfolding(alloc, out, shape, count),
+        None => Err(Stop::Words),
     }
+}
+
+/// Appends a line of a job's word and of what was counted.
+fn put_executed(out: &mut Text, kind: &Text, counts: &[usize]) -> Result<(), Memory> {
+    out.put(kind.as_slice())?;
+    put_counts(out, counts)
 }
 
 /// Does one job with the words behind it, and appends what it says.
@@ -127,8 +167,7 @@ fn do_job<S: Shelf>(
         [count] => do_counting(alloc, out, kind, count),
         [site, file, state] => {
             let counts = count_executed(alloc, shelf, site, file, state)?;
-            out.put(kind.as_slice())?;
-            Ok(put_counts(out, &counts)?)
+            Ok(put_executed(out, kind, &counts)?)
         }
         _ => Err(Stop::Words),
     }
@@ -136,9 +175,10 @@ fn do_job<S: Shelf>(
 
 /// How many words follow the word of a job.
 fn words_behind(kind: &Text) -> usize {
-    match kind.as_slice() {
-        b"execute" => 3,
-        _ => 1,
+    if kind.as_slice() == b"execute".as_slice() {
+        3
+    } else {
+        1
     }
 }
 
@@ -159,6 +199,11 @@ fn do_jobs<S: Shelf>(
     do_jobs(alloc, shelf, out, next)
 }
 
+/// Adds a word.
+fn put_word(alloc: Global, words: &mut Items<Text>, word: &[u8]) -> Result<(), Memory> {
+    words.put(Text::of(alloc, word)?)
+}
+
 /// The words behind the program's name.
 fn take_words<R: Env + AllocGlobal>(rt: &R) -> Result<Items<Text>, Stop> {
     let Ok(arguments) = env::args(rt) else {
@@ -166,18 +211,22 @@ fn take_words<R: Env + AllocGlobal>(rt: &R) -> Result<Items<Text>, Stop> {
     };
     let mut words = Items::new(rt.alloc());
     for argument in arguments.skip(1) {
-        words.put(Text::of(rt.alloc(), argument.as_bytes())?)?;
+        put_word(rt.alloc(), &mut words, argument.as_bytes())?;
     }
     Ok(words)
 }
 
 /// What the jobs of the words say.
+fn said_of<S: Shelf>(alloc: Global, shelf: &mut S, words: &[Text]) -> Result<Text, Stop> {
+    let mut out = Text::new(alloc);
+    do_jobs(alloc, shelf, &mut out, words)?;
+    Ok(out)
+}
+
+/// What the jobs of the command line say.
 fn answer<R: Env + Files + AllocGlobal>(rt: &R) -> Result<Text, Stop> {
     let words = take_words(rt)?;
-    let mut shelf = StdShelf::new(rt);
-    let mut out = Text::new(rt.alloc());
-    do_jobs(rt.alloc(), &mut shelf, &mut out, words.as_slice())?;
-    Ok(out)
+    said_of(rt.alloc(), &mut StdShelf::new(rt), words.as_slice())
 }
 
 fn main(rt: HostRuntime) -> ExitCode {

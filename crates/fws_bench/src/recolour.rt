@@ -79,22 +79,61 @@ impl Moves for Goal {
     }
 }
 
-/// The points of the recolouring with this number: an address block of its own, or one of 64 that overlap and a range
-/// of ports.
-fn sides_of(alloc: Global, k: u32) -> Result<[Ivs; 12], Memory>
+/// Sets the side of destinations to an address block of its own.
+fn set_block(alloc: Global, sides: &mut [Ivs; 12], k: u32) -> Result<(), Memory>
     requires { k < MOST }
 {
-    let mut sides = whole_sides(alloc, &TOPS)?;
-    if k % 2 == 0 {
-        sides[2] = one(alloc, BASE + 256 * k, BASE + 256 * k + 255)?;
-        return Ok(sides);
-    }
+    sides[2] = one(alloc, BASE + 256 * k, BASE + 256 * k + 255)?;
+    Ok(())
+}
+
+/// Sets the side of destinations to one of 64 address blocks that overlap, and that of their ports to a range.
+fn set_overlapping(alloc: Global, sides: &mut [Ivs; 12], k: u32) -> Result<(), Memory>
+    requires { k < MOST }
+{
     let block = scattered(k) % 64;
     let first = BASE + 256 * (scattered(block) % 4096);
     sides[2] = one(alloc, first, first + 256 * block + 255)?;
     let port = scattered(k) % 60000;
     sides[3] = one(alloc, port, port + k)?;
+    Ok(())
+}
+
+/// Keeps the points of the recolouring with this number: an address block of its own, or one of 64 that overlap and a
+/// range of ports.
+fn set_sides(alloc: Global, sides: &mut [Ivs; 12], k: u32) -> Result<(), Memory>
+    requires { k < MOST }
+{
+    if k % 2 == 0 {
+        set_block(alloc, sides, k)
+    } else {
+        set_overlapping(alloc, sides, k)
+    }
+}
+
+/// The points of the recolouring with this number.
+fn sides_of(alloc: Global, k: u32) -> Result<[Ivs; 12], Memory>
+    requires { k < MOST }
+{
+    let mut sides = whole_sides(alloc, &TOPS)?;
+    set_sides(alloc, &mut sides, k)?;
     Ok(sides)
+}
+
+/// Recolours the points within the sides by the rule with this number.
+fn recolour_within(
+    alloc: Global,
+    canvas: &mut Canvas,
+    k: u32,
+    sides: &[Ivs; 12],
+) -> Result<(), Memory>
+    requires { IsBounded canvas.old }
+    ensures { OnOk result (IsBounded canvas.new) }
+{
+    let marks = [Mark::of_sets(sides, 1)];
+    let mut goal = Goal::new(k, canvas.values().len());
+    canvas.recolour(alloc, &marks, 0, OPEN, &mut goal)?;
+    Ok(())
 }
 
 /// Recolours the canvas once.
@@ -104,9 +143,19 @@ fn recolour(alloc: Global, canvas: &mut Canvas, k: u32) -> Result<(), Memory>
     ensures { OnOk result (IsBounded canvas.new) }
 {
     let sides = sides_of(alloc, k)?;
-    let marks = [Mark::of_sets(&sides, 1)];
-    let mut goal = Goal::new(k, canvas.values().len());
-    canvas.recolour(alloc, &marks, 0, OPEN, &mut goal)?;
+    recolour_within(alloc, canvas, k, &sides)?;
+    Ok(())
+}
+
+/// Recolours the canvas so many times.
+fn recolour_often(alloc: Global, canvas: &mut Canvas, n: u32) -> Result<(), Memory>
+    requires number { n ≤ MOST }
+    requires bounded { IsBounded canvas.old }
+    ensures { OnOk result (IsBounded canvas.new) }
+{
+    for k in 0..n {
+        recolour(alloc, canvas, k)?;
+    }
     Ok(())
 }
 
@@ -124,15 +173,28 @@ fn leaves(alloc: Global) -> Result<Vec<Outcome>, Memory>
     Ok(leaves)
 }
 
+/// How many values and nodes a canvas has, whose values stand for these leaves.
+fn count_both(alloc: Global, canvas: &Canvas, leaves: &[Outcome]) -> Result<[usize; 2], Memory>
+    requires bounded { IsBounded canvas.now }
+    requires leaves { length leaves.now ≡ 4001 }
+{
+    let tree = canvas.tree(alloc, leaves)?;
+    Ok([canvas.values().len(), tree.nodes()])
+}
+
+/// How many values and nodes a canvas has.
+fn count_painted(alloc: Global, canvas: &Canvas) -> Result<[usize; 2], Memory>
+    requires { IsBounded canvas.now }
+{
+    let leaves = leaves(alloc)?;
+    count_both(alloc, canvas, leaves.as_slice())
+}
+
 /// How many values and nodes there are after `n` recolourings.
 pub fn count_recoloured(alloc: Global, n: u32) -> Result<[usize; 2], Memory>
     requires { n ≤ MOST }
 {
     let mut canvas = Canvas::new(alloc, &TOPS, OPEN)?;
-    for k in 0..n {
-        recolour(alloc, &mut canvas, k)?;
-    }
-    let leaves = leaves(alloc)?;
-    let tree = canvas.tree(alloc, leaves.as_slice())?;
-    Ok([canvas.values().len(), tree.nodes()])
+    recolour_often(alloc, &mut canvas, n)?;
+    count_painted(alloc, &canvas)
 }

@@ -23,11 +23,20 @@ fn some<'b>(part: Option<PBox<'b>>) -> Result<PBox<'b>, Stop> {
     part.ok_or(Stop::Malformed)
 }
 
+/// The points of a box with the broadcast address as their destination.
+fn broadcast_in<'b>(
+    alloc: Global,
+    bump: &'b Bump,
+    all: &PBox<'b>,
+) -> Result<Option<PBox<'b>>, Memory> {
+    let last = one(alloc, u32::MAX, u32::MAX)?;
+    narrow(bump, all, Field::Dst, &last)
+}
+
 /// Both boxes.
 fn boxes_in<'b>(alloc: Global, bump: &'b Bump) -> Result<Boxes<'b>, Stop> {
     let all = full(bump, &TOPS)?;
-    let last = one(alloc, u32::MAX, u32::MAX)?;
-    let broadcast = some(narrow(bump, &all, Field::Dst, &last)?)?;
+    let broadcast = some(broadcast_in(alloc, bump, &all)?)?;
     Ok(Boxes { all, broadcast })
 }
 
@@ -44,14 +53,35 @@ fn judge_piece(bump: &Bump, boxes: &Boxes, piece: &PBox, tally: &mut Tally) -> R
     Ok(())
 }
 
-/// Tries to cut the broadcast box out of all points, and all points out of it.
-fn judge_cut(alloc: Global, bump: &Bump, boxes: &Boxes, tally: &mut Tally) -> Result<(), Memory> {
-    let pieces = cut(alloc, bump, &boxes.all, &boxes.broadcast)?;
-    tally.count(pieces.len() == 1);
-    for piece in pieces.as_slice() {
+/// Tries each of the pieces that the broadcast box leaves of all points.
+fn judge_pieces(
+    bump: &Bump,
+    boxes: &Boxes,
+    pieces: &[PBox<'_>],
+    tally: &mut Tally,
+) -> Result<(), Memory> {
+    for piece in pieces {
         judge_piece(bump, boxes, piece, tally)?;
     }
-    tally.count(cut(alloc, bump, &boxes.broadcast, &boxes.all)?.is_empty());
+    Ok(())
+}
+
+/// Tries to cut the broadcast box out of all points.
+fn judge_left(alloc: Global, bump: &Bump, boxes: &Boxes, tally: &mut Tally) -> Result<(), Memory> {
+    let pieces = cut(alloc, bump, &boxes.all, &boxes.broadcast)?;
+    tally.count(pieces.len() == 1);
+    judge_pieces(bump, boxes, pieces.as_slice(), tally)
+}
+
+/// Tries to cut all points out of the broadcast box.
+fn judge_none_left(
+    alloc: Global,
+    bump: &Bump,
+    boxes: &Boxes,
+    tally: &mut Tally,
+) -> Result<(), Memory> {
+    let pieces = cut(alloc, bump, &boxes.broadcast, &boxes.all)?;
+    tally.count(pieces.is_empty());
     Ok(())
 }
 
@@ -65,6 +95,16 @@ fn judge_met(bump: &Bump, boxes: &Boxes, tally: &mut Tally) -> Result<(), Stop> 
     Ok(())
 }
 
+/// The points of a box with any source.
+fn from_anywhere<'b>(
+    alloc: Global,
+    bump: &'b Bump,
+    within: &PBox<'b>,
+) -> Result<Option<PBox<'b>>, Memory> {
+    let every = one(alloc, 0, u32::MAX)?;
+    narrow(bump, within, Field::Src, &every)
+}
+
 /// Tries that nothing is placed where a side lies within the set to which it is narrowed.
 fn judge_narrowed(
     alloc: Global,
@@ -73,10 +113,10 @@ fn judge_narrowed(
     tally: &mut Tally,
 ) -> Result<(), Stop> {
     let room = bump.chunk_capacity();
-    let every = one(alloc, 0, u32::MAX)?;
-    let narrowed = some(narrow(bump, &boxes.broadcast, Field::Src, &every)?)?;
+    let narrowed = some(from_anywhere(alloc, bump, &boxes.broadcast)?)?;
     tally.count(narrowed.has(&[u32::MAX; 12]) && bump.chunk_capacity() == room);
-    tally.count(narrow(bump, &boxes.all, Field::Proto, &Ivs::none(alloc))?.is_none());
+    let none = Ivs::none(alloc);
+    tally.count(narrow(bump, &boxes.all, Field::Proto, &none)?.is_none());
     Ok(())
 }
 
@@ -97,16 +137,22 @@ fn judge_fields(tally: &mut Tally) {
     tally.count(bits == 4095 && Field::SentSport.bit() == 2048);
 }
 
-/// Tries all calls.
-fn judge_all(alloc: Global, tally: &mut Tally) -> Result<(), Stop> {
-    let bump = Bump::new(alloc);
-    let boxes = boxes_in(alloc, &bump)?;
-    judge_cut(alloc, &bump, &boxes, tally)?;
-    judge_met(&bump, &boxes, tally)?;
-    judge_narrowed(alloc, &bump, &boxes, tally)?;
+/// Tries all calls on boxes in an arena.
+fn judge_in(alloc: Global, bump: &Bump, tally: &mut Tally) -> Result<(), Stop> {
+    let boxes = boxes_in(alloc, bump)?;
+    judge_left(alloc, bump, &boxes, tally)?;
+    judge_none_left(alloc, bump, &boxes, tally)?;
+    judge_met(bump, &boxes, tally)?;
+    judge_narrowed(alloc, bump, &boxes, tally)?;
     judge_sides(alloc, &boxes, tally)?;
     judge_fields(tally);
     Ok(())
+}
+
+/// Tries all calls.
+fn judge_all(alloc: Global, tally: &mut Tally) -> Result<(), Stop> {
+    let bump = Bump::new(alloc);
+    judge_in(alloc, &bump, tally)
 }
 
 /// Says how many calls on boxes give what they must.

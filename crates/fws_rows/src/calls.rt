@@ -92,13 +92,38 @@ fn put_call(found: &mut Found, site: &Site, subject: Subject, call: &Call) -> Re
     }
 }
 
+/// Whether a call gives these values.
+fn gives(
+    alloc: Global,
+    site: &Site,
+    subject: Subject,
+    call: &Call,
+    wanted: &[Text],
+) -> Result<bool, Stop>
+    requires { IsSound site.now }
+{
+    let mut found = Found::new(alloc);
+    put_call(&mut found, site, subject, call)?;
+    Ok(found.values.as_slice() == wanted)
+}
+
+/// Whether the call of a case's fields gives its values.
+fn fields_give_so(
+    alloc: Global,
+    site: &Site,
+    subject: Subject,
+    fields: &[Text],
+) -> Result<bool, Stop>
+    requires { IsSound site.now }
+{
+    let (call, wanted) = call_of(subject, fields)?;
+    gives(alloc, site, subject, &call, wanted)
+}
+
 /// Whether the call of a case gives its values.
 pub fn gives_so(alloc: Global, site: &Site, subject: Subject, case: &[u8]) -> Result<bool, Stop>
     requires { IsSound site.now }
 {
     let fields = fields_of(alloc, case)?;
-    let (call, wanted) = call_of(subject, fields.as_slice())?;
-    let mut found = Found::new(alloc);
-    put_call(&mut found, site, subject, &call)?;
-    Ok(found.values.as_slice() == wanted)
+    fields_give_so(alloc, site, subject, fields.as_slice())
 }

@@ -143,9 +143,8 @@ fn put_all_seen(view: &mut View, words: &[Word]) -> Result<(), Stop> {
     Ok(())
 }
 
-/// What a rule sees of the packet, and besides what the words of a text say.
-fn read_view(alloc: Global, text: &[u8], packet: &Packet) -> Result<View, Stop> {
-    let words = words(alloc, text, 1)?;
+/// What a rule sees of the packet, and besides what words say.
+fn view_of(alloc: Global, words: &[Word], packet: &Packet) -> Result<View, Stop> {
     let mut view = View {
         packet: *packet,
         recv: None,
@@ -154,14 +153,26 @@ fn read_view(alloc: Global, text: &[u8], packet: &Packet) -> Result<View, Stop> 
         est: false,
         tags: Items::new(alloc),
     };
-    put_all_seen(&mut view, words.as_slice())?;
+    put_all_seen(&mut view, words)?;
     Ok(view)
+}
+
+/// What a rule sees of the packet, and besides what the words of a text say.
+fn read_view(alloc: Global, text: &[u8], packet: &Packet) -> Result<View, Stop> {
+    let words = words(alloc, text, 1)?;
+    view_of(alloc, words.as_slice(), packet)
 }
 
 /// Whether the condition, and a copy of it, hold at what a rule sees.
 fn hold_both(alloc: Global, condition: &Cond, view: &View) -> Result<bool, Stop> {
     let copy = condition.copy(alloc)?;
     Ok(holds(condition, view) && holds(&copy, view))
+}
+
+/// Whether the condition of a text, and a copy of it, hold at what a rule sees.
+fn judge_seen(alloc: Global, condition: &[u8], view: &View) -> Result<bool, Stop> {
+    let condition = read_condition(alloc, condition)?;
+    hold_both(alloc, &condition, view)
 }
 
 /// Whether the condition of a text, and a copy of it, hold at what a rule sees of the packet.
@@ -172,6 +183,5 @@ pub fn judge_holds(
     packet: &Packet,
 ) -> Result<bool, Stop> {
     let view = read_view(alloc, view, packet)?;
-    let condition = read_condition(alloc, condition)?;
-    hold_both(alloc, &condition, &view)
+    judge_seen(alloc, condition, &view)
 }

@@ -8,7 +8,7 @@ use crate::forms::Forms;
 use crate::languages::Config;
 use crate::sampling::{count, kind_of, packet_of, point_at};
 use crate::stop::Stop;
-use crate::table::{Row, read_table};
+use crate::table::{Row, Table, read_table};
 use crate::tracing::{Traced, judge_trace};
 use fws_ifcl::{Ifcl, ifcl_ok};
 use fws_ipt::model::refusal;
@@ -82,17 +82,24 @@ fn said_of(alloc: Global, agreeing: u64, promised: u32) -> Result<Text, Memory> 
     Ok(said)
 }
 
-/// Walks the packets at the ends of each row of an expected table, and says how many rows agree.
-fn judge_table(alloc: Global, site: &Site, forms: &Forms, expected: &[u8]) -> Result<Text, Stop>
+/// Walks the packets at the ends of each row of a table, and says how many rows agree.
+fn judge_rows(alloc: Global, site: &Site, forms: &Forms, table: &Table) -> Result<Text, Stop>
     requires { IsSound site.now }
 {
-    let table = read_table(alloc, site, expected)?;
     let rows = table.rows.as_slice();
     if rows.len() as u64 != u64::from(table.promised) {
         return Err(Stop::Malformed);
     }
     let agreeing = agreeing(alloc, site, forms, table.est, rows)?;
     Ok(said_of(alloc, agreeing, table.promised)?)
+}
+
+/// Walks the packets at the ends of each row of an expected table, and says how many rows agree.
+fn judge_table(alloc: Global, site: &Site, forms: &Forms, expected: &[u8]) -> Result<Text, Stop>
+    requires { IsSound site.now }
+{
+    let table = read_table(alloc, site, expected)?;
+    judge_rows(alloc, site, forms, &table)
 }
 
 /// The name of the configuration's chain with this number.

@@ -101,6 +101,21 @@ fn put_line(said: &mut Text, words: &[Text], found: &Text) -> Result<(), Memory>
     said.put(b"\n")
 }
 
+/// Does a job for which this is given, and adds its words with what it found behind them.
+fn put_found(
+    alloc: Global,
+    site: &Site,
+    said: &mut Text,
+    job: Job,
+    words: &[Text],
+    given: &[Text],
+) -> Result<(), Stop>
+    requires { IsSound site.now }
+{
+    let found = do_job(alloc, site, job, given)?;
+    Ok(put_line(said, words, &found)?)
+}
+
 /// Does the job with which the words begin, adds a line for it, and gives how many words it has.
 fn do_first<S: Shelf>(
     alloc: Global,
@@ -120,8 +135,7 @@ fn do_first<S: Shelf>(
         return Err(Stop::Malformed);
     };
     let given = given_of(alloc, shelf, job, behind)?;
-    let found = do_job(alloc, site, job, given.as_slice())?;
-    put_line(said, all, &found)?;
+    put_found(alloc, site, said, job, all, given.as_slice())?;
     Ok(count)
 }
 
@@ -145,6 +159,20 @@ fn do_jobs<S: Shelf>(
     Ok(())
 }
 
+/// Does the jobs of the words on a site, and gives a line for each.
+fn said_at<S: Shelf>(
+    alloc: Global,
+    shelf: &mut S,
+    site: &Site,
+    words: &[Text],
+) -> Result<Text, Stop>
+    requires { IsSound site.now }
+{
+    let mut said = Text::new(alloc);
+    do_jobs(alloc, shelf, site, &mut said, words)?;
+    Ok(said)
+}
+
 /// Does the jobs of the words on the site of a text, and gives a line for each.
 fn do_all<S: Shelf>(
     alloc: Global,
@@ -152,12 +180,10 @@ fn do_all<S: Shelf>(
     site: &[u8],
     words: &[Text],
 ) -> Result<Text, Stop> {
-    let mut said = Text::new(alloc);
     match read_site(alloc, site) {
-        Ok(site) => do_jobs(alloc, shelf, &site, &mut said, words)?,
-        Err(_) => return Err(Stop::Malformed),
+        Ok(site) => said_at(alloc, shelf, &site, words),
+        Err(_) => Err(Stop::Malformed),
     }
-    Ok(said)
 }
 
 /// Does the jobs behind the first word, which names a site, and gives a line for each.
@@ -169,10 +195,15 @@ fn say_all<S: Shelf>(alloc: Global, shelf: &mut S, words: &[Text]) -> Result<Tex
     do_all(alloc, shelf, site.as_slice(), jobs)
 }
 
-/// Does the jobs of the command line, whose first word names the site, and writes what they found.
-fn walk_rows<R: Env + Files + Print + AllocGlobal>(rt: &R) -> Result<(), Stop> {
+/// Does the jobs of the command line, whose first word names the site, and gives a line for each.
+fn said_of<R: Env + Files + AllocGlobal>(rt: &R) -> Result<Text, Stop> {
     let words = take_words(rt)?;
-    let said = say_all(rt.alloc(), &mut StdShelf::new(rt), words.as_slice())?;
+    say_all(rt.alloc(), &mut StdShelf::new(rt), words.as_slice())
+}
+
+/// Does the jobs of the command line, and writes what they found.
+fn walk_rows<R: Env + Files + Print + AllocGlobal>(rt: &R) -> Result<(), Stop> {
+    let said = said_of(rt)?;
     match write_all(&mut StdSink::new(rt), said.as_slice()) {
         Ok(()) => Ok(()),
         Err(_) => Err(Stop::Unread),

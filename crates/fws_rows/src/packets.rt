@@ -124,22 +124,33 @@ fn put_applied(found: &mut Found, outcome: Outcome, packet: &Packet) -> Result<(
     }
 }
 
+/// Adds what becomes of the packet with the ends of a text.
+fn put_leaving(found: &mut Found, text: &[u8], packet: &Packet) -> Result<(), Stop> {
+    let ends = ends_of(found.alloc, text)?;
+    Ok(put_fate(found, &ends.apply(packet))?)
+}
+
+/// Adds what becomes of the packet of a text's class by the outcome of another.
+fn put_fate_of(found: &mut Found, kind: &[u8], text: &[u8], packet: &Packet) -> Result<(), Stop> {
+    let kind = kind_of(found.alloc, kind)?;
+    let outcome = outcome_of(found.alloc, text)?;
+    Ok(put_fate(found, &outcome.fate(packet, &kind))?)
+}
+
+/// Adds whether the condition of a text holds at what a rule sees of the packet.
+fn put_holds(found: &mut Found, view: &[u8], text: &[u8], packet: &Packet) -> Result<(), Stop> {
+    let holds = judge_holds(found.alloc, view, text, packet)?;
+    Ok(found.put_answer(holds)?)
+}
+
 /// Adds what is asked of a packet.
 fn put_asked(found: &mut Found, asks: Asks, call: &Call, packet: &Packet) -> Result<(), Stop> {
-    let alloc = found.alloc;
     match asks {
         Asks::Class => put_class(found, call.text, packet),
-        Asks::Leave => Ok(put_fate(found, &ends_of(alloc, call.text)?.apply(packet))?),
-        Asks::Apply => put_applied(found, outcome_of(alloc, call.text)?, packet),
-        Asks::Fate => {
-            let kind = kind_of(alloc, call.with)?;
-            let fate = outcome_of(alloc, call.text)?.fate(packet, &kind);
-            Ok(put_fate(found, &fate)?)
-        }
-        Asks::Holds => {
-            let holds = judge_holds(alloc, call.with, call.text, packet)?;
-            Ok(found.put_answer(holds)?)
-        }
+        Asks::Leave => put_leaving(found, call.text, packet),
+        Asks::Apply => put_applied(found, outcome_of(found.alloc, call.text)?, packet),
+        Asks::Fate => put_fate_of(found, call.with, call.text, packet),
+        Asks::Holds => put_holds(found, call.with, call.text, packet),
     }
 }
 

@@ -11,25 +11,31 @@ use fws_net::{
 };
 use fws_num::{Memory, Word, read_prefix, value_named, words};
 
-/// What a call reads.
+/// What is read of a text.
 #[derive(Clone, Copy)]
 enum Reads {
-    PortRange,
-    Ports,
     Addresses,
     AddressRange,
     Prefix,
     First,
 }
 
+/// What a call asks; of ports it is given a byte besides.
+#[derive(Clone, Copy)]
+enum Asks {
+    PortRange,
+    Ports,
+    Read(Reads),
+}
+
 /// The names of calls.
-const CALLS: [(&[u8], Reads); 6] = [
-    (b"port-range", Reads::PortRange),
-    (b"ports", Reads::Ports),
-    (b"addresses", Reads::Addresses),
-    (b"address-range", Reads::AddressRange),
-    (b"prefix", Reads::Prefix),
-    (b"first", Reads::First),
+const CALLS: [(&[u8], Asks); 6] = [
+    (b"port-range", Asks::PortRange),
+    (b"ports", Asks::Ports),
+    (b"addresses", Asks::Read(Reads::Addresses)),
+    (b"address-range", Asks::Read(Reads::AddressRange)),
+    (b"prefix", Asks::Read(Reads::Prefix)),
+    (b"first", Asks::Read(Reads::First)),
 ];
 
 /// Adds both ports, or `none`.
@@ -93,19 +99,37 @@ fn put_first(found: &mut Found, words: &[Word]) -> Result<(), Memory> {
     found.put(said)
 }
 
+/// Adds the set of a list of ports with this byte between both ends of a range.
+fn put_listed_ports(found: &mut Found, byte: u8, text: &[u8]) -> Result<(), Memory> {
+    let ports = read_ports(found.alloc, byte, text)?;
+    put_ports(found, ports)
+}
+
+/// Adds the cause of the check that goes first of those that a text names.
+fn put_first_of(found: &mut Found, text: &[u8]) -> Result<(), Memory> {
+    let words = words(found.alloc, text, 1)?;
+    put_first(found, words.as_slice())
+}
+
+/// Adds what is read of a text.
+fn put_read(found: &mut Found, reads: Reads, text: &[u8]) -> Result<(), Memory> {
+    match reads {
+        Reads::Addresses => put_addresses(found, read_addresses_between(text)),
+        Reads::AddressRange => put_addresses(found, read_address_range(text)),
+        Reads::Prefix => put_prefix(found, text),
+        Reads::First => put_first_of(found, text),
+    }
+}
+
 /// Adds what a call gives.
 pub fn call_ranges(found: &mut Found, call: &Call) -> Result<(), Stop> {
     let text = call.text;
-    let Some(reads) = value_named(&CALLS, call.name) else {
-        return Err(Stop::Malformed);
-    };
-    match reads {
-        Reads::PortRange => put_port_range(found, read_port_range(one_byte(call.with)?, text))?,
-        Reads::Ports => put_ports(found, read_ports(found.alloc, one_byte(call.with)?, text)?)?,
-        Reads::Addresses => put_addresses(found, read_addresses_between(text))?,
-        Reads::AddressRange => put_addresses(found, read_address_range(text))?,
-        Reads::Prefix => put_prefix(found, text)?,
-        Reads::First => put_first(found, words(found.alloc, text, 1)?.as_slice())?,
+    match value_named(&CALLS, call.name) {
+        Some(Asks::PortRange) => {
+            Ok(put_port_range(found, read_port_range(one_byte(call.with)?, text))?)
+        }
+        Some(Asks::Ports) => Ok(put_listed_ports(found, one_byte(call.with)?, text)?),
+        Some(Asks::Read(reads)) => Ok(put_read(found, reads, text)?),
+        None => Err(Stop::Malformed),
     }
-    Ok(())
 }

@@ -13,34 +13,52 @@ use fws_net::{
 };
 use fws_num::{Memory, value_named};
 
+/// What is asked of an address.
+#[derive(Clone, Copy)]
+enum OfAddress {
+    Route,
+    Local,
+}
+
+/// What is asked of an entry.
+#[derive(Clone, Copy)]
+enum OfEntry {
+    Routes,
+    Addr,
+    Addrs,
+    Nets,
+}
+
+/// What is asked of a name.
+#[derive(Clone, Copy)]
+enum OfName {
+    Named,
+    Beginning,
+}
+
 /// What is asked of a site.
 #[derive(Clone, Copy)]
 enum Asks {
-    Route,
-    Local,
+    Address(OfAddress),
+    Entry(OfEntry),
+    Name(OfName),
     Exit,
-    RouteSet,
-    LocalSet,
-    FaceAddr,
-    FaceAddrs,
-    FaceNets,
-    Named,
-    Beginning,
+    Locals,
     Tops,
 }
 
 /// The names of calls.
 const CALLS: [(&[u8], Asks); 11] = [
-    (b"route", Asks::Route),
-    (b"local", Asks::Local),
+    (b"route", Asks::Address(OfAddress::Route)),
+    (b"local", Asks::Address(OfAddress::Local)),
     (b"exit", Asks::Exit),
-    (b"route-set", Asks::RouteSet),
-    (b"local-set", Asks::LocalSet),
-    (b"face-addr", Asks::FaceAddr),
-    (b"face-addrs", Asks::FaceAddrs),
-    (b"face-nets", Asks::FaceNets),
-    (b"named", Asks::Named),
-    (b"beginning", Asks::Beginning),
+    (b"route-set", Asks::Entry(OfEntry::Routes)),
+    (b"local-set", Asks::Locals),
+    (b"face-addr", Asks::Entry(OfEntry::Addr)),
+    (b"face-addrs", Asks::Entry(OfEntry::Addrs)),
+    (b"face-nets", Asks::Entry(OfEntry::Nets)),
+    (b"named", Asks::Name(OfName::Named)),
+    (b"beginning", Asks::Name(OfName::Beginning)),
     (b"tops", Asks::Tops),
 ];
 
@@ -97,35 +115,77 @@ fn put_tops(found: &mut Found, site: &Site) -> Result<(), Memory>
     Ok(())
 }
 
+/// Adds what is asked of an address.
+fn put_of_address(found: &mut Found, site: &Site, asks: OfAddress, a: u32) -> Result<(), Memory>
+    requires { IsSound site.now }
+{
+    match asks {
+        OfAddress::Route => found.put_number(u64::from(route(site, a))),
+        OfAddress::Local => found.put_answer(is_local(site, a)),
+    }
+}
+
+/// Adds what is asked of an entry.
+fn put_of_entry(found: &mut Found, site: &Site, asks: OfEntry, entry: u8) -> Result<(), Memory>
+    requires { IsSound site.now }
+{
+    let alloc = found.alloc;
+    match asks {
+        OfEntry::Routes => put_addresses(found, route_set(alloc, site, entry)),
+        OfEntry::Addr => found.put_address(face_addr(site, entry)),
+        OfEntry::Addrs => put_addresses(found, face_addrs(alloc, site, entry)),
+        OfEntry::Nets => put_addresses(found, face_nets(alloc, site, entry)),
+    }
+}
+
+/// Adds what is asked of a name in a system.
+fn put_of_name(
+    found: &mut Found,
+    site: &Site,
+    asks: OfName,
+    system: Lang,
+    name: &[u8],
+) -> Result<(), Memory>
+    requires { IsSound site.now }
+{
+    match asks {
+        OfName::Named => found.put_option(entry_named(site, system, name).map(u64::from)),
+        OfName::Beginning => put_beginning(found, site, system, name),
+    }
+}
+
+/// Adds where a packet to the address of a text leaves that came from an entry.
+fn put_exit_of(found: &mut Found, site: &Site, call: &Call) -> Result<(), Stop>
+    requires { IsSound site.now }
+{
+    let entry = entry_number(call.with)?;
+    let a = address(call.text)?;
+    Ok(put_exit(found, exit_of(site, entry, a))?)
+}
+
+/// Adds the addresses of the site itself.
+fn put_locals(found: &mut Found, site: &Site) -> Result<(), Memory>
+    requires { IsSound site.now }
+{
+    let locals = local_set(found.alloc, site);
+    put_addresses(found, locals)
+}
+
 /// Adds what a call gives.
 pub fn call_saying(found: &mut Found, site: &Site, call: &Call) -> Result<(), Stop>
     requires { IsSound site.now }
 {
-    let alloc = found.alloc;
     let text = call.text;
-    let Some(asks) = value_named(&CALLS, call.name) else {
-        return Err(Stop::Malformed);
-    };
-    match asks {
-        Asks::Route => found.put_number(u64::from(route(site, address(text)?)))?,
-        Asks::Local => found.put_answer(is_local(site, address(text)?))?,
-        Asks::Exit => {
-            put_exit(
-                found,
-                exit_of(site, entry_number(call.with)?, address(text)?),
-            )?;
+    match value_named(&CALLS, call.name) {
+        Some(Asks::Address(asks)) => Ok(put_of_address(found, site, asks, address(text)?)?),
+        Some(Asks::Entry(asks)) => Ok(put_of_entry(found, site, asks, entry_number(text)?)?),
+        Some(Asks::Name(asks)) => {
+            let system = system_named(call.with)?;
+            Ok(put_of_name(found, site, asks, system, text)?)
         }
-        Asks::RouteSet => put_addresses(found, route_set(alloc, site, entry_number(text)?))?,
-        Asks::LocalSet => put_addresses(found, local_set(alloc, site))?,
-        Asks::FaceAddr => found.put_address(face_addr(site, entry_number(text)?))?,
-        Asks::FaceAddrs => put_addresses(found, face_addrs(alloc, site, entry_number(text)?))?,
-        Asks::FaceNets => put_addresses(found, face_nets(alloc, site, entry_number(text)?))?,
-        Asks::Named => {
-            let entry = entry_named(site, system_named(call.with)?, text);
-            found.put_option(entry.map(u64::from))?;
-        }
-        Asks::Beginning => put_beginning(found, site, system_named(call.with)?, text)?,
-        Asks::Tops => put_tops(found, site)?,
+        Some(Asks::Exit) => put_exit_of(found, site, call),
+        Some(Asks::Locals) => Ok(put_locals(found, site)?),
+        Some(Asks::Tops) => Ok(put_tops(found, site)?),
+        None => Err(Stop::Malformed),
     }
-    Ok(())
 }

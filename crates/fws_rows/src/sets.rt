@@ -7,8 +7,8 @@ use crate::calls::Call;
 use crate::found::{Found, Spelling};
 use crate::numbers::number;
 use crate::stop::Stop;
-use fws_iv::{Iv, Ivs, Overlap, cubes, has_number, one, overlap, prefixes};
-use fws_num::{Items, Memory, pieces, split_once, value_named};
+use fws_iv::{Cube, Iv, Ivs, Overlap, cubes, has_number, one, overlap, prefixes};
+use fws_num::{Items, Memory, Text, pieces, split_once, value_named};
 use std::alloc::Global;
 
 /// How a set is made of ranges.
@@ -85,15 +85,22 @@ fn range(text: &[u8]) -> Result<Iv, Stop> {
     })
 }
 
-/// The ranges of a text `lo-hi,lo-hi`.
-fn ranges(alloc: Global, text: &[u8]) -> Result<Items<Iv>, Stop> {
+/// The ranges of pieces.
+fn ranges_of(alloc: Global, pieces: &[Text]) -> Result<Items<Iv>, Stop> {
     let mut ranges = Items::new(alloc);
-    if !text.is_empty() {
-        for piece in pieces(alloc, b',', text)?.as_slice() {
-            ranges.put(range(piece.as_slice())?)?;
-        }
+    for piece in pieces {
+        ranges.put(range(piece.as_slice())?)?;
     }
     Ok(ranges)
+}
+
+/// The ranges of a text `lo-hi,lo-hi`.
+fn ranges(alloc: Global, text: &[u8]) -> Result<Items<Iv>, Stop> {
+    if text.is_empty() {
+        return Ok(Items::new(alloc));
+    }
+    let pieces = pieces(alloc, b',', text)?;
+    ranges_of(alloc, pieces.as_slice())
 }
 
 /// The set and the numbers of a range.
@@ -181,10 +188,15 @@ fn low_members(alloc: Global, set: &Ivs) -> Result<Ivs, Memory>
     set.inter(alloc, &low)
 }
 
+/// The cubes of a set's members below 64.
+fn low_cubes(alloc: Global, set: &Ivs) -> Result<Vec<Cube>, Memory> {
+    let low = low_members(alloc, set)?;
+    cubes(alloc, &low)
+}
+
 /// Adds the cubes of a set's members below 64.
 fn put_cubes(found: &mut Found, set: &Ivs) -> Result<(), Memory> {
-    let low = low_members(found.alloc, set)?;
-    for cube in &cubes(found.alloc, &low)? {
+    for cube in &low_cubes(found.alloc, set)? {
         found.put_cube(cube)?;
     }
     Ok(())
@@ -199,10 +211,15 @@ fn made_of(alloc: Global, made: Made, ranges: &[Iv]) -> Result<Ivs, Stop> {
     }
 }
 
+/// The set that is made of the ranges of a text.
+fn made_of_text(alloc: Global, made: Made, text: &[u8]) -> Result<Ivs, Stop> {
+    let ranges = ranges(alloc, text)?;
+    made_of(alloc, made, ranges.as_slice())
+}
+
 /// Adds the set that is made of the ranges of a text.
 fn put_made(found: &mut Found, made: Made, text: &[u8]) -> Result<(), Stop> {
-    let ranges = ranges(found.alloc, text)?;
-    let set = made_of(found.alloc, made, ranges.as_slice())?;
+    let set = made_of_text(found.alloc, made, text)?;
     Ok(found.put_parts(Spelling::Decimal, set.parts())?)
 }
 

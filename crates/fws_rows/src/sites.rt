@@ -64,15 +64,20 @@ fn changed(alloc: Global, base: &[u8], fields: &[Text]) -> Result<Text, Stop> {
     Ok(edited(alloc, base, edits.as_slice())?)
 }
 
-/// Whether a case `CAUSE LINE|EDIT|..` is so: the base after the edits reads as it says.
-pub fn is_site_so(alloc: Global, base: &[u8], case: &[u8]) -> Result<bool, Stop> {
-    let fields = fields_of(alloc, case)?;
-    let Some((wanted, changes)) = fields.as_slice().split_first() else {
+/// Whether a base after the edits of fields reads as the first of them says.
+fn fields_read_so(alloc: Global, base: &[u8], fields: &[Text]) -> Result<bool, Stop> {
+    let Some((wanted, changes)) = fields.split_first() else {
         return Err(Stop::Malformed);
     };
     let wanted = wanted_of(wanted.as_slice())?;
     let text = changed(alloc, base, changes)?;
     reads_so(alloc, text.as_slice(), wanted)
+}
+
+/// Whether a case `CAUSE LINE|EDIT|..` is so: the base after the edits reads as it says.
+pub fn is_site_so(alloc: Global, base: &[u8], case: &[u8]) -> Result<bool, Stop> {
+    let fields = fields_of(alloc, case)?;
+    fields_read_so(alloc, base, fields.as_slice())
 }
 
 /// The text of the site that a text spells, in the second form.

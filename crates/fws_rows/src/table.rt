@@ -102,16 +102,27 @@ fn put_items(
     Ok(())
 }
 
+/// The ends of the whole range.
+fn whole_range(alloc: Global, site: &Site, field: Field) -> Result<Items<u32>, Memory> {
+    let mut values = Items::new(alloc);
+    put_whole_range(&mut values, site, field)?;
+    Ok(values)
+}
+
+/// The ends of the items of a list.
+fn values_of(alloc: Global, site: &Site, field: Field, items: &[Text]) -> Result<Items<u32>, Stop> {
+    let mut values = Items::new(alloc);
+    put_items(&mut values, site, field, items)?;
+    Ok(values)
+}
+
 /// The ends of the intervals that a word has.
 fn read_values(alloc: Global, site: &Site, field: Field, word: &Word) -> Result<Items<u32>, Stop> {
-    let items = pieces(alloc, b',', word.text.as_slice())?;
-    let mut values = Items::new(alloc);
     if word.is(b"*") {
-        put_whole_range(&mut values, site, field)?;
-    } else {
-        put_items(&mut values, site, field, items.as_slice())?;
+        return Ok(whole_range(alloc, site, field)?);
     }
-    Ok(values)
+    let items = pieces(alloc, b',', word.text.as_slice())?;
+    values_of(alloc, site, field, items.as_slice())
 }
 
 /// The end of a network `A/n`, of a length from 1.
@@ -226,10 +237,9 @@ fn read_rows(
     Ok(rows)
 }
 
-/// The table of a text.
-pub fn read_table(alloc: Global, site: &Site, text: &[u8]) -> Result<Table, Stop> {
-    let lines = read_lines(alloc, Comments::HashLine, text)?;
-    let Some((head, body)) = lines.lines.as_slice().split_first() else {
+/// The table of lines.
+fn table_of(alloc: Global, site: &Site, lines: &[Line]) -> Result<Table, Stop> {
+    let Some((head, body)) = lines.split_first() else {
         return Err(Stop::Malformed);
     };
     let (est, promised) = read_head(head)?;
@@ -239,4 +249,10 @@ pub fn read_table(alloc: Global, site: &Site, text: &[u8]) -> Result<Table, Stop
         promised,
         rows,
     })
+}
+
+/// The table of a text.
+pub fn read_table(alloc: Global, site: &Site, text: &[u8]) -> Result<Table, Stop> {
+    let lines = read_lines(alloc, Comments::HashLine, text)?;
+    table_of(alloc, site, lines.lines.as_slice())
 }

@@ -1,6 +1,6 @@
 //! Traces by the slow model and by tables.
 
-ghost use Rattle.std.specs.Prelude.{◌≡◌};
+ghost use Rattle.std.specs.Prelude.{◌≡◌, IfOk};
 ghost use Rattle.fws_net.specs.Points.{tops_of};
 ghost use Rattle.fws_net.specs.Routes.{IsSound};
 
@@ -95,20 +95,65 @@ fn judge_listed(
     }
 }
 
-/// Walks packets against connections, and says whether the trace is the expected one.
-pub fn judge_trace(alloc: Global, site: &Site, forms: &Forms, traced: &Traced) -> Result<Text, Stop>
+/// Walks packets against these connections, and says whether the trace is the expected one.
+fn judge_tracked(
+    alloc: Global,
+    site: &Site,
+    forms: &Forms,
+    connections: &[Conn],
+    traced: &Traced,
+) -> Result<Text, Stop>
     requires { IsSound site.now }
 {
-    let connections = read_conns(alloc, traced.connections)?;
     let packets = read_packets(alloc, traced.packets, site)?;
     Ok(judge_listed(
         alloc,
         site,
         forms,
-        connections.as_slice(),
+        connections,
         packets.as_slice(),
         traced.expected,
     )?)
+}
+
+/// Walks packets against connections, and says whether the trace is the expected one.
+pub fn judge_trace(alloc: Global, site: &Site, forms: &Forms, traced: &Traced) -> Result<Text, Stop>
+    requires { IsSound site.now }
+{
+    let connections = read_conns(alloc, traced.connections)?;
+    judge_tracked(alloc, site, forms, connections.as_slice(), traced)
+}
+
+/// Looks the packets of a text up in the trees of tables against connections, and gives their trace.
+fn trace_of(
+    alloc: Global,
+    site: &Site,
+    tables: &Tables,
+    connections: &[Conn],
+    packets: &[u8],
+) -> Result<Text, Stop>
+    requires sound { IsSound site.now }
+    requires fresh { tables.now.fresh.0 ≡ tops_of site.now }
+    requires est { tables.now.est.0 ≡ tops_of site.now }
+{
+    let packets = read_packets(alloc, packets, site)?;
+    Ok(trace(alloc, site, tables, connections, packets.as_slice())?)
+}
+
+/// Looks packets up in the trees of tables against these connections, and says whether the trace is the expected one.
+fn judge_listed_found(
+    alloc: Global,
+    site: &Site,
+    tables: &Tables,
+    connections: &[Conn],
+    traced: &Traced,
+) -> Result<Text, Stop>
+    requires sound { IsSound site.now }
+    requires fresh { tables.now.fresh.0 ≡ tops_of site.now }
+    requires est { tables.now.est.0 ≡ tops_of site.now }
+{
+    let found = trace_of(alloc, site, tables, connections, traced.packets)?;
+    Ok(verdict(alloc, found.as_slice() == traced.expected)?)
 }
 
 /// Looks packets up in the trees of tables, and says whether the trace is the expected one.
@@ -118,15 +163,18 @@ fn judge_found(alloc: Global, site: &Site, tables: &Tables, traced: &Traced) -> 
     requires est { tables.now.est.0 ≡ tops_of site.now }
 {
     let connections = read_conns(alloc, traced.connections)?;
-    let packets = read_packets(alloc, traced.packets, site)?;
-    let found = trace(
-        alloc,
-        site,
-        tables,
-        connections.as_slice(),
-        packets.as_slice(),
-    )?;
-    Ok(verdict(alloc, found.as_slice() == traced.expected)?)
+    judge_listed_found(alloc, site, tables, connections.as_slice(), traced)
+}
+
+/// The trees of the texts of two tables.
+fn read_tables(alloc: Global, site: &Site, fresh: &[u8], est: &[u8]) -> Result<Tables, Stop>
+    requires { IsSound site.now }
+    ensures fresh { IfOk result (λ t. t.fresh.0 ≡ tops_of site.now) }
+    ensures est { IfOk result (λ t. t.est.0 ≡ tops_of site.now) }
+{
+    let fresh = read_tree(alloc, site, State::Fresh, fresh)?;
+    let est = read_tree(alloc, site, State::Est, est)?;
+    Ok(Tables { fresh, est })
 }
 
 /// Looks the packets of a text up in the trees of two tables, and says whether the trace is the expected one.
@@ -139,7 +187,6 @@ pub fn judge_looked_up(
 ) -> Result<Text, Stop>
     requires { IsSound site.now }
 {
-    let fresh = read_tree(alloc, site, State::Fresh, fresh)?;
-    let est = read_tree(alloc, site, State::Est, est)?;
-    judge_found(alloc, site, &Tables { fresh, est }, traced)
+    let tables = read_tables(alloc, site, fresh, est)?;
+    judge_found(alloc, site, &tables, traced)
 }

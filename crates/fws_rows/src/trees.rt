@@ -53,6 +53,22 @@ fn read_side(alloc: Global, site: &Site, field: Field, top: u32, word: &Word) ->
     set_of(alloc, site, field, items.as_slice())
 }
 
+/// Sets the sides of the fields that these words show.
+fn set_sides(
+    alloc: Global,
+    site: &Site,
+    sides: &mut [Ivs; 12],
+    tops: &[u32; 12],
+    words: &[Word],
+) -> Result<(), Stop> {
+    for place in 0..12 {
+        if let Some(word) = words.get(place) {
+            sides[place] = read_side(alloc, site, field_at(place), tops[place], word)?;
+        }
+    }
+    Ok(())
+}
+
 /// The sides of these words; those of fields that the words don't show are whole.
 fn read_sides(
     alloc: Global,
@@ -61,11 +77,7 @@ fn read_sides(
     words: &[Word],
 ) -> Result<[Ivs; 12], Stop> {
     let mut sides = whole_sides(alloc, tops)?;
-    for place in 0..12 {
-        if let Some(word) = words.get(place) {
-            sides[place] = read_side(alloc, site, field_at(place), tops[place], word)?;
-        }
-    }
+    set_sides(alloc, site, &mut sides, tops, words)?;
     Ok(sides)
 }
 
@@ -114,6 +126,21 @@ fn read_rows(
     Ok(rows)
 }
 
+/// The rows of a text that has a first line of its own and then a row on each line.
+fn rows_of(
+    alloc: Global,
+    site: &Site,
+    tops: &[u32; 12],
+    state: State,
+    text: &[u8],
+) -> Result<Items<Row<Outcome>>, Stop> {
+    let lines = read_lines(alloc, Comments::HashLine, text)?;
+    match lines.lines.as_slice() {
+        [_, body @ ..] => read_rows(alloc, site, tops, state, body),
+        [] => Ok(Items::new(alloc)),
+    }
+}
+
 /// The tree of a text that has a first line of its own and then a row on each line.
 pub fn read_tree(
     alloc: Global,
@@ -125,10 +152,6 @@ pub fn read_tree(
     ensures { IfOk result (λ t. t.0 ≡ tops_of site.now) }
 {
     let tops = tops(site);
-    let lines = read_lines(alloc, Comments::HashLine, text)?;
-    let rows = match lines.lines.as_slice() {
-        [_, body @ ..] => read_rows(alloc, site, &tops, state, body)?,
-        [] => Items::new(alloc),
-    };
+    let rows = rows_of(alloc, site, &tops, state, text)?;
     Ok(from_rows(alloc, &tops, rows.as_slice(), Outcome::Drop)?)
 }

@@ -116,16 +116,23 @@ fn config_agrees(
     diagram_agrees(alloc, site, &diagram, counted)
 }
 
+/// The same of the configuration of a text.
+fn text_agrees(alloc: Global, site: &Site, text: &[u8], counted: &Counted) -> Result<bool, Memory>
+    requires { IsSound site.now }
+{
+    match read(alloc, text, site) {
+        Ok(config) => config_agrees(alloc, site, &config, counted),
+        Err(ReadAnswer::Memory) => Err(Memory),
+        Err(ReadAnswer::Refused { .. }) => Ok(false),
+    }
+}
+
 /// Whether the tree of so many rules has as many nodes and paths as were counted.
 fn agrees(alloc: Global, site: &Site, counted: &Counted) -> Result<bool, Memory>
     requires { IsSound site.now }
 {
     let text = rules_text(alloc, counted.rules)?;
-    match read(alloc, text.as_slice(), site) {
-        Ok(config) => config_agrees(alloc, site, &config, counted),
-        Err(ReadAnswer::Memory) => Err(Memory),
-        Err(ReadAnswer::Refused { .. }) => Ok(false),
-    }
+    text_agrees(alloc, site, text.as_slice(), counted)
 }
 
 /// Tries the trees of lists of rules at a site.

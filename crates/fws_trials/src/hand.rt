@@ -6,7 +6,7 @@ use crate::tally::Tally;
 use fws_box::{Point, whole_sides};
 use fws_iv::{Ivs, one};
 use fws_num::Memory;
-use fws_tree::{Row, from_rows};
+use fws_tree::{Row, Tree, from_rows};
 use std::alloc::Global;
 
 /// A row over two fields: from the first to the last value of each, none where the last is less; and a letter.
@@ -254,17 +254,28 @@ fn side_of(alloc: Global, ends: (u32, u32)) -> Result<Ivs, Memory> {
     one(alloc, ends.0, ends.1)
 }
 
+/// Sets the sides of both fields.
+fn set_sides(alloc: Global, sides: &mut [Ivs; 12], drawn: &Drawn) -> Result<(), Memory> {
+    sides[4] = side_of(alloc, drawn.x)?;
+    sides[5] = side_of(alloc, drawn.y)?;
+    Ok(())
+}
+
+/// A row over two fields as a row over all.
+fn row_of(alloc: Global, drawn: &Drawn) -> Result<Row<Tag>, Memory> {
+    let mut sides = whole_sides(alloc, &TOPS)?;
+    set_sides(alloc, &mut sides, drawn)?;
+    Ok(Row {
+        sides,
+        leaf: leaf_of(drawn.letter),
+    })
+}
+
 /// The rows of a case.
 fn rows_of(alloc: Global, drawn: &[Drawn]) -> Result<Vec<Row<Tag>>, Memory> {
     let mut rows = Vec::new(alloc);
     for row in drawn {
-        let mut sides = whole_sides(alloc, &TOPS)?;
-        sides[4] = side_of(alloc, row.x)?;
-        sides[5] = side_of(alloc, row.y)?;
-        rows.push(Row {
-            sides,
-            leaf: leaf_of(row.letter),
-        })?;
+        rows.push(row_of(alloc, row)?)?;
     }
     Ok(rows)
 }
@@ -280,16 +291,37 @@ fn leaves_of(alloc: Global, letters: &[u8]) -> Result<Vec<Tag>, Memory> {
     Ok(leaves)
 }
 
+/// Whether a tree has so many paths.
+fn has_paths(alloc: Global, tree: &Tree<Tag>, count: usize) -> Result<bool, Memory> {
+    let paths = tree.paths(alloc)?;
+    Ok(paths.len() == count)
+}
+
+/// Whether a tree has the leaves of letters.
+fn has_letters(alloc: Global, tree: &Tree<Tag>, letters: &[u8]) -> Result<bool, Memory> {
+    let leaves = leaves_of(alloc, letters)?;
+    Ok(has_values(tree, &TOPS, leaves.as_slice()))
+}
+
+/// Whether a tree is as that of the case was worked out.
+fn is_as_worked_out(alloc: Global, tree: &Tree<Tag>, case: &Case) -> Result<bool, Memory> {
+    Ok(
+        has_letters(alloc, tree, case.letters)?
+            && tree.nodes() == case.nodes
+            && has_paths(alloc, tree, case.paths)?,
+    )
+}
+
+/// Whether the tree of rows is as that of the case was worked out.
+fn agrees_by(alloc: Global, rows: &[Row<Tag>], case: &Case) -> Result<bool, Memory> {
+    let tree = from_rows(alloc, &TOPS, rows, leaf_of(b'.'))?;
+    is_as_worked_out(alloc, &tree, case)
+}
+
 /// Whether the tree of a case is as it was worked out.
 fn agrees(alloc: Global, case: &Case) -> Result<bool, Memory> {
     let rows = rows_of(alloc, case.rows)?;
-    let tree = from_rows(alloc, &TOPS, rows.as_slice(), leaf_of(b'.'))?;
-    let leaves = leaves_of(alloc, case.letters)?;
-    Ok(
-        has_values(&tree, &TOPS, leaves.as_slice())
-            && tree.nodes() == case.nodes
-            && tree.paths(alloc)?.len() == case.paths,
-    )
+    agrees_by(alloc, rows.as_slice(), case)
 }
 
 /// Tries the trees.

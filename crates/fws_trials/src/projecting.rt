@@ -2,7 +2,7 @@
 
 use crate::agreeing::has_values;
 use crate::changes::wanted_values;
-use crate::leaves::tag;
+use crate::leaves::{Tag, tag};
 use crate::points::{count_points, number_of, point_at};
 use crate::trial::Given;
 use fws_box::Point;
@@ -64,6 +64,18 @@ fn somewhere(
     marked(alloc, tops, found.as_slice(), fields)
 }
 
+/// Whether a tree is true where a value is somewhere in the fields.
+fn is_somewhere(
+    alloc: Global,
+    tops: &Point,
+    tree: &Tree<bool>,
+    values: &[bool],
+    fields: u16,
+) -> Result<bool, Memory> {
+    let wanted = somewhere(alloc, tops, values, fields)?;
+    Ok(has_values(tree, tops, wanted.as_slice()))
+}
+
 /// Whether the tree of these values is true somewhere in the fields where a value is.
 fn agrees_in(
     alloc: Global,
@@ -73,8 +85,7 @@ fn agrees_in(
     fields: u16,
 ) -> Result<bool, Memory> {
     let tree = tree.exists(alloc, fields)?;
-    let wanted = somewhere(alloc, tops, values, fields)?;
-    Ok(has_values(&tree, tops, wanted.as_slice()))
+    is_somewhere(alloc, tops, &tree, values, fields)
 }
 
 /// Whether a tree is true somewhere in no field, in all, in these and in the others where it should be.
@@ -93,11 +104,22 @@ fn agrees_everywhere(
     Ok(true)
 }
 
+/// Whether the tree of where the value is the wanted one is true somewhere in each of these sets of fields where it should
+/// be.
+fn selected_agrees(
+    alloc: Global,
+    given: &Given,
+    tree: &Tree<bool>,
+    wanted: &Tag,
+) -> Result<bool, Memory> {
+    let values = wanted_values(alloc, given.values, wanted)?;
+    let trial = given.trial;
+    agrees_everywhere(alloc, &trial.tops, tree, values.as_slice(), trial.fields)
+}
+
 /// Whether a tree is true somewhere in no field, in all, in those of the trial and in the others where it should be.
 pub fn exists_agrees(alloc: Global, given: &Given) -> Result<bool, Memory> {
     let wanted = tag(1);
     let tree = given.tree.select(alloc, &wanted)?;
-    let values = wanted_values(alloc, given.values, &wanted)?;
-    let trial = given.trial;
-    agrees_everywhere(alloc, &trial.tops, &tree, values.as_slice(), trial.fields)
+    selected_agrees(alloc, given, &tree, &wanted)
 }

@@ -28,17 +28,41 @@ pub struct Recolouring {
     pub wanted: u64,
 }
 
+/// The points of these sides within the tops, with a label.
+fn label_within(
+    alloc: Global,
+    random: &mut Random,
+    tops: &Point,
+    drawn: &[Ivs; 12],
+) -> Result<Labelled, Memory> {
+    let whole = whole_sides(alloc, tops)?;
+    let sides = meet_sides(alloc, drawn, &whole)?;
+    Ok(Labelled {
+        sides,
+        label: 1 + random.below(3),
+    })
+}
+
+/// A box within the tops, with a label.
+fn draw_labelled(alloc: Global, random: &mut Random, tops: &Point) -> Result<Labelled, Memory> {
+    let drawn = draw_sides(alloc, random, tops)?;
+    label_within(alloc, random, tops, &drawn)
+}
+
+/// Up to three boxes within the tops, with labels.
+fn draw_boxes(alloc: Global, random: &mut Random, tops: &Point) -> Result<Vec<Labelled>, Memory> {
+    let mut boxes = Vec::new(alloc);
+    let count = random.below(4);
+    for _ in 0..count {
+        boxes.push(draw_labelled(alloc, random, tops)?)?;
+    }
+    Ok(boxes)
+}
+
 impl Recolouring {
     /// Up to three boxes within the tops, with labels.
     pub fn draw(alloc: Global, random: &mut Random, tops: &Point) -> Result<Recolouring, Memory> {
-        let mut boxes = Vec::new(alloc);
-        let count = random.below(4);
-        for _ in 0..count {
-            let drawn = draw_sides(alloc, random, tops)?;
-            let sides = meet_sides(alloc, &drawn, &whole_sides(alloc, tops)?)?;
-            let label = 1 + random.below(3);
-            boxes.push(Labelled { sides, label })?;
-        }
+        let boxes = draw_boxes(alloc, random, tops)?;
         let rest = random.below(5).saturating_sub(2);
         let wanted = u64::from(random.below(8));
         Ok(Recolouring {

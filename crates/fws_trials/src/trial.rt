@@ -129,13 +129,19 @@ pub struct Trial {
     pub fields: u16,
 }
 
+/// Rows, and other rows.
+fn draw_both(alloc: Global, random: &mut Random, tops: &Point) -> Result<(Rows, Rows), Memory> {
+    let rows = Rows::draw(alloc, random, tops)?;
+    let others = Rows::draw(alloc, random, tops)?;
+    Ok((rows, others))
+}
+
 impl Trial {
     /// What this seed gives.
     pub fn new(alloc: Global, seed: u64) -> Result<Trial, Memory> {
         let mut random = Random::new(seed);
         let tops = draw_tops(&mut random);
-        let rows = Rows::draw(alloc, &mut random, &tops)?;
-        let others = Rows::draw(alloc, &mut random, &tops)?;
+        let (rows, others) = draw_both(alloc, &mut random, &tops)?;
         let sides = draw_sides(alloc, &mut random, &tops)?;
         let fields = random.below(4096) as u16;
         Ok(Trial {
@@ -178,16 +184,23 @@ fn agrees_at(alloc: Global, group: Group, given: &Given) -> Result<bool, Memory>
     }
 }
 
-/// Whether what is tried agrees at a trial.
-fn agrees_in(alloc: Global, group: Group, trial: &Trial) -> Result<bool, Memory> {
-    let tree = trial.rows.tree(alloc, &trial.tops)?;
+/// Whether what is tried agrees at a trial with this tree of its rows.
+fn agrees_with(alloc: Global, group: Group, trial: &Trial, tree: &Tree<Tag>) -> Result<bool, Memory>
+    requires { tree.now.0 ≡ trial.now.tops }
+{
     let values = trial.rows.values(alloc, &trial.tops)?;
     let given = Given {
         trial,
-        tree: &tree,
+        tree,
         values: values.as_slice(),
     };
     agrees_at(alloc, group, &given)
+}
+
+/// Whether what is tried agrees at a trial.
+fn agrees_in(alloc: Global, group: Group, trial: &Trial) -> Result<bool, Memory> {
+    let tree = trial.rows.tree(alloc, &trial.tops)?;
+    agrees_with(alloc, group, trial, &tree)
 }
 
 /// Whether what is tried agrees at what a seed gives.

@@ -75,6 +75,14 @@ fn put_line(alloc: Global, site: &Site, flat: &mut Flat, line: &Line) -> Result<
     put_instruction(alloc, site, &mut flat.code, place, words)
 }
 
+/// Adds what lines say of the code.
+fn put_lines(alloc: Global, site: &Site, flat: &mut Flat, lines: &[Line]) -> Result<(), Stop> {
+    for line in lines {
+        put_line(alloc, site, flat, line)?;
+    }
+    Ok(())
+}
+
 /// The code of these lines.
 pub fn code_of(alloc: Global, site: &Site, lines: &[Line]) -> Result<Flat, Stop> {
     let mut flat = Flat {
@@ -84,8 +92,6 @@ pub fn code_of(alloc: Global, site: &Site, lines: &[Line]) -> Result<Flat, Stop>
         forward: Items::new(alloc),
         send: Items::new(alloc),
     };
-    for line in lines {
-        put_line(alloc, site, &mut flat, line)?;
-    }
+    put_lines(alloc, site, &mut flat, lines)?;
     Ok(flat)
 }

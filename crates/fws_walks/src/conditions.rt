@@ -4,7 +4,7 @@ use crate::stop::Stop;
 use crate::words::{byte, decimal, number};
 use fws_iv::Ivs;
 use fws_net::{Cond, Lit, Site, Test};
-use fws_num::{Word, pieces, split_once, value_named};
+use fws_num::{Text, Word, pieces, split_once, value_named};
 use std::alloc::Global;
 
 /// What has its value in a set.
@@ -63,15 +63,22 @@ fn with_piece(alloc: Global, site: &Site, set: &Ivs, piece: &[u8]) -> Result<Ivs
     Ok(set.with_range(alloc, lo, hi)?)
 }
 
-/// The numbers of a text `lo-hi,v,..`; those of an empty one are none.
-fn set_of(alloc: Global, site: &Site, text: &[u8]) -> Result<Ivs, Stop> {
+/// The numbers of pieces.
+fn united(alloc: Global, site: &Site, pieces: &[Text]) -> Result<Ivs, Stop> {
     let mut set = Ivs::none(alloc);
-    if !text.is_empty() {
-        for piece in pieces(alloc, b',', text)?.as_slice() {
-            set = with_piece(alloc, site, &set, piece.as_slice())?;
-        }
+    for piece in pieces {
+        set = with_piece(alloc, site, &set, piece.as_slice())?;
     }
     Ok(set)
+}
+
+/// The numbers of a text `lo-hi,v,..`; those of an empty one are none.
+fn set_of(alloc: Global, site: &Site, text: &[u8]) -> Result<Ivs, Stop> {
+    if text.is_empty() {
+        return Ok(Ivs::none(alloc));
+    }
+    let pieces = pieces(alloc, b',', text)?;
+    united(alloc, site, pieces.as_slice())
 }
 
 /// The test that the value lies in a set.

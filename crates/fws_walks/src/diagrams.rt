@@ -77,6 +77,18 @@ fn rung_rules(
     }
 }
 
+/// The rules of the chain of a ladder with this number, which calls the next so often.
+fn rules_of_rung(
+    alloc: Global,
+    scope: &Scope,
+    name: &Word,
+    number: u32,
+    times: u32,
+) -> Result<Items<Rule>, Memory> {
+    let next = rung_name(alloc, name, number.saturating_add(1))?;
+    rung_rules(alloc, scope, &next, times)
+}
+
 /// The chain of a ladder with this number, which calls the next so often.
 fn rung(
     alloc: Global,
@@ -85,8 +97,7 @@ fn rung(
     number: u32,
     times: u32,
 ) -> Result<Chain, Memory> {
-    let next = rung_name(alloc, name, number.saturating_add(1))?;
-    let rules = rung_rules(alloc, scope, &next, times)?;
+    let rules = rules_of_rung(alloc, scope, name, number, times)?;
     Ok(Chain {
         name: rung_name(alloc, name, number)?,
         rules,
@@ -108,6 +119,15 @@ fn put_ladder(
     Ok(())
 }
 
+/// The chain of this name with the rules of these words.
+fn chain_of(alloc: Global, scope: &Scope, name: &Word, rules: &[Word]) -> Result<Chain, Stop> {
+    let rules = rules_of(alloc, scope, rules)?;
+    Ok(Chain {
+        name: name.text.copy(alloc)?,
+        rules,
+    })
+}
+
 /// Adds a chain of this name with the rules of these words.
 fn put_chain(
     alloc: Global,
@@ -116,11 +136,7 @@ fn put_chain(
     name: &Word,
     rules: &[Word],
 ) -> Result<(), Stop> {
-    let rules = rules_of(alloc, scope, rules)?;
-    chains.put(Chain {
-        name: name.text.copy(alloc)?,
-        rules,
-    })?;
+    chains.put(chain_of(alloc, scope, name, rules)?)?;
     Ok(())
 }
 
@@ -170,6 +186,14 @@ fn put_line(alloc: Global, scope: &Scope, diagram: &mut Ifcl, line: &Line) -> Re
     }
 }
 
+/// Adds what lines say of the diagram.
+fn put_lines(alloc: Global, scope: &Scope, diagram: &mut Ifcl, lines: &[Line]) -> Result<(), Stop> {
+    for line in lines {
+        put_line(alloc, scope, diagram, line)?;
+    }
+    Ok(())
+}
+
 /// The diagram of these lines, whose chains have these names.
 pub fn diagram_of(
     alloc: Global,
@@ -188,8 +212,6 @@ pub fn diagram_of(
         forward: Items::new(alloc),
         send: Items::new(alloc),
     };
-    for line in lines {
-        put_line(alloc, &scope, &mut diagram, line)?;
-    }
+    put_lines(alloc, &scope, &mut diagram, lines)?;
     Ok(diagram)
 }

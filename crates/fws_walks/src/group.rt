@@ -116,6 +116,41 @@ fn put_tally(said: &mut Text, kind: Kind, name: &Text, tally: &Tally) -> Result<
     }
 }
 
+/// Tries the cases of lines in a scene, and adds what it found.
+fn judge_scene(
+    alloc: Global,
+    said: &mut Text,
+    kind: Kind,
+    scene: &Scene,
+    name: &Text,
+    lines: &[Line],
+) -> Result<(), Stop>
+    requires { IsSound scene.now.site.now }
+{
+    let mut tally = Tally::new(alloc);
+    judge_cases(alloc, scene, kind, &mut tally, lines)?;
+    Ok(put_tally(said, kind, name, &tally)?)
+}
+
+/// Tries the cases of lines on a site, and adds what it found.
+fn judge_lines(
+    alloc: Global,
+    said: &mut Text,
+    kind: Kind,
+    site: &Site,
+    name: &Text,
+    lines: &[Line],
+) -> Result<(), Stop>
+    requires { IsSound site.now }
+{
+    let packets = packets_of(alloc, site, lines)?;
+    let scene = Scene {
+        site,
+        packets: packets.as_slice(),
+    };
+    judge_scene(alloc, said, kind, &scene, name, lines)
+}
+
 /// Tries the cases of a text on a site, and adds what it found.
 fn judge_group(
     alloc: Global,
@@ -128,15 +163,7 @@ fn judge_group(
     requires { IsSound site.now }
 {
     let read = read_lines(alloc, Comments::HashLine, cases)?;
-    let lines = read.lines.as_slice();
-    let packets = packets_of(alloc, site, lines)?;
-    let scene = Scene {
-        site,
-        packets: packets.as_slice(),
-    };
-    let mut tally = Tally::new(alloc);
-    judge_cases(alloc, &scene, kind, &mut tally, lines)?;
-    Ok(put_tally(said, kind, name, &tally)?)
+    judge_lines(alloc, said, kind, site, name, read.lines.as_slice())
 }
 
 /// Tries the cases of this kind of a text on the site of another, and adds what it found.

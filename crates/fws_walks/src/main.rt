@@ -51,6 +51,19 @@ fn read<S: Shelf>(alloc: Global, shelf: &mut S, name: &Text) -> Result<Text, Sto
     Ok(shelf.read(alloc, name.as_slice(), LIMIT)?)
 }
 
+/// Tries a group on the site of a text, and adds what it found.
+fn put_group_at<S: Shelf>(
+    alloc: Global,
+    shelf: &mut S,
+    said: &mut Text,
+    kind: &[u8],
+    site: &[u8],
+    group: &Text,
+) -> Result<(), Stop> {
+    let cases = read(alloc, shelf, group)?;
+    judge_texts(alloc, said, kind, site, group, cases.as_slice())
+}
+
 /// Tries a group on a site, and adds what it found.
 fn put_group<S: Shelf>(
     alloc: Global,
@@ -62,15 +75,7 @@ fn put_group<S: Shelf>(
         return Err(Stop::Malformed);
     };
     let site = read(alloc, shelf, site)?;
-    let cases = read(alloc, shelf, group)?;
-    judge_texts(
-        alloc,
-        said,
-        kind.as_slice(),
-        site.as_slice(),
-        group,
-        cases.as_slice(),
-    )
+    put_group_at(alloc, shelf, said, kind.as_slice(), site.as_slice(), group)
 }
 
 /// Tries the groups of the words, three words for each, and says what was found.
@@ -82,10 +87,15 @@ fn try_groups<S: Shelf>(alloc: Global, shelf: &mut S, words: &[Text]) -> Result<
     Ok(said)
 }
 
+/// Tries the groups of the command line, and says what was found.
+fn said_of<R: Env + Files + AllocGlobal>(rt: &R) -> Result<Text, Stop> {
+    let words = take_words(rt)?;
+    try_groups(rt.alloc(), &mut StdShelf::new(rt), words.as_slice())
+}
+
 /// Tries the groups of the command line, and writes what was found.
 fn walk_all<R: Env + Files + Print + AllocGlobal>(rt: &R) -> Result<(), Stop> {
-    let words = take_words(rt)?;
-    let said = try_groups(rt.alloc(), &mut StdShelf::new(rt), words.as_slice())?;
+    let said = said_of(rt)?;
     match write_all(&mut StdSink::new(rt), said.as_slice()) {
         Ok(()) => Ok(()),
         Err(_) => Err(Stop::Unread),

@@ -7,7 +7,7 @@ ghost use Rattle.fws_net.specs.Routes.{IsSound};
 
 use crate::cases::{Compared, Scene, Tally, Walk};
 use crate::codes::code_of;
-use crate::points::{ends_of, holds_point, kind_at, packet_at, point_of, state_of};
+use crate::points::{Ends, ends_of, holds_point, kind_at, packet_at, point_of, state_of};
 use crate::stop::Stop;
 use fws_box::Point;
 use fws_exec::execute;
@@ -31,6 +31,35 @@ fn walk_at(
     Ok(walk_packet(alloc, flat, site, &packet_at(point), &kind_at(state, point))?)
 }
 
+/// Walks the points at the ends of the intervals of a row with this outcome.
+fn compare_ends(
+    alloc: Global,
+    site: &Site,
+    flat: &Flat,
+    state: State,
+    outcome: Outcome,
+    ends: &Ends,
+) -> Result<Compared, Stop>
+    requires { IsSound site.now }
+{
+    let mut compared = Compared {
+        row: 0,
+        points: ends.count(),
+        differing: 0,
+        first: [0; 12],
+    };
+    for index in 0..ends.count() {
+        let point = ends.point_at(index);
+        if walk_at(alloc, site, flat, state, &point)? != outcome {
+            if compared.differing == 0 {
+                compared.first = point;
+            }
+            compared.differing = compared.differing.saturating_add(1);
+        }
+    }
+    Ok(compared)
+}
+
 /// Walks the points at the ends of a row.
 fn compare(
     alloc: Global,
@@ -42,22 +71,7 @@ fn compare(
     requires { IsSound site.now }
 {
     let ends = ends_of(alloc, state, row)?;
-    let mut compared = Compared {
-        row: 0,
-        points: ends.count(),
-        differing: 0,
-        first: [0; 12],
-    };
-    for index in 0..ends.count() {
-        let point = ends.point_at(index);
-        if walk_at(alloc, site, flat, state, &point)? != row.leaf {
-            if compared.differing == 0 {
-                compared.first = point;
-            }
-            compared.differing = compared.differing.saturating_add(1);
-        }
-    }
-    Ok(compared)
+    compare_ends(alloc, site, flat, state, row.leaf, &ends)
 }
 
 /// Walks the points at the ends of the rows of a state.
@@ -165,6 +179,23 @@ fn judge_lines(
     Ok(())
 }
 
+/// Tries the rows of a state and what the lines say of its packets.
+fn judge_executed(
+    alloc: Global,
+    scene: &Scene,
+    flat: &Flat,
+    state: State,
+    rows: &[Row<Outcome>],
+    tally: &mut Tally,
+    head: &Line,
+    lines: &[Line],
+) -> Result<(), Stop>
+    requires { IsSound scene.now.site.now }
+{
+    judge_lines(alloc, scene, flat, state, rows, tally, head, lines)?;
+    judge_rows(alloc, scene, flat, state, rows, tally, head)
+}
+
 /// Executes a code for packets of the state, and tries its rows and what the lines say.
 fn judge_state(
     alloc: Global,
@@ -179,7 +210,7 @@ fn judge_state(
     requires ok { flat_ok flat.now ≡ true }
 {
     let rows = execute(alloc, flat, scene.site, state)?;
-    judge_lines(
+    judge_executed(
         alloc,
         scene,
         flat,
@@ -188,8 +219,25 @@ fn judge_state(
         tally,
         head,
         lines,
-    )?;
-    judge_rows(alloc, scene, flat, state, rows.as_slice(), tally, head)
+    )
+}
+
+/// Tries what the lines say of a code, for new packets and for established ones.
+fn judge_flat(
+    alloc: Global,
+    scene: &Scene,
+    flat: &Flat,
+    tally: &mut Tally,
+    head: &Line,
+    lines: &[Line],
+) -> Result<(), Stop>
+    requires { IsSound scene.now.site.now }
+{
+    if !flat_ok(flat) {
+        return Err(Stop::Malformed);
+    }
+    judge_state(alloc, scene, flat, State::Fresh, tally, head, lines)?;
+    judge_state(alloc, scene, flat, State::Est, tally, head, lines)
 }
 
 /// Tries a code: the lines behind its first one, `code NAME ..`.
@@ -203,9 +251,5 @@ pub fn judge_code(
     requires { IsSound scene.now.site.now }
 {
     let flat = code_of(alloc, scene.site, lines)?;
-    if !flat_ok(&flat) {
-        return Err(Stop::Malformed);
-    }
-    judge_state(alloc, scene, &flat, State::Fresh, tally, head, lines)?;
-    judge_state(alloc, scene, &flat, State::Est, tally, head, lines)
+    judge_flat(alloc, scene, &flat, tally, head, lines)
 }

@@ -5,7 +5,7 @@ use crate::stop::Stop;
 use crate::words::{decimal, end_of};
 use fws_flat::FlatAct;
 use fws_ifcl::{Act, Rule};
-use fws_net::Site;
+use fws_net::{End, Site};
 use fws_num::{Items, Text, Word, value_named};
 use std::alloc::Global;
 
@@ -18,19 +18,69 @@ pub struct Scope<'a> {
     pub chains: &'a [Text],
 }
 
+/// What an act does with a chain.
+#[derive(Clone, Copy)]
+enum WithChain {
+    Call,
+    Goto,
+}
+
+impl WithChain {
+    /// The act.
+    fn act(self, chain: u32) -> Act {
+        match self {
+            WithChain::Call => Act::Call(chain),
+            WithChain::Goto => Act::Goto(chain),
+        }
+    }
+}
+
+/// What an act does with a number.
+#[derive(Clone, Copy)]
+enum WithNumber {
+    Skip,
+    AddTag,
+    OnlyTag,
+    DelTag,
+}
+
+impl WithNumber {
+    /// The act.
+    fn act(self, n: u32) -> Act {
+        match self {
+            WithNumber::Skip => Act::Skip(n),
+            WithNumber::AddTag => Act::AddTag(n),
+            WithNumber::OnlyTag => Act::OnlyTag(n),
+            WithNumber::DelTag => Act::DelTag(n),
+        }
+    }
+}
+
+/// What an act does with an end.
+#[derive(Clone, Copy)]
+enum WithEnd {
+    Src,
+    Dst,
+}
+
+impl WithEnd {
+    /// The act.
+    fn act(self, end: End) -> Act {
+        match self {
+            WithEnd::Src => Act::Src(end),
+            WithEnd::Dst => Act::Dst(end),
+        }
+    }
+}
+
 /// What an act does, and what its value is.
 #[derive(Clone, Copy)]
 enum Does {
     /// It has no value.
     Plain(Act),
-    Call,
-    Goto,
-    Skip,
-    Src,
-    Dst,
-    AddTag,
-    OnlyTag,
-    DelTag,
+    Chain(WithChain),
+    Number(WithNumber),
+    End(WithEnd),
 }
 
 /// The names of acts.
@@ -42,14 +92,14 @@ const ACTS: [(&[u8], Does); 15] = [
     (b"return", Does::Plain(Act::Return)),
     (b"rec-src", Does::Plain(Act::RecSrc)),
     (b"rec-dst", Does::Plain(Act::RecDst)),
-    (b"call", Does::Call),
-    (b"goto", Does::Goto),
-    (b"skip", Does::Skip),
-    (b"src", Does::Src),
-    (b"dst", Does::Dst),
-    (b"add-tag", Does::AddTag),
-    (b"only-tag", Does::OnlyTag),
-    (b"del-tag", Does::DelTag),
+    (b"call", Does::Chain(WithChain::Call)),
+    (b"goto", Does::Chain(WithChain::Goto)),
+    (b"skip", Does::Number(WithNumber::Skip)),
+    (b"src", Does::End(WithEnd::Src)),
+    (b"dst", Does::End(WithEnd::Dst)),
+    (b"add-tag", Does::Number(WithNumber::AddTag)),
+    (b"only-tag", Does::Number(WithNumber::OnlyTag)),
+    (b"del-tag", Does::Number(WithNumber::DelTag)),
 ];
 
 /// The number of the chain with this name.
@@ -68,14 +118,9 @@ pub fn chain_named(chains: &[Text], name: &[u8]) -> Result<u32, Stop> {
 fn act_named(chains: &[Text], name: &[u8], value: &[u8]) -> Result<Act, Stop> {
     match value_named(&ACTS, name) {
         Some(Does::Plain(act)) => Ok(act),
-        Some(Does::Call) => Ok(Act::Call(chain_named(chains, value)?)),
-        Some(Does::Goto) => Ok(Act::Goto(chain_named(chains, value)?)),
-        Some(Does::Skip) => Ok(Act::Skip(decimal(value)?)),
-        Some(Does::Src) => Ok(Act::Src(end_of(value)?)),
-        Some(Does::Dst) => Ok(Act::Dst(end_of(value)?)),
-        Some(Does::AddTag) => Ok(Act::AddTag(decimal(value)?)),
-        Some(Does::OnlyTag) => Ok(Act::OnlyTag(decimal(value)?)),
-        Some(Does::DelTag) => Ok(Act::DelTag(decimal(value)?)),
+        Some(Does::Chain(does)) => Ok(does.act(chain_named(chains, value)?)),
+        Some(Does::Number(does)) => Ok(does.act(decimal(value)?)),
+        Some(Does::End(does)) => Ok(does.act(end_of(value)?)),
         None => Err(Stop::Malformed),
     }
 }

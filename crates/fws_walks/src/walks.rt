@@ -9,7 +9,7 @@ use crate::stop::Stop;
 use crate::words::decimal;
 use fws_flat::{Flat, model as flat_model};
 use fws_ifcl::{Ifcl, Place, ifcl_ok, model as diagram_model};
-use fws_num::{Items, Line, Text, Word, split_once, value_named};
+use fws_num::{Items, Line, Memory, Text, Word, split_once, value_named};
 use fws_unfold::{UnfoldAnswer, unfold_from};
 use std::alloc::Global;
 
@@ -62,19 +62,10 @@ fn comes_to(alloc: Global, scene: &Scene, drawn: &Drawn, walk: &Walk) -> Result<
     }
 }
 
-/// The rules for which the instructions stand that the packet uses.
-fn told(
-    alloc: Global,
-    scene: &Scene,
-    walk: &Walk,
-    flat: &Flat,
-    rules: &[Option<Place>],
-) -> Result<Items<Place>, Stop>
-    requires { IsSound scene.now.site.now }
-{
-    let used = flat_model::used_places(alloc, flat, scene.site, &walk.packet, &walk.kind)?;
+/// The rules for which the instructions with these numbers stand.
+fn told(alloc: Global, rules: &[Option<Place>], numbers: &[u32]) -> Result<Items<Place>, Memory> {
     let mut told = Items::new(alloc);
-    for number in used.as_slice() {
+    for number in numbers {
         if let Some(Some(place)) = rules.get(*number as usize) {
             told.put(*place)?;
         }
@@ -82,14 +73,40 @@ fn told(
     Ok(told)
 }
 
-/// Whether the packet uses these rules, one behind the other, in the diagram and in its flat code.
-fn uses_all(
+/// Whether the instructions with these numbers stand for the rules.
+fn tell_all(
+    alloc: Global,
+    rules: &[Option<Place>],
+    numbers: &[u32],
+    wanted: &Items<Place>,
+) -> Result<bool, Memory> {
+    let told = told(alloc, rules, numbers)?;
+    Ok(told == *wanted)
+}
+
+/// Whether the instructions that the packet uses stand for these rules, one behind the other.
+fn uses_in_code(
+    alloc: Global,
+    scene: &Scene,
+    walk: &Walk,
+    flat: &Flat,
+    rules: &[Option<Place>],
+    wanted: &Items<Place>,
+) -> Result<bool, Memory>
+    requires { IsSound scene.now.site.now }
+{
+    let used = flat_model::used_places(alloc, flat, scene.site, &walk.packet, &walk.kind)?;
+    tell_all(alloc, rules, used.as_slice(), wanted)
+}
+
+/// Whether the packet uses these rules, one behind the other, in the diagram.
+fn uses_in_diagram(
     alloc: Global,
     scene: &Scene,
     drawn: &Drawn,
     walk: &Walk,
     wanted: &Items<Place>,
-) -> Result<bool, Stop>
+) -> Result<bool, Memory>
     requires { IsSound scene.now.site.now }
 {
     let used = diagram_model::used_places(
@@ -99,11 +116,24 @@ fn uses_all(
         &walk.packet,
         &walk.kind,
     )?;
-    if used != *wanted {
+    Ok(used == *wanted)
+}
+
+/// Whether the packet uses these rules, one behind the other, in the diagram and in its flat code.
+fn uses_all(
+    alloc: Global,
+    scene: &Scene,
+    drawn: &Drawn,
+    walk: &Walk,
+    wanted: &Items<Place>,
+) -> Result<bool, Memory>
+    requires { IsSound scene.now.site.now }
+{
+    if !uses_in_diagram(alloc, scene, drawn, walk, wanted)? {
         return Ok(false);
     }
     match drawn.unfolded {
-        Ok((flat, rules)) => Ok(told(alloc, scene, walk, flat, rules.as_slice())? == *wanted),
+        Ok((flat, rules)) => uses_in_code(alloc, scene, walk, flat, rules.as_slice(), wanted),
         Err(_) => Ok(true),
     }
 }
@@ -204,6 +234,22 @@ fn uses_each(
     Ok(true)
 }
 
+/// Whether the packet uses these rules, in this order, and no others.
+fn uses_just(
+    alloc: Global,
+    scene: &Scene,
+    drawn: &Drawn,
+    walk: &Walk,
+    wanted: &Items<Place>,
+) -> Result<bool, Stop>
+    requires { IsSound scene.now.site.now }
+{
+    Ok(
+        uses_all(alloc, scene, drawn, walk, wanted)?
+            && uses_each(alloc, scene, drawn, walk, wanted.as_slice())?,
+    )
+}
+
 /// Whether the packet uses the rules that words name, in this order, and no others.
 fn uses_named(
     alloc: Global,
@@ -215,10 +261,7 @@ fn uses_named(
     requires { IsSound scene.now.site.now }
 {
     let wanted = places_of(alloc, drawn.names, places)?;
-    Ok(
-        uses_all(alloc, scene, drawn, walk, &wanted)?
-            && uses_each(alloc, scene, drawn, walk, wanted.as_slice())?,
-    )
+    uses_just(alloc, scene, drawn, walk, &wanted)
 }
 
 /// Whether a line `walk PACKET CLASS : OUTCOME : PLACE ..` is so; the places may be left out.
@@ -312,6 +355,21 @@ fn judge_drawn(
     }
 }
 
+/// Tries a diagram whose chains have these names: the lines behind its first one.
+fn judge_named(
+    alloc: Global,
+    scene: &Scene,
+    names: &[Text],
+    tally: &mut Tally,
+    head: &Line,
+    lines: &[Line],
+) -> Result<(), Stop>
+    requires { IsSound scene.now.site.now }
+{
+    let diagram = diagram_of(alloc, scene.site, names, lines)?;
+    judge_drawn(alloc, scene, names, &diagram, tally, head, lines)
+}
+
 /// Tries a diagram: the lines behind its first one, `diagram NAME ..`.
 pub fn judge_diagram(
     alloc: Global,
@@ -323,6 +381,5 @@ pub fn judge_diagram(
     requires { IsSound scene.now.site.now }
 {
     let names = names_of(alloc, lines)?;
-    let diagram = diagram_of(alloc, scene.site, names.as_slice(), lines)?;
-    judge_drawn(alloc, scene, names.as_slice(), &diagram, tally, head, lines)
+    judge_named(alloc, scene, names.as_slice(), tally, head, lines)
 }
