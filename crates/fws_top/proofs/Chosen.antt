@@ -70,23 +70,28 @@ stopped_on plan told before old at new (Due a) next same quiet stops =
     subst (λ b. Answered (plan next) b old new a.status a.text) same (subst (λ o. Answered (plan next) before o new a.status a.text) quiet (stops next))
 stopped_on plan told before old at new Memory next same quiet stops = tt
 
--- what stops the rest of a command stops it, behind a step that goes on
-pub stopped_behind : {X : Type 0} → (plan : (X → Plan) → Plan) (told before : Option (List ℕ → List ℕ)) (old new : List ℕ → ℕ) (stop : Stop) (next : X → Plan) (x : X)
-    → before ≡ told → GoesOn plan before x → Stopped (next x) told old new stop → Stopped (plan next) told old new stop
-stopped_behind plan told before old new (Due a) next x same on stopped =
-    subst (λ b. Answered (plan next) b old new a.status a.text) same
-    (on next old new a.status a.text (subst (λ b. Answered (next x) b old new a.status a.text) (sym same) stopped))
-stopped_behind plan told before old new Memory next x same on stopped = tt
+-- what is answered behind a step that goes on is answered for the whole
+pub answered_behind : {X : Type 0} → (plan : (X → Plan) → Plan) (told before : Option (List ℕ → List ℕ)) (old at new : List ℕ → ℕ) (s : Status) (t : List ℕ) (next : X → Plan) (x : X)
+    → GoesOn plan told x → before ≡ told → at ≡ old → Answered (next x) before at new s t → Answered (plan next) told old new s t
+answered_behind plan told before old at new s t next x on same quiet a =
+    on next old new s t (subst (λ b. Answered (next x) b old new s t) same (subst (λ o. Answered (next x) before o new s t) quiet a))
 
--- a step goes on, whenever it is made
-pub gone_on : {X : Type 0} → (plan : (X → Plan) → Plan) (told before : Option (List ℕ → List ℕ)) (x : X) → before ≡ told → GoesOn plan before x → GoesOn plan told x
-gone_on {X} plan told before x same on = subst (λ b. GoesOn {X = X} plan b x) same on
+-- what stops the rest of a command stops it, behind a step that goes on
+pub stopped_behind : {X : Type 0} → (plan : (X → Plan) → Plan) (told before : Option (List ℕ → List ℕ)) (old at new : List ℕ → ℕ) (stop : Stop) (next : X → Plan) (x : X)
+    → GoesOn plan told x → before ≡ told → at ≡ old → Stopped (next x) before at new stop → Stopped (plan next) told old new stop
+stopped_behind plan told before old at new (Due a) next x on same quiet stopped = answered_behind plan told before old at new a.status a.text next x on same quiet stopped
+stopped_behind plan told before old at new Memory next x on same quiet stopped = tt
 
 -- a plan that ends in an answer is answered, where nothing was read
 pub ended_at : {X : Type 0} → (plan : (X → Plan) → Plan) (told : Option (List ℕ → List ℕ)) (faults : List ℕ → ℕ) (stop : Stop) (next : X → Plan)
     → EndsIn plan stop → Stopped (plan next) told faults faults stop
 ended_at plan told faults (Due a) next ends = subst (λ p. Answered p told faults faults a.status a.text) (sym (ends.1 next)) (ends.0, refl, refl, refl)
 ended_at plan told faults Memory next ends = tt
+
+-- what is answered where a plan chooses is answered for the plan
+pub answered_where : {X : Type 0} → (plan : (X → Plan) → Plan) (told : Option (List ℕ → List ℕ)) (faults : List ℕ → ℕ) (s : Status) (t : List ℕ) (next : X → Plan) (x : X)
+    → Chooses plan x → Answered (next x) told faults faults s t → Answered (plan next) told faults faults s t
+answered_where plan told faults s t next x chooses a = subst (λ p. Answered p told faults faults s t) (sym (chooses next)) a
 
 -- what stops what a plan chooses stops the plan
 pub stopped_where : {X : Type 0} → (plan : (X → Plan) → Plan) (told : Option (List ℕ → List ℕ)) (faults : List ℕ → ℕ) (stop : Stop) (next : X → Plan) (x : X)

@@ -5,6 +5,7 @@ pub mod Judged
 pub mod Lines
 pub mod LoadPlans
 pub mod Loads
+pub mod Parts
 pub mod Plan
 pub mod RegularTables
 pub mod Stops

@@ -1,11 +1,18 @@
 //! The commands that read files.
 
 ghost use Rattle.std.specs.Prelude.{◌≡◌, ◌≤◌, ℕ, List, Option, true, IfOk, IfErr};
+ghost use Rattle.fws_flat.specs.Soundness.{flat_ok};
+ghost use Rattle.fws_net.specs.declared.connection.Kind.{Kind};
+ghost use Rattle.fws_net.specs.declared.outcome.Outcome.{Outcome};
+ghost use Rattle.fws_net.specs.declared.packet.Packet.{Packet};
+ghost use Rattle.fws_net.specs.Routes.{IsSound};
+ghost use Rattle.fws_net.specs.SiteLaws.{IsOrderly};
 ghost use Rattle.fws_top.specs.Asks.{are_asks};
 ghost use Rattle.fws_top.specs.declared.status.Status.TheVariants as status;
 ghost use Rattle.fws_top.specs.Forms.{synth, query, translate, trace, load, site2};
+ghost use Rattle.fws_top.specs.Parts.{query_part, conns_part, load_part, packets_part, table_part, trace_part, translation_part};
 ghost use Rattle.fws_top.specs.Plan.{plan_of};
-ghost use Rattle.fws_top.specs.Stops.{Answered, Stopped};
+ghost use Rattle.fws_top.specs.Stops.{Answered, Does, Stopped};
 
 use crate::answer::{Answer, Stop};
 use crate::lang::{SourceLang, TargetLang};
@@ -16,10 +23,30 @@ use crate::steps::{
 };
 use crate::tables::{asked_table, table, tables, traced};
 use crate::translating::translated;
+use fws_flat::Flat;
 use fws_io::Shelf;
-use fws_net::{State, put_site, read_sites_are_orderly};
+use fws_net::{Conn, Site, State, put_site, read_sites_are_orderly};
 use fws_num::Text;
 use std::alloc::Global;
+
+/// The table of the packets of a state, at a site.
+fn synth_at<S: Shelf>(
+    alloc: Global,
+    shelf: &mut S,
+    lang: SourceLang,
+    site: &Site,
+    file_name: &[u8],
+    state: State,
+) -> Result<Text, Stop>
+    requires { IsSound site.now }
+    ensures same { S.told shelf.new ≡ S.told shelf.old }
+    ensures answered { IfOk result (Answered (table_part lang site.now file_name.now state) (S.told shelf.old) (S.faults shelf.old) (S.faults shelf.new) status.Ok) }
+    ensures stopped { IfErr result (Stopped (table_part lang site.now file_name.now state) (S.told shelf.old) (S.faults shelf.old) (S.faults shelf.new)) }
+{
+    let code = take_source(alloc, shelf, lang, site, file_name)?;
+    let text = table(alloc, site, &code, state)?;
+    Ok(text)
+}
 
 /// The table of the packets of a state.
 pub(crate) fn synth<S: Shelf>(
@@ -35,8 +62,28 @@ pub(crate) fn synth<S: Shelf>(
     ensures stopped { IfErr result (Stopped (plan_of (synth lang site_name.now file_name.now state)) (S.told shelf.old) (S.faults shelf.old) (S.faults shelf.new)) }
 {
     let site = take_site(alloc, shelf, site_name)?;
-    let code = take_source(alloc, shelf, lang, &site, file_name)?;
-    let text = table(alloc, &site, &code, state)?;
+    synth_at(alloc, shelf, lang, &site, file_name, state)
+}
+
+/// The part of that table for which the words ask, at a site.
+fn query_at<S: Shelf>(
+    alloc: Global,
+    shelf: &mut S,
+    lang: SourceLang,
+    site: &Site,
+    file_name: &[u8],
+    state: State,
+    asks: &[Text],
+) -> Result<Text, Stop>
+    requires sound { IsSound site.now }
+    requires spelled { are_asks asks.now ≡ true }
+    ensures same { S.told shelf.new ≡ S.told shelf.old }
+    ensures answered { IfOk result (Answered (query_part lang site.now file_name.now state asks.now) (S.told shelf.old) (S.faults shelf.old) (S.faults shelf.new) status.Ok) }
+    ensures stopped { IfErr result (Stopped (query_part lang site.now file_name.now state asks.now) (S.told shelf.old) (S.faults shelf.old) (S.faults shelf.new)) }
+{
+    know_entries(alloc, site, asks)?;
+    let code = take_source(alloc, shelf, lang, site, file_name)?;
+    let text = asked_table(alloc, site, &code, state, asks)?;
     Ok(text)
 }
 
@@ -56,10 +103,27 @@ pub(crate) fn query<S: Shelf>(
     ensures stopped { IfErr result (Stopped (plan_of (query lang site_name.now file_name.now state asks.now)) (S.told shelf.old) (S.faults shelf.old) (S.faults shelf.new)) }
 {
     let site = take_site(alloc, shelf, site_name)?;
-    know_entries(alloc, &site, asks)?;
-    let code = take_source(alloc, shelf, lang, &site, file_name)?;
-    let text = asked_table(alloc, &site, &code, state, asks)?;
-    Ok(text)
+    query_at(alloc, shelf, lang, &site, file_name, state, asks)
+}
+
+/// The same policy in another language, or why it can't hold it, at a site.
+fn translate_at<S: Shelf>(
+    alloc: Global,
+    shelf: &mut S,
+    from: SourceLang,
+    to: TargetLang,
+    site: &Site,
+    file_name: &[u8],
+) -> Result<Answer, Stop>
+    requires sound { IsSound site.now }
+    requires orderly { IsOrderly site.now }
+    ensures same { S.told shelf.new ≡ S.told shelf.old }
+    ensures answered { IfOk result (λ answer. Answered (translation_part from to site.now file_name.now) (S.told shelf.old) (S.faults shelf.old) (S.faults shelf.new) answer.status answer.text) }
+    ensures stopped { IfErr result (Stopped (translation_part from to site.now file_name.now) (S.told shelf.old) (S.faults shelf.old) (S.faults shelf.new)) }
+{
+    let code = take_source(alloc, shelf, from, site, file_name)?;
+    let answer = translated(alloc, to, site, &code)?;
+    Ok(answer)
 }
 
 /// The same policy in another language, or why it can't hold it.
@@ -77,9 +141,69 @@ pub(crate) fn translate<S: Shelf>(
 {
     read_sites_are_orderly();
     let site = take_site(alloc, shelf, site_name)?;
-    let code = take_source(alloc, shelf, from, &site, file_name)?;
-    let answer = translated(alloc, to, &site, &code)?;
-    Ok(answer)
+    translate_at(alloc, shelf, from, to, &site, file_name)
+}
+
+/// What code makes of listed packets against connections.
+fn trace_among<S: Shelf>(
+    alloc: Global,
+    shelf: &mut S,
+    site: &Site,
+    code: &Flat,
+    conns: &[Conn],
+    packets_name: &[u8],
+) -> Result<Text, Stop>
+    requires sound { IsSound site.now }
+    requires ok { flat_ok code.now ≡ true }
+    ensures same { S.told shelf.new ≡ S.told shelf.old }
+    ensures answered { (walk : Packet → Kind → Outcome) → Does code.now site.now walk
+        → IfOk result (Answered (packets_part site.now walk conns.now packets_name.now) (S.told shelf.old) (S.faults shelf.old) (S.faults shelf.new) status.Ok) }
+    ensures stopped { (walk : Packet → Kind → Outcome)
+        → IfErr result (Stopped (packets_part site.now walk conns.now packets_name.now) (S.told shelf.old) (S.faults shelf.old) (S.faults shelf.new)) }
+{
+    let packets = take_packets(alloc, shelf, site, packets_name)?;
+    let text = traced(alloc, site, code, conns, packets.as_slice())?;
+    Ok(text)
+}
+
+/// What code makes of listed packets against listed connections.
+fn trace_by<S: Shelf>(
+    alloc: Global,
+    shelf: &mut S,
+    site: &Site,
+    code: &Flat,
+    conns_name: &[u8],
+    packets_name: &[u8],
+) -> Result<Text, Stop>
+    requires sound { IsSound site.now }
+    requires ok { flat_ok code.now ≡ true }
+    ensures same { S.told shelf.new ≡ S.told shelf.old }
+    ensures answered { (walk : Packet → Kind → Outcome) → Does code.now site.now walk
+        → IfOk result (Answered (conns_part site.now walk conns_name.now packets_name.now) (S.told shelf.old) (S.faults shelf.old) (S.faults shelf.new) status.Ok) }
+    ensures stopped { (walk : Packet → Kind → Outcome)
+        → IfErr result (Stopped (conns_part site.now walk conns_name.now packets_name.now) (S.told shelf.old) (S.faults shelf.old) (S.faults shelf.new)) }
+{
+    let conns = take_conns(alloc, shelf, conns_name)?;
+    trace_among(alloc, shelf, site, code, conns.as_slice(), packets_name)
+}
+
+/// What becomes of listed packets against listed connections, at a site.
+fn trace_at<S: Shelf>(
+    alloc: Global,
+    shelf: &mut S,
+    lang: SourceLang,
+    site: &Site,
+    file_name: &[u8],
+    conns_name: &[u8],
+    packets_name: &[u8],
+) -> Result<Text, Stop>
+    requires { IsSound site.now }
+    ensures same { S.told shelf.new ≡ S.told shelf.old }
+    ensures answered { IfOk result (Answered (trace_part lang site.now file_name.now conns_name.now packets_name.now) (S.told shelf.old) (S.faults shelf.old) (S.faults shelf.new) status.Ok) }
+    ensures stopped { IfErr result (Stopped (trace_part lang site.now file_name.now conns_name.now packets_name.now) (S.told shelf.old) (S.faults shelf.old) (S.faults shelf.new)) }
+{
+    let code = take_source(alloc, shelf, lang, site, file_name)?;
+    trace_by(alloc, shelf, site, &code, conns_name, packets_name)
 }
 
 /// What becomes of listed packets against listed connections.
@@ -97,10 +221,28 @@ pub(crate) fn trace<S: Shelf>(
     ensures stopped { IfErr result (Stopped (plan_of (trace lang site_name.now file_name.now conns_name.now packets_name.now)) (S.told shelf.old) (S.faults shelf.old) (S.faults shelf.new)) }
 {
     let site = take_site(alloc, shelf, site_name)?;
-    let code = take_source(alloc, shelf, lang, &site, file_name)?;
-    let conns = take_conns(alloc, shelf, conns_name)?;
-    let packets = take_packets(alloc, shelf, &site, packets_name)?;
-    let text = traced(alloc, &site, &code, conns.as_slice(), packets.as_slice())?;
+    trace_at(
+        alloc,
+        shelf,
+        lang,
+        &site,
+        file_name,
+        conns_name,
+        packets_name,
+    )
+}
+
+/// What a generated policy of so many rules comes to, at a site.
+fn load_at(alloc: Global, n: u32, site: &Site) -> Result<Text, Stop>
+    requires least { 1 ≤ n }
+    requires most { n ≤ 4000 }
+    requires sound { IsSound site.now }
+    requires orderly { IsOrderly site.now }
+    ensures answered { (told : Option (List ℕ → List ℕ)) (faults : List ℕ → ℕ) → IfOk result (Answered (load_part n site.now) told faults faults status.Ok) }
+    ensures stopped { (told : Option (List ℕ → List ℕ)) (faults : List ℕ → ℕ) → IfErr result (Stopped (load_part n site.now) told faults faults) }
+{
+    let code = generated_source(alloc, n, site)?;
+    let text = loaded(alloc, n, site, &code)?;
     Ok(text)
 }
 
@@ -113,9 +255,7 @@ pub(crate) fn load(alloc: Global, n: u32) -> Result<Text, Stop>
 {
     read_sites_are_orderly();
     let site = generated_site(alloc)?;
-    let code = generated_source(alloc, n, &site)?;
-    let text = loaded(alloc, n, &site, &code)?;
-    Ok(text)
+    load_at(alloc, n, &site)
 }
 
 /// The site in its second form.

@@ -12,6 +12,7 @@ ghost use Rattle.fws_place.specs.Fits.{Fits};
 ghost use Rattle.fws_top.specs.Judged.{HasConfig};
 ghost use Rattle.fws_top.specs.Loads.{IsHeldCount, IsLoad, IsWhether, all_targets, load_line, row_count};
 ghost use Rattle.fws_top.specs.Stops.{Does, DoesRegularly};
+ghost use Rattle.fws_top.specs.Walked.{AreTablesOf};
 ghost use Rattle.fws_tree.specs.Regular.{AreRegular};
 
 use crate::ios::Ios;
@@ -114,6 +115,22 @@ fn load_line(alloc: Global, n: u32, fresh: u64, est: u64, placed: u64) -> Result
     Ok(out)
 }
 
+/// What tables come to, which are those of so many rules.
+fn load_of(alloc: Global, n: u32, site: &Site, tables: &Tables) -> Result<Text, Memory>
+    requires orderly { IsOrderly site.now }
+    requires sound { IsSound site.now }
+    requires regular { AreRegular site.now tables.now }
+    requires fresh_tops { tables.now.fresh.0 ≡ tops_of site.now }
+    requires est_tops { tables.now.est.0 ≡ tops_of site.now }
+    ensures { (walk : Packet → Kind → Outcome) → AreTablesOf site.now walk tables.now → IfOk result (IsLoad n site.now walk) }
+{
+    let fresh = row_count(alloc, site, &tables.fresh)?;
+    let est = row_count(alloc, site, &tables.est)?;
+    let placed = held_count(alloc, site, tables)?;
+    let line = load_line(alloc, n, fresh, est, placed)?;
+    Ok(line)
+}
+
 /// What the tables of code come to, which is that of so many rules.
 pub(crate) fn loaded(alloc: Global, n: u32, site: &Site, code: &Flat) -> Result<Text, Memory>
     requires orderly { IsOrderly site.now }
@@ -123,9 +140,5 @@ pub(crate) fn loaded(alloc: Global, n: u32, site: &Site, code: &Flat) -> Result<
     ensures { (walk : Packet → Kind → Outcome) → Does code.now site.now walk → IfOk result (IsLoad n site.now walk) }
 {
     let tables = tables(alloc, site, code)?;
-    let fresh = row_count(alloc, site, &tables.fresh)?;
-    let est = row_count(alloc, site, &tables.est)?;
-    let placed = held_count(alloc, site, &tables)?;
-    let line = load_line(alloc, n, fresh, est, placed)?;
-    Ok(line)
+    load_of(alloc, n, site, &tables)
 }

@@ -53,6 +53,26 @@ pub(crate) fn table(alloc: Global, site: &Site, code: &Flat, state: State) -> Re
     Ok(text)
 }
 
+/// The part of the table of a tree for which the words ask.
+fn asked_part(
+    alloc: Global,
+    site: &Site,
+    state: State,
+    tree: &Tree<Outcome>,
+    asks: &[Text],
+) -> Result<Text, Memory>
+    requires sound { IsSound site.now }
+    requires tops { tree.now.0 ≡ tops_of site.now }
+    requires spelled { are_asks asks.now ≡ true }
+    ensures { (walk : Packet → Kind → Outcome)
+        → ((p : List ℕ) → IsWithin (tops_of site.now) p → value tree.now.1 p ≡ Some (walked_at walk state p))
+        → IfOk result (IsAskedTable site.now state asks.now walk) }
+{
+    let ask = read_ask(alloc, site, asks)?;
+    let text = query(alloc, site, state, tree, &ask)?;
+    Ok(text)
+}
+
 /// The part of that table for which the words ask.
 pub(crate) fn asked_table(
     alloc: Global,
@@ -67,9 +87,7 @@ pub(crate) fn asked_table(
     ensures { (walk : Packet → Kind → Outcome) → Does code.now site.now walk → IfOk result (IsAskedTable site.now state asks.now walk) }
 {
     let tree = tree_of(alloc, site, code, state)?;
-    let ask = read_ask(alloc, site, asks)?;
-    let text = query(alloc, site, state, &tree, &ask)?;
-    Ok(text)
+    asked_part(alloc, site, state, &tree, asks)
 }
 
 /// The tables of what code makes of packets: of new ones, and of those of connections.

@@ -1,0 +1,42 @@
+-- Parts of plans: what commands do once they have a site, code or connections.
+use Rattle.std.specs.Prelude.{ℕ, List}
+use Rattle.fws_net.specs.declared.connection.Conn.{Conn}
+use Rattle.fws_net.specs.declared.connection.Kind.{Kind}
+use Rattle.fws_net.specs.declared.outcome.Outcome.{Outcome}
+use Rattle.fws_net.specs.declared.packet.Packet.{Packet}
+use Rattle.fws_net.specs.declared.packet.State.{State}
+use Rattle.fws_net.specs.declared.site.Site.{Site}
+use Rattle.fws_top.specs.declared.lang.SourceLang.{SourceLang}
+use Rattle.fws_top.specs.declared.lang.TargetLang.{TargetLang}
+use Rattle.fws_top.specs.declared.status.Status.TheVariants as status
+use Rattle.fws_top.specs.Plan.{Plan, says, shows, asks_plan, source_plan, conns_plan, packets_plan, load_text_plan}
+use Rattle.fws_top.specs.Tables.{table, asked_table, translation, loaded}
+use Rattle.fws_trace.specs.TraceText.{trace_text}
+
+-- `synth` at a site
+abbrev pub table_part : SourceLang → Site → List ℕ → State → Plan
+table_part lang site file state = source_plan lang site file (λ walk. shows (table site state walk))
+
+-- `query` at a site
+abbrev pub query_part : SourceLang → Site → List ℕ → State → List (List ℕ) → Plan
+query_part lang site file state asks = asks_plan site asks (source_plan lang site file (λ walk. shows (asked_table site state asks walk)))
+
+-- `translate` at a site
+abbrev pub translation_part : SourceLang → TargetLang → Site → List ℕ → Plan
+translation_part from to site file = source_plan from site file (λ walk. shows (translation to site walk))
+
+-- `load` at a site
+abbrev pub load_part : ℕ → Site → Plan
+load_part n site = load_text_plan n site (λ walk. shows (loaded n site walk))
+
+-- `trace` of a walk against connections
+abbrev pub packets_part : Site → (Packet → Kind → Outcome) → List Conn → List ℕ → Plan
+packets_part site walk tracked packets = packets_plan site packets (λ sent. says status.Ok (trace_text walk tracked sent))
+
+-- `trace` of a walk
+abbrev pub conns_part : Site → (Packet → Kind → Outcome) → List ℕ → List ℕ → Plan
+conns_part site walk conns packets = conns_plan conns (λ tracked. packets_part site walk tracked packets)
+
+-- `trace` at a site
+abbrev pub trace_part : SourceLang → Site → List ℕ → List ℕ → List ℕ → Plan
+trace_part lang site file conns packets = source_plan lang site file (λ walk. conns_part site walk conns packets)
