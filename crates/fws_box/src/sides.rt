@@ -1,6 +1,6 @@
 //! The sides of a box: a set of values for each field.
 
-ghost use Rattle.std.specs.Prelude.{◌≡◌, ◌&&◌, ℕ, List, IfOk};
+ghost use Rattle.std.specs.Prelude.{◌≡◌, ◌&&◌, ℕ, List, [], replicate, IfOk};
 ghost use Rattle.fws_box.specs.Sides.{sides_have, whole_sides};
 
 use fws_iv::{Ivs, one};
@@ -9,7 +9,9 @@ use std::alloc::Global;
 use std::array;
 
 /// Twelve sets without a member.
-pub fn no_sides(alloc: Global) -> [Ivs; 12] {
+pub fn no_sides(alloc: Global) -> [Ivs; 12]
+    ensures { result ≡ replicate 12 [] }
+{
     array::from_fn(|_| Ivs::none(alloc))
 }
 

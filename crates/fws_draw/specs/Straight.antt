@@ -5,7 +5,7 @@ use Rattle.fws_ifcl.specs.declared.diagram.Ifcl.{Ifcl}
 use Rattle.fws_ifcl.specs.Refusals.{refusal_of}
 use Rattle.fws_ifcl.specs.Soundness.{chain_ok}
 
--- no rule calls a chain or goes to one: all are right where there is none to name
+-- no rule calls a chain or goes to one, and skips go forward: all are right where there is no chain to name
 abbrev pub is_straight : Ifcl → Bool
 is_straight d = list_all (chain_ok 0) d.chains
 

@@ -15,7 +15,8 @@ pub fn rules_are_right_by_parts()
     ensures { RulesAreRightByParts }
 {}
 
-/// A diagram of which no rule calls a chain or goes to one can be unfolded: a law, with nothing to do.
+/// A diagram whose skips go forward and of which no rule calls a chain or goes to one can be unfolded: a law, with nothing
+/// to do.
 pub fn straight_diagrams_unfold()
     ensures { StraightDiagramsUnfold }
 {}

@@ -1,9 +1,29 @@
 //! How many entries the nodes of a tree take, by which kids are chosen that are left to the end.
 
-use fws_ios_path::{Side, pieces, side_at};
+use fws_ios_path::{Side, side_at};
+use fws_iv::{Ivs, prefixes};
 use fws_num::Memory;
 use fws_tree::{Kid, Node};
 use std::alloc::Global;
+
+// How many members a set has.
+fn members(set: &Ivs) -> usize {
+    let mut count: usize = 0;
+    for part in set.parts() {
+        let more = part.hi.saturating_sub(part.lo) as usize;
+        count = count.saturating_add(more).saturating_add(1);
+    }
+    count
+}
+
+// How many entries ask for the members of a set, where the protocol is asked already. An error is want of memory.
+fn pieces(alloc: Global, side: Side, set: &Ivs) -> Result<usize, Memory> {
+    Ok(match side {
+        Side::Proto | Side::Icmp => members(set),
+        Side::Src | Side::Dst => prefixes(alloc, set)?.len(),
+        Side::Sport | Side::Dport => set.parts().len(),
+    })
+}
 
 /// How many entries a node takes by the sizes of all nodes before.
 pub(crate) fn size_at(sizes: &[usize], node: u32) -> usize {

@@ -9,6 +9,6 @@ mod side;
 
 pub use act::Act;
 pub use entries::{entry_of, state_entry};
-pub use narrowing::{narrowed, pieces};
+pub use narrowing::narrowed;
 pub use path::{Path, whole_path};
 pub use side::{Side, side_at};

@@ -128,15 +128,6 @@ fn net_paths(alloc: Global, side: Side, set: &Ivs, path: Path) -> Result<Items<P
     Ok(paths)
 }
 
-/// How many paths ask for the members of a set, where the protocol is asked already. An error is want of memory.
-pub fn pieces(alloc: Global, side: Side, set: &Ivs) -> Result<usize, Memory> {
-    Ok(match side {
-        Side::Proto | Side::Icmp => members(alloc, set)?.len(),
-        Side::Src | Side::Dst => prefixes(alloc, set)?.len(),
-        Side::Sport | Side::Dport => set.parts().len(),
-    })
-}
-
 /// The paths of the packets on a path whose field is a member of the set; the path asks nothing of the field.
 /// An error is want of memory.
 pub fn narrowed(alloc: Global, path: Path, side: Side, set: &Ivs) -> Result<Items<Path>, Memory>

@@ -54,6 +54,8 @@ is_builtin chains c = option_map_or (λ chain. is_some chain.policy) (slice_get 
 
 -- Sizes
 
+-- What is counted are rules of the control diagram, where one that writes an end stands for several.
+
 -- how many rules a rule is unfolded to by itself, on a site with f interfaces
 abbrev pub width_of : ℕ → IptGo → ℕ
 width_of f (Source e) = 4
@@ -66,7 +68,7 @@ width_of f _ = 1
 abbrev pub rules_width : ℕ → List IptRule → ℕ
 rules_width f rules = sum (map (λ r. width_of f r.go) rules)
 
--- a built-in chain of nat has one more
+-- a built-in chain of nat has one more, which lets packets of connections by
 abbrev pub head_width : IptTable → Option Bool → ℕ
 head_width Nat (Some accepts) = 1
 head_width _ _ = 0
@@ -112,7 +114,8 @@ passed_at f chains s n (chain ∷ rest) =
     else if nat_lt 1000000 (s + size_of f chains n) then Some n
     else passed_at f chains (s + size_of f chains n) (suc n) rest
 
--- the chain at which the sum passes, where some rule jumps or goes; the sum begins at 3
+-- the chain at which the sum passes, where some rule jumps or goes; the sum begins at 3, since the diagram has three chains of one
+-- rule each ahead of the file's
 abbrev pub long_of : ℕ → List IptChain → Option ℕ
 long_of f chains = if list_any names_any chains then passed_at f chains 3 0 chains else None
 

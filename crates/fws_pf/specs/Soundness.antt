@@ -25,8 +25,7 @@ asks test _ = false
 abbrev pub names_protocol : (ℕ → Bool) → List Lit → Bool
 names_protocol test cond = list_any (λ lit. not lit.not && asks test lit.test) cond
 
--- a literal stands in a condition that asks for the protocol that it is about: ports, types of ICMP messages, and flags that are
--- set so. A tag is one of so many
+-- a literal of ports or of ICMP types stands in a condition that asks for a protocol that has them; a tag is one of so many
 abbrev pub test_fits : ℕ → List Lit → Test → Bool
 test_fits tags cond (Sport set) = names_protocol is_port_protocol cond
 test_fits tags cond (Dport set) = names_protocol is_port_protocol cond

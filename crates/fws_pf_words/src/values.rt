@@ -6,7 +6,7 @@ ghost use Rattle.std.specs.Str.{bytes_eq};
 ghost use Rattle.fws_net.specs.Routes.{IsSound};
 ghost use Rattle.fws_rule.specs.Literals.{one};
 ghost use Rattle.fws_pf.specs.declared.value_draft.Part.TheVariants as parts;
-ghost use Rattle.fws_pf.specs.Values.{after_part, alone, begin_step, behind_value, compared_ports, end_step, ended_value, face_name_step, first_step, fresh_value, has_ended, host_step, host_word, icmp_type_part, interface_part, is_any_mark, item_step, marks, may_be_empty, negating, next_step, no_mark, part_taken, plain_step, port_sign_step, port_step, port_taken, port_word, ports_by_ends, protocol_part, range_end_step, range_sign_step, table_name_step, value_expected_step, value_step, with_part};
+ghost use Rattle.fws_pf.specs.Values.{after_part, alone, begin_step, behind_value, compared_ports, end_step, ended_value, face_name_step, first_step, has_ended, host_step, host_word, icmp_type_part, interface_part, is_any_mark, item_step, marks, may_be_empty, negating, next_step, no_mark, part_taken, plain_step, port_sign_step, port_step, port_taken, port_word, ports_by_ends, protocol_part, range_end_step, range_sign_step, table_name_step, value_expected_step, value_step, with_part};
 ghost use Rattle.fws_pf_words.specs.Taken.{TakenGiven};
 
 use crate::addresses::{face_name_part, host_part, range_part};
@@ -16,7 +16,7 @@ use crate::setting::Setting;
 use crate::statements::is_mark;
 use fws_iv::one;
 use fws_net::{Cause, ReadFault, Site};
-use fws_num::{Items, Memory, Word, read_port, read_quad};
+use fws_num::{Memory, Word, read_port, read_quad};
 use fws_pf::{Item, Operator, Part, ValueDraft, ValueExpects, ValueKind};
 use fws_rule::{is, is_one_of};
 use std::alloc::Global;
@@ -25,19 +25,6 @@ use std::alloc::Global;
 const MARKS: [&[u8]; 15] = [
     b"{", b"}", b"(", b")", b"<", b">", b",", b"=", b"!", b"->", b"><", b"<>", b"!=", b"<=", b">=",
 ];
-
-/// A value of this kind ahead of its first word.
-pub fn fresh_value(alloc: Global, kind: ValueKind) -> ValueDraft
-    ensures { result ≡ fresh_value kind }
-{
-    ValueDraft {
-        kind,
-        expects: ValueExpects::Value,
-        in_list: false,
-        negated: false,
-        items: Items::new(alloc),
-    }
-}
 
 /// What is expected behind a value: nothing more of it, or in a list what follows.
 fn behind(in_list: bool) -> ValueExpects

@@ -50,8 +50,9 @@ fn code_of(alloc: Global, f: &Ifcl) -> Result<(Flat, Vec<Option<Place>>), Memory
 /// Flat code that does with each packet what the diagram does, and for each of its instructions the rule
 /// that it stands for, if it does: a packet uses a rule exactly where it uses an instruction that stands
 /// for the rule. Or why there is none: a chain reaches itself, else a path of calls from a chain of a
-/// stage has more than 64 chains, else the rules of the unfolded chains of stages are more than
-/// 1,000,000. Linear in the unfolded rules; a refusal is linear in the diagram.
+/// stage has more than 64 chains, else, where some rule calls a chain or goes to one, the rules of the
+/// unfolded chains of stages are more than 1,000,000. Linear in the unfolded rules; a refusal is
+/// linear in the diagram.
 pub fn unfold_from(alloc: Global, f: &Ifcl) -> Result<(Flat, Vec<Option<Place>>), UnfoldAnswer>
     requires { ifcl_ok f.now ≡ true }
     ensures unrefused { IfOk result (λ x. refusal_of f.now ≡ None) }
