@@ -7,7 +7,7 @@ ghost use Rattle.fws_net.specs.Points.{packet_of, tops_of};
 ghost use Rattle.fws_net.specs.Routes.{IsSound};
 ghost use Rattle.fws_flat.specs.Soundness.{flat_ok};
 ghost use Rattle.fws_flat.specs.Walk.{means};
-ghost use Rattle.fws_tree.specs.Plain.{Plain, IsReduced};
+ghost use Rattle.fws_tree.specs.Plain.{Plain, value, IsReduced};
 ghost use Rattle.fws_tree.specs.Rows.{row_hits, paths_of};
 ghost use Rattle.fws_exec.specs.Classes.{kind_of};
 
@@ -19,7 +19,7 @@ use fws_tree::Row;
 use std::alloc::Global;
 
 /// What becomes of each packet of the site, as rows: the paths of the reduced tree. Each packet lies in just
-/// one of them. An error is want of memory.
+/// one of them. For new packets no row asks for the last four fields. An error is want of memory.
 ///
 /// There may be many more rows than the tree has nodes, where tests of several fields cross.
 pub fn execute(
@@ -30,7 +30,7 @@ pub fn execute(
 ) -> Result<Vec<Row<Outcome>>, Memory>
     requires sound { IsSound site.now }
     requires ok { flat_ok f.now ≡ true }
-    ensures paths { IfOk result (λ rows. (t : Plain AnyOutcome) × IsReduced (tops_of site.now) t × (rows.items ≡ paths_of (tops_of site.now) t)) }
+    ensures paths { IfOk result (λ rows. (t : Plain AnyOutcome) × IsReduced (tops_of site.now) t × ((p : List ℕ) → IsWithin (tops_of site.now) p → value t p ≡ Some (means f.now site.now (packet_of p) (kind_of state p))) × (rows.items ≡ paths_of (tops_of site.now) t)) }
     ensures once { IfOk result (λ rows. (p : List ℕ) → IsWithin (tops_of site.now) p → row_hits rows.items p ≡ 1) }
     ensures right { IfOk result (λ rows. (p : List ℕ) → IsWithin (tops_of site.now) p → All (λ row. IsTrue (sides_have row.sides p) → means f.now site.now (packet_of p) (kind_of state p) ≡ row.leaf) rows.items) }
 {

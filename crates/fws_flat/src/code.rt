@@ -16,9 +16,9 @@ pub enum FlatAct {
     /// Goes on at the instruction with this place, a later one, counted from 0 in the whole code. At the
     /// end of the part the verdict so far decides.
     Jump(u32),
-    /// Writes the end over the source.
+    /// Writes the end over the source. Ends of a connection that were put in place are gone then.
     Src(End),
-    /// Writes the end over the destination.
+    /// Writes the end over the destination. Ends of a connection that were put in place are gone then.
     Dst(End),
     /// Puts the source with which an established packet leaves in place.
     RecSrc,

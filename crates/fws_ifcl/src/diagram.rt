@@ -21,9 +21,9 @@ pub enum Act {
     Return,
     /// Goes on at the rule of this chain with this place, a later one, counted from 0.
     Skip(u32),
-    /// Writes the end over the source.
+    /// Writes the end over the source. Ends of a connection that were put in place are gone then.
     Src(End),
-    /// Writes the end over the destination.
+    /// Writes the end over the destination. Ends of a connection that were put in place are gone then.
     Dst(End),
     /// Puts the source with which an established packet leaves in place.
     RecSrc,

@@ -35,7 +35,8 @@ pub record ArePathsOver (site : Site) (established : Bool) (needed within : Plai
   pub sound : (p : Packet) (x : List ℕ) → IsWithin (tops_of site) x → IsSeenAt p x → some_path_has paths p ≡ true → value within x ≡ Some true
   pub whole : (p : Packet) (x : List ℕ) → IsWithin (tops_of site) x → IsSeenAt p x → value needed x ≡ Some true → some_path_has paths p ≡ true
 
--- entries that each packet of the first set meets, and none outside the second one
+-- entries of which one holds of each packet of the first set, and none of a packet outside the second one; where `established` is
+-- asked, of those with ACK or RST, and of no other
 pub record IsCover (site : Site) (act : Act) (needed within : Plain Bool) (block : List IosEntry) : Type 0 where
   pub printed : list_all is_printed_entry block ≡ true
   pub acts : list_all (does act) block ≡ true

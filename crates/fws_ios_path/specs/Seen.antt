@@ -4,7 +4,7 @@ use Rattle.fws_box.specs.Sides.{IsWithin}
 use Rattle.fws_net.specs.declared.packet.Packet.{Packet}
 use Rattle.fws_net.specs.Fates.{has_ports}
 
--- the point is the packet's in all that lists ask for
+-- the point is the packet's in all that lists ask for but flags
 pub record IsSeenAt (p : Packet) (x : List ℕ) : Type 0 where
   pub proto : slice_index x 1 ≡ p.proto
   pub dst : slice_index x 2 ≡ p.dst
@@ -13,7 +13,7 @@ pub record IsSeenAt (p : Packet) (x : List ℕ) : Type 0 where
   pub sport : slice_index x 5 ≡ p.sport
   pub icmp : slice_index x 7 ≡ p.icmp
 
--- two points that lists can't tell apart
+-- two points that lists can't tell apart but by flags
 pub record LookSame (x y : List ℕ) : Type 0 where
   pub proto : slice_index x 1 ≡ slice_index y 1
   pub dst : slice_index x 2 ≡ slice_index y 2
@@ -22,6 +22,6 @@ pub record LookSame (x y : List ℕ) : Type 0 where
   pub sport : has_ports (slice_index x 1) ≡ true → slice_index x 5 ≡ slice_index y 5
   pub icmp : slice_index x 1 ≡ 1 → slice_index x 7 ≡ slice_index y 7
 
--- lists can tell what a function of points gives
+-- lists can tell what a function of points gives, without a test of flags
 abbrev pub IsListed : {X : Type 0} → List ℕ → (List ℕ → X) → Type 0
 IsListed tops f = (x y : List ℕ) → IsWithin tops x → IsWithin tops y → LookSame x y → f x ≡ f y

@@ -52,8 +52,8 @@ pub record IsDeniedBlock (site : Site) (asked : List ℕ → Bool) (block : List
 abbrev pub said_behind : Bool → Bool → Bool → Bool
 said_behind added taken fresh = if added then true else if taken then false else fresh
 
--- what is said ahead of it, by blocks for packets of TCP that are permitted as new ones alone, for those that are denied without
--- ACK and RST, and for those that are so with them
+-- what is said ahead of it, by blocks for packets of TCP that are permitted with ACK or RST alone, for all packets that are denied
+-- without, and for those of TCP that are denied with ACK or RST
 abbrev pub said_ahead : Bool → Bool → Bool → Bool → Bool
 said_ahead first second third rest = if first then true else if second then false else if third then false else rest
 

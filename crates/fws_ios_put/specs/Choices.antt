@@ -63,7 +63,7 @@ pub record IsAsked (flagged tcp fresh known acked_fresh acked_known : Bool) : Ty
   -- what is permitted as new is permitted in connections
   pub go : fresh ≡ true → known ≡ true
   pub acked_go : acked_fresh ≡ true → acked_known ≡ true
-  -- what with ACK or RST is permitted in connections alone is so without
+  -- what with ACK or RST is permitted in connections alone is permitted in connections without
   pub ahead : tcp ≡ true → acked_known ≡ true → acked_fresh ≡ false → known ≡ true
 
 -- what is said of a packet: of one of connections by whether it is permitted in some, of a new one by whether it is as new

@@ -93,10 +93,12 @@ fn read_all(alloc: Global, site: &Site, lines: &Lines) -> Result<IosConfig, Read
 /// The answer `Refused` has the first line, counted from 1, that is refused, and the first cause that its words give from
 /// left to right; the checks of a whole entry come behind its words.
 ///
-/// - `Syntax`: a word isn't spelled as its place asks, or has a byte outside 33 to 126 without quotes; a word lacks; a
-///   second pool of one name.
-/// - `LeftOut`: a word that isn't read, or that stands where it isn't; a list with another number; a pool of more than one
-///   address; a line of zones, inspection, IPv6 or the outside of address translation.
+/// - `Syntax`: a word isn't spelled as its place asks, has a byte outside 33 to 126 without quotes or lacks its closing
+///   quote; a word is missing; a second pool of one name.
+/// - `LeftOut`: a word that isn't read, or that stands where it isn't; a translation of a list that ends ahead of
+///   `overload`; a list with another number; a pool of more than one address; a line of zones, classes, policies,
+///   inspection, IPv6 or the outside of address translation, and at an interface of the site one of policy routing,
+///   verified sources or crypto maps.
 /// - `NoInterface`: an interface that the site doesn't have, where a list is applied, which is put on a side, or whose
 ///   address is to be written.
 /// - `NoName`: a pool that no line defines.

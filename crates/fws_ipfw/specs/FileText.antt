@@ -29,14 +29,16 @@ use Rattle.fws_ipfw.specs.Values.{counted}
 
 -- The instances that lines define
 
--- the words behind `ipfw` and `-q` or `-f`, where they stand
+-- the word is `-q` or `-f`
 abbrev pub is_quiet : List ℕ → Bool
 is_quiet text = bytes_eq text (codes "-q") || bytes_eq text (codes "-f")
 
+-- the words behind `-q` or `-f`, where one stands
 abbrev pub behind_quiet : List Word → List Word
 behind_quiet [] = []
 behind_quiet (w ∷ ws) = if is_quiet w.text then ws else w ∷ ws
 
+-- the words behind `ipfw` and `-q` or `-f`, where they stand
 abbrev pub behind_program : List Word → List Word
 behind_program [] = []
 behind_program (w ∷ ws) = if bytes_eq w.text (codes "ipfw") then behind_quiet ws else w ∷ ws

@@ -1,4 +1,4 @@
--- Configurations whose diagrams keep their walks, which hold of every configuration that a text spells.
+-- What is asked of configurations whose diagrams keep their walks; it holds of every configuration that a text spells.
 use Rattle.std.specs.Prelude.{◌≡◌, ℕ, true, Ok, List}
 use Rattle.std.specs.List.{list_all}
 use Rattle.fws_net.specs.declared.site.Site.{Site}

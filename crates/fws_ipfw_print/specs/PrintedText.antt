@@ -253,7 +253,7 @@ sections =
     (5000, codes "# The look-up of connections. New packets that arrive get tag 1.") ∷
     (4000, codes "# Packets of connections of the host, as they leave.") ∷
     (3000, codes "# Packets of connections that are forwarded, as they leave.") ∷
-    (2000, codes "# New packets that leave and have arrived before go on behind the look-up.") ∷
+    (2000, codes "# As they leave, new packets that have arrived go on at the look-up, and all of the host at its section.") ∷
     (1000, codes "# Packets of connections as they arrive: those that are never accepted are dropped.") ∷ []
 
 -- the comment on the first of these sections that begins behind one number and not behind another

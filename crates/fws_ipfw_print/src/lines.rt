@@ -34,7 +34,7 @@ const SECTIONS: [(u32, &[u8]); 9] = [
     ),
     (
         2000,
-        b"# New packets that leave and have arrived before go on behind the look-up.",
+        b"# As they leave, new packets that have arrived go on at the look-up, and all of the host at its section.",
     ),
     (
         1000,

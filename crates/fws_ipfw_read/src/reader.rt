@@ -100,7 +100,8 @@ fn read_all(alloc: Global, site: &Site, lines: &Lines) -> Result<IpfwConfig, Rea
 ///
 /// - `Syntax`: a word isn't spelled as its place asks, has a byte outside 33 to 126 without quotes or lacks its closing
 ///   quote; a word or a value lacks; an option or an instance is given twice.
-/// - `LeftOut`: a word that isn't read; a rule 65535 other than `deny ip from any to any`; `flush` behind another line;
+/// - `LeftOut`: a word that isn't read; a rule 65535 other than `65535 deny ip from any to any`, or that one behind `add`;
+///   `flush` behind another line;
 ///   `keep-state` on an action other than allow, or of another flow than `:default`; a range of ports or the address
 ///   0.0.0.0 in a redirect.
 /// - `NoInterface`: an interface that the site doesn't have.

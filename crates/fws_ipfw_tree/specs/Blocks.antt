@@ -61,7 +61,8 @@ chosen c site p k outward rest m choice =
 
 -- Blocks
 
--- rules of one number that are printed and plain, and let no packet pass as no leaf of the tree does
+-- rules of one number that are printed and plain; where no leaf of the tree lets packets of a class pass at its rules, no rule of these
+-- does
 pub record IsBlock (site : Site) (number : ℕ) (t : Plain Choice) (block : List IpfwRule) : Type 0 where
   pub numbered : All (λ r. r.number ≡ number) block
   pub printed : (nats : List IpfwNat) → list_all (is_printed_rule site nats) block ≡ true

@@ -1,4 +1,4 @@
--- Configurations whose diagrams keep their walks, which hold of every configuration that a text spells.
+-- What is asked of configurations whose diagrams keep their walks; it holds of every configuration that a text spells.
 use Rattle.std.specs.Prelude.{◌≡◌, ℕ, Bool, true, false, ◌||◌, not, nat_eq, is_some, Ok, List, ◌++◌}
 use Rattle.std.specs.List.{list_all, list_any}
 use Rattle.std.specs.Option.{option_map_or}

@@ -33,9 +33,10 @@ fn drawn(alloc: Global, c: &IptConfig, site: &Site) -> Result<Ifcl, Memory>
     })
 }
 
-/// The control diagram of a configuration on a site. It does with each packet of the site what the
-/// configuration does, new or of a connection, where no chain reaches itself, and is refused where the
-/// configuration is, for the same cause and chain. Three chains of its own come first, with one rule
+/// The control diagram of a configuration on a site. Of a configuration as texts spell it
+/// (`spelled_diagrams`) it does with each packet of the site what the configuration does, new or of a
+/// connection, where no chain reaches itself, and is refused where the configuration is, for the same
+/// cause and chain. Three chains of its own come first, with one rule
 /// each: they put the mark 0 and the destination and the source of a connection in place. The file's
 /// chains follow in their order, with their names and calls, and as many rules as their widths say; the
 /// stages meet the three and the built-in chains. An error is want of memory, or of numbers for chains

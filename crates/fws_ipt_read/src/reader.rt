@@ -61,13 +61,14 @@ fn read_spelled(alloc: Global, text: &[u8], site: &Site) -> Result<IptConfig, Re
 /// its words give from left to right; the checks of a whole rule come behind its words.
 ///
 /// - `Syntax`: a word isn't spelled as its place asks, has a byte outside 33 to 126 without quotes or
-///   lacks its closing quote; a word or a value lacks; an option or a target is given twice; SNAT, DNAT
-///   or MARK lacks the option that says what it writes; a chain is declared twice or without a name, a
-///   table opened twice or within another, or a rule stands outside a table. At the number of lines
-///   plus one: the text ends within a table.
+///   lacks its closing quote; a word or a value is missing; an option or a target is given twice; SNAT,
+///   DNAT, NETMAP or MARK lacks the option that says what it writes; a chain is declared twice or without
+///   a name, a table opened twice or within another, or a rule stands outside a table. At the number of
+///   lines plus one: the text ends within a table.
 /// - `LeftOut`: a word, a module, a target or a table that isn't read; the policy DROP in `nat`, `raw` or `security`; a chain
-///   of the user's or a rule in `raw` or `security`; a target in a table that doesn't have it, or a
-///   limit at a target that doesn't log.
+///   of the user's or a rule in `raw` or `security`; a target in a table that doesn't have it, NETMAP in a
+///   chain of the user's or in a rule that doesn't name the addresses which it maps, a value that is well
+///   spelled and not read, or a limit on a rule that doesn't log.
 /// - `NoInterface`: an interface that the site doesn't have.
 /// - `NoName`: a chain that no earlier line declares in the same table, or a jump to a built-in one.
 /// - `Shape`: a test or a target of a rule asks for a protocol that its `-p` doesn't name.

@@ -39,8 +39,8 @@ past from (x ∷ xs) = past (x.hi + 2) xs
 abbrev pub SameMembersSameList : Type 0
 SameMembersSameList = (s t : List Iv) → IsRegular s → IsRegular t → ((v : ℕ) → has s v ≡ has t v) → s ≡ t
 
--- the set with the numbers from lo to hi, of which lo is no greater: an interval ahead of the first that it doesn't touch,
--- or joined with those that it touches
+-- the set with the numbers from lo to hi, of which lo is no greater: an interval of its own, ahead of the first that begins
+-- past it and doesn't touch it, or joined with those that it touches
 abbrev pub with_range : ℕ → ℕ → List Iv → List Iv
 with_range lo hi [] = record { lo = lo; hi = hi } ∷ []
 with_range lo hi (x ∷ xs) =

@@ -52,7 +52,7 @@ fn put_cubes(out: &mut Vec<Cube>, table: &[bool], bits: u32, cube: Cube) -> Resu
     Ok(())
 }
 
-/// Cubes that hold each member of the set once and no other number. A bit that makes no difference
+/// Cubes that hold each member of the set once and no other number below 64. A bit that makes no difference
 /// isn't tested, so that a set that is one cube gives that cube. The time is that of a few hundred
 /// steps. An error is want of memory.
 pub fn cubes(alloc: Global, set: &Ivs) -> Result<Vec<Cube>, Memory>

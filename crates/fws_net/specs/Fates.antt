@@ -3,10 +3,8 @@ use Rattle.std.specs.Prelude.{ℕ, ◌+◌, ◌-◌, ◌%◌, ◌^◌, Bool, ◌
 use Rattle.fws_net.specs.declared.packet.Packet.{Packet}
 use Rattle.fws_net.specs.declared.outcome.End.{End}
 use Rattle.fws_net.specs.declared.outcome.Rewrite.{Rewrite}
-use Rattle.fws_net.specs.declared.outcome.Outcome.{Outcome}
-use Rattle.fws_net.specs.declared.outcome.Outcome.TheVariants.{Drop, Accept}
 use Rattle.fws_net.specs.declared.outcome.Fate.{Fate}
-use Rattle.fws_net.specs.declared.outcome.Fate.TheVariants.{Dropped, Sent}
+use Rattle.fws_net.specs.declared.outcome.Fate.TheVariants.{Sent}
 
 -- TCP and UDP have ports
 abbrev pub has_ports : ℕ → Bool
@@ -28,8 +26,3 @@ sent_port proto end port = if has_ports proto then written_port end port else po
 -- the fate of an accepted new packet: each written end stands over its address and port
 abbrev pub sent : Rewrite → Packet → Fate
 sent w p = Sent (written_addr w.dst p.dst) (sent_port p.proto w.dst p.dport) (written_addr w.src p.src) (sent_port p.proto w.src p.sport)
-
--- the fate of a new packet
-abbrev pub fate_of : Outcome → Packet → Fate
-fate_of Drop p = Dropped
-fate_of (Accept w) p = sent w p

@@ -214,10 +214,11 @@ route_step _ d = Err Syntax
 
 -- The last lines
 
--- there is an interface, and each has an address
+-- the interface has an address
 abbrev pub has_addresses : Iface → Bool
 has_addresses face = nat_le 1 (length face.addrs)
 
+-- there is an interface, and each has an address
 abbrev pub are_addressed : List Iface → Bool
 are_addressed faces = nat_le 1 (length faces) && list_all has_addresses faces
 

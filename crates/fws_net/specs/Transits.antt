@@ -79,11 +79,13 @@ with_verdict accepts t = record t { verdict = accepts }
 abbrev pub with_wrote : Packet → Rewrite → Transit → Transit
 with_wrote p w t = record t { packet = rewritten p w; wrote = w }
 
--- an end is written over the source; what was written over the destination stays
+-- an end is written over the source: what was written over the destination stays, and ends of a connection that were put in place
+-- are gone
 abbrev pub with_src : Packet → End → Transit → Transit
 with_src p e t = with_wrote p (record t.wrote { src = Some e }) t
 
--- an end is written over the destination; what was written over the source stays
+-- an end is written over the destination: what was written over the source stays, and ends of a connection that were put in place
+-- are gone
 abbrev pub with_dst : Packet → End → Transit → Transit
 with_dst p e t = with_wrote p (record t.wrote { dst = Some e }) t
 

@@ -102,7 +102,8 @@ impl Transit {
         }
     }
 
-    /// Writes the end over the source of the packet that entered as `p`.
+    /// Writes the end over the source of the packet that entered as `p`. Ends of a connection that were put in place are gone
+    /// then.
     pub fn with_src(self, p: &Packet, end: End) -> Transit
         ensures { result ≡ with_src p.now end self }
     {
@@ -113,7 +114,8 @@ impl Transit {
         self.with_wrote(p, wrote)
     }
 
-    /// Writes the end over the destination of the packet that entered as `p`.
+    /// Writes the end over the destination of the packet that entered as `p`. Ends of a connection that were put in place are
+    /// gone then.
     pub fn with_dst(self, p: &Packet, end: End) -> Transit
         ensures { result ≡ with_dst p.now end self }
     {

@@ -92,11 +92,12 @@ abbrev pub value_choices : List Table → (List Iv → Test) → List Item → L
 value_choices tables test [] = []
 value_choices tables test (item ∷ items) = choice_of tables test (item ∷ items) ∷ []
 
--- not SYN alone of SYN and ACK is none of: neither, ACK alone, both
+-- of SYN and ACK a packet of TCP has SYN alone: it isn't one with neither, with ACK alone or with both; packets of other protocols
+-- pass
 abbrev pub implied_flags : List Lit
 implied_flags = negative (tests.Flags 18 0) ∷ negative (tests.Flags 18 16) ∷ negative (tests.Flags 18 18) ∷ []
 
--- a rule that keeps state and has no flags is for the first packets of TCP connections alone
+-- of TCP a rule that keeps state and has no flags is for the first packets of connections alone
 abbrev pub implies_flags : RuleDraft → Bool
 implies_flags d = passes d.verb && not d.stateless && not d.has_flags
 

@@ -14,7 +14,7 @@ mod words;
 
 pub use config::{PfConfig, PfNat, PfRule, Way};
 pub use laws::{fitting_walks_are_regular, spelled_fits, spelled_walks_are_regular};
-pub use macros::{Macro, MacroDraft};
+pub use macros::Macro;
 pub use rule_draft::{Choice, Expects, Place, RuleDraft, Target, Verb};
 pub use statement::{Mode, Statement, TableDraft, TableExpects};
 pub use tables::Table;

@@ -10,12 +10,3 @@ pub struct Macro {
     /// The words that stand for it.
     pub words: Items<Word>,
 }
-
-/// What was read so far of a macro's value.
-#[derive(Drop)]
-pub struct MacroDraft {
-    /// The name.
-    pub name: Text,
-    /// The words so far.
-    pub words: Items<Word>,
-}

@@ -1,6 +1,6 @@
 //! Words that say what a rule does and which packets it is for (pf.conf(5)).
 
-/// What follows `block` at once.
+/// A word with which a filter rule or a translation begins.
 #[derive(Clone, Copy, Debug, PartialEq, Eq)]
 pub enum ActionWord {
     /// `block`

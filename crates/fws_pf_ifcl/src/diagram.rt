@@ -164,7 +164,8 @@ fn drawn(alloc: Global, c: &PfConfig) -> Result<Ifcl, Memory>
 /// The control diagram of a configuration. On every site it does with each packet what the configuration
 /// does, new or of a connection, and it can be unfolded. One chain has the rules of packets that come in,
 /// and one those of packets that go out: translations, the first of which that matches skips to the filter
-/// rules, and these, whose verdict so far is held. An error is want of memory, or of numbers for rules.
+/// rules, and these, whose verdict so far is held as long as a later one puts a tag, and of which behind that
+/// the one that decides stands first. An error is want of memory, or of numbers for rules.
 /// Linear in the rules.
 pub fn to_ifcl(alloc: Global, c: &PfConfig, site: &Site) -> Result<Ifcl, Memory>
     ensures diagram { IfOk result (λ d. d ≡ diagram_of c.now) }

@@ -9,7 +9,7 @@ use fws_iv::{Ivs, prefixes};
 use fws_num::{Items, Memory, Prefix};
 use std::alloc::Global;
 
-/// Puts the parts of a block that have this length, or the block itself if it isn't longer. An error is
+/// Puts the parts of a block that have this length, or the block itself if its length isn't less. An error is
 /// want of memory.
 fn put_parts(blocks: &mut Items<Prefix>, block: Prefix, len: u8) -> Result<(), Memory>
     requires block { IsBlock block }

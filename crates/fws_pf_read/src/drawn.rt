@@ -13,7 +13,7 @@ use fws_pf::{Choice, Place};
 use fws_pf_words::{ItemList, Tables, implied_flags, only, place_size, put_choice, times};
 use std::alloc::Global;
 
-/// Whether a rule is for the first packets of TCP connections alone, since it keeps state and has no flags.
+/// Whether a rule is, of TCP, for the first packets of connections alone, since it keeps state and has no flags.
 fn implies_flags(d: &Draft) -> bool
     ensures { result ≡ implies_flags (draft_of d.now) }
 {

@@ -100,8 +100,8 @@ fn read_lines(alloc: Global, site: &Site, lines: &Lines) -> Result<PfConfig, Rea
 ///
 /// - `Syntax`: a word isn't spelled as its place asks, has a byte outside 33 to 126 without quotes or lacks its closing quote; a
 ///   word or a value lacks; an option or a table is given twice.
-/// - `LeftOut`: a word that isn't read, or that stands where it isn't; a network that is written without `bitmask`, or over other
-///   addresses than those of one network as large.
+/// - `LeftOut`: a word that isn't read, or that stands where it isn't; a network that is written without `bitmask`, over other
+///   addresses than those of one network as large, or that has every address.
 /// - `NoInterface`: an interface that the site doesn't have.
 /// - `NoName`: a macro that no definition ahead has, or a table that no statement defines.
 /// - `Shape`: ports, flags or types of ICMP without the protocols that have them.

@@ -1,13 +1,9 @@
 -- Literals at their places in a condition.
-use Rattle.std.specs.Prelude.{ℕ, Bool, true, false, ◌&&◌, nat_eq, nat_lt, Option, Some, None, List, [], ◌∷◌, if◌then◌else◌}
-use Rattle.std.specs.List.{list_any}
-use Rattle.std.specs.Option.{option_map_or}
+use Rattle.std.specs.Prelude.{ℕ, Bool, false, ◌&&◌, nat_eq, nat_lt, Option, Some, None, List, [], ◌∷◌, if◌then◌else◌}
 use Rattle.fws_net.specs.declared.condition.Lit.{Lit}
 use Rattle.fws_net.specs.declared.condition.Test.{Test}
 use Rattle.fws_net.specs.declared.condition.Test.TheVariants as tests
 use Rattle.fws_net.specs.declared.site.Site.{Site}
-use Rattle.fws_net.specs.declared.view.View.{View}
-use Rattle.fws_net.specs.Conditions.{lit_holds}
 use Rattle.fws_pf_print.specs.Printable.{place_of, is_printed_literal}
 
 -- a literal that isn't negated
@@ -31,14 +27,6 @@ inserted lit (x ∷ xs) = if nat_lt (place_of lit.test) (place_of x.test) then l
 abbrev pub with_lit : Option Lit → List Lit → List Lit
 with_lit None cond = cond
 with_lit (Some lit) cond = inserted lit cond
-
--- it holds, or there is none
-abbrev pub holds_or_none : View → Option Lit → Bool
-holds_or_none v lit = option_map_or (lit_holds v) lit true
-
--- some literal has the place
-abbrev pub has_place : ℕ → List Lit → Bool
-has_place n cond = list_any (λ lit. nat_eq (place_of lit.test) n) cond
 
 -- a literal with this place that is printed under the protocol
 abbrev pub is_printed_at : Site → ℕ → ℕ → Lit → Bool

@@ -1,4 +1,4 @@
--- States: the nodes of a tree that decide alike on packets have the same one.
+-- States: each node of a tree has one, a node that decides alike on packets, but for destinations.
 use Rattle.std.specs.Prelude.{◌≡◌, ◌⊎◌, ℕ, ◌≤◌, ◌<◌, Option, Some, List, length, slice_get, slice_index, All}
 use Rattle.fws_net.specs.declared.outcome.End.{End}
 use Rattle.fws_net.specs.declared.outcome.Outcome.{Outcome}

@@ -93,29 +93,8 @@ pub fn put_choice(
     Ok(())
 }
 
-/// An equal choice.
-fn copy_choice(alloc: Global, choice: &Choice) -> Result<Choice, Memory>
-    ensures { IfOk result (λ c. c ≡ choice.now) }
-{
-    let mut conds = Items::new(alloc);
-    for cond in choice.conds.as_slice() {
-        conds.put(cond.copy(alloc)?)?;
-    }
-    Ok(Choice { conds })
-}
-
-/// Puts choices behind others. An error is want of memory.
-pub fn put_choices(alloc: Global, choices: &[Choice], all: &mut Items<Choice>) -> Result<(), Memory>
-    ensures { OnOk result (all.new ≡ all.old ++ choices.now) }
-{
-    for choice in choices {
-        all.put(copy_choice(alloc, choice)?)?;
-    }
-    Ok(())
-}
-
-/// The condition that SYN alone of SYN and ACK is set: it is not neither, not ACK alone and not both. An error is want of
-/// memory.
+/// The condition that of SYN and ACK a packet of TCP has SYN alone: not neither, not ACK alone and not both. Packets of other
+/// protocols pass. An error is want of memory.
 pub fn implied_flags(alloc: Global) -> Result<Cond, Memory>
     ensures { IfOk result (λ c. c ≡ implied_flags) }
 {

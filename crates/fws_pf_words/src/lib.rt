@@ -27,13 +27,13 @@ mod ways;
 
 pub use addresses::modified;
 pub use blocks::maps_blocks;
-pub use choices::{choice_of, conditions, implied_flags, only, put_choice, put_choices};
+pub use choices::{choice_of, conditions, implied_flags, only, put_choice};
 pub use defined::{define, value_defined};
 pub use defining::table_defined;
 pub use flags::read_flags;
 pub use items::begins_with_digit;
 pub use known_uses::{KnownUses, Source};
-pub use limits::{expanded_by, expanded_with, place_size, rule_count, times};
+pub use limits::{expanded_by, expanded_with, place_size, times};
 pub use lists::ItemList;
 pub use long_value::{LongValue, Spot};
 pub use macros::{

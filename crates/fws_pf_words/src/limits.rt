@@ -1,12 +1,11 @@
 //! How many rules statements make, and may make.
 
 ghost use Rattle.std.specs.Prelude.{◌≡◌, ◌*◌, ℕ, min, IfOk};
-ghost use Rattle.fws_pf.specs.Drawn.{condition_count, expanded_with};
+ghost use Rattle.fws_pf.specs.Drawn.{expanded_with};
 ghost use Rattle.fws_pf_words.specs.Limits.{place_size, within_limit};
 
 use crate::lists::ItemList;
 use fws_num::Memory;
-use fws_pf::Choice;
 
 /// How many conditions are told apart: 200,000 and more can still be counted.
 const MOST_CONDITIONS: u64 = 400_000;
@@ -23,16 +22,6 @@ pub fn times(a: u64, b: u64) -> u64
     ensures { (x y : ℕ) → min a 400000 ≡ min x 400000 → min b 400000 ≡ min y 400000 → result ≡ min (x * y) 400000 }
 {
     product(a, b)
-}
-
-/// How many conditions there are, where they are no more than 400,000, and else 400,000.
-pub fn rule_count(choices: &[Choice]) -> u64
-    ensures { result ≡ min (condition_count choices.now) 400000 }
-{
-    match choices.split_first() {
-        None => 1,
-        Some((choice, rest)) => times(choice.conds.len() as u64, rule_count(rest)),
-    }
 }
 
 /// How many conditions the values of a place are.

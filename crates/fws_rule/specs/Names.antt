@@ -9,7 +9,7 @@ use Rattle.fws_net.specs.Faces.{entry_named, name_in}
 use Rattle.fws_net.specs.SiteLaws.{IsOrderly}
 use Rattle.fws_net.specs.SiteWords.{is_name_byte}
 
--- the name of an entry's interface in a system; none where the site has no such interface
+-- the name of an entry's interface in a system, for entries from 1 on; none past the last interface
 abbrev pub interface_name : Lang → Site → ℕ → List ℕ
 interface_name lang site entry =
     if nat_eq entry 1 then name_in lang site.lo else option_map_or (λ face. name_in lang face.names) (slice_get site.faces (entry - 2)) []

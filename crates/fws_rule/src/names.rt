@@ -6,7 +6,7 @@ ghost use Rattle.fws_rule.specs.Names.{interface_name};
 use fws_net::{Lang, Site};
 
 /// The name in a system of the interface with this entry number, which is 1 for loopback and 2 or more for
-/// those of the site; empty where the site has no such interface.
+/// those of the site; empty past the last interface. The host has none: 0 gives what 2 gives.
 pub fn interface_name(site: &Site, lang: Lang, entry: u32) -> &[u8]
     ensures { result.now ≡ interface_name lang site.now entry }
 {

@@ -1,4 +1,4 @@
-//! Execution on sets of packets.
+//! What rules see of the packets of a box, and the boxes of an area where their conditions hold.
 #![tactic(auto)]
 
 mod address_boxes;

@@ -1,5 +1,4 @@
 pub mod Cells
-pub mod Changing
 pub mod Copying
 pub mod Counted
 pub mod Covering

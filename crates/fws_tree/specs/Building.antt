@@ -1,5 +1,5 @@
 -- What the builder of reduced trees keeps.
-use Rattle.std.specs.Prelude.{◌≡◌, ℕ, ◌+◌, ◌≤◌, ◌⊎◌, Bool, ◌&&◌, nat_lt, nat_le, true, Option, Some, None, map, List, [], ◌∷◌, ◌++◌, slice_get, if◌then◌else◌}
+use Rattle.std.specs.Prelude.{◌≡◌, ℕ, ◌+◌, ◌≤◌, ◌⊎◌, nat_lt, true, Some, map, List, [], ◌∷◌, ◌++◌, slice_get, if◌then◌else◌}
 use Rattle.std.specs.List.{AllByRecursion}
 use Rattle.fws_iv.specs.declared.iv.Iv.{Iv}
 use Rattle.fws_iv.specs.Ivs.{has, IsRegular}
@@ -56,15 +56,6 @@ pub record AreKidsTo (end : ℕ) (ks : List Kid) : Type 0 where
   pub regular : AllByRecursion (λ k. IsRegular k.set) ks
   pub hits : (x : ℕ) → kid_hits ks x ≡ (if nat_lt x end then 1 else 0)
   pub rise : LeastsRise 0 ks
-
--- a piece has the value
-abbrev pub in_piece : {T : Type 0} → Piece T → ℕ → Bool
-in_piece p x = nat_le p.lo x && nat_le x p.hi
-
--- what the first piece of a value holds
-abbrev pub held_at : {T : Type 0} → List (Piece T) → ℕ → Option T
-held_at [] x = None
-held_at (p ∷ ps) x = if in_piece p x then Some p.held else held_at ps x
 
 -- numbers that stand for the leaves of rows, by their places in a list
 abbrev pub AreNumbersOf : {L : Type 0} → List L → List ℕ → List (Row L) → Type 0

@@ -17,7 +17,7 @@ use Rattle.fws_tree.specs.Plain.{Plain, value}
 abbrev pub IsFreeOf : List ℕ → Plain Outcome → ℕ → List ℕ → Type 0
 IsFreeOf tops t f p = (x : ℕ) → x ≤ slice_index tops f → value t (slice_set p f x) ≡ value t p
 
--- a field that holds a port: of the packet, or of the packet as its connection was made
+-- a field that holds a port: of the packet, or of the packet as its connection sends it
 abbrev pub is_port : ℕ → Bool
 is_port f = nat_eq f 3 || nat_eq f 5 || nat_eq f 9 || nat_eq f 11
 

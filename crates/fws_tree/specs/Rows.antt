@@ -1,5 +1,5 @@
 -- Rows: a set for each field, and a leaf for the points that lie in all of them.
-use Rattle.std.specs.Prelude.{◌≡◌, ℕ, ◌+◌, IsTrue, Option, Some, List, [], ◌∷◌, ◌++◌, slice_set, All, if◌then◌else◌}
+use Rattle.std.specs.Prelude.{ℕ, ◌+◌, List, [], ◌∷◌, ◌++◌, slice_set, if◌then◌else◌}
 use Rattle.fws_iv.specs.declared.iv.Iv.{Iv}
 use Rattle.fws_box.specs.Sides.{sides_have, whole_sides}
 use Rattle.fws_tree.specs.declared.row.Row.{Row}
@@ -28,8 +28,3 @@ abbrev mutual
 -- the paths of a tree over these tops
 abbrev pub paths_of : {L : Type 0} → List ℕ → Plain L → List (Row L)
 paths_of tops t = paths_below (whole_sides tops) t
-
--- where one row alone holds the point and has this value there, the first row that holds it has the value
-abbrev pub PathsGiveValues : Type 0 → Type 0
-PathsGiveValues L = (rows : List (Row L)) (rest : L) (p : List ℕ) (v : Option L) → row_hits rows p ≡ 1
-    → All (λ row. IsTrue (sides_have row.sides p) → v ≡ Some row.leaf) rows → v ≡ Some (first_leaf rows rest p)

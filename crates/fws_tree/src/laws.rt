@@ -1,7 +1,6 @@
 //! Laws of reduced trees.
 
 ghost use Rattle.fws_tree.specs.Plain.{OneReducedTree, HasValues};
-ghost use Rattle.fws_tree.specs.Rows.{PathsGiveValues};
 
 use fws_iv::same_members_same_list;
 
@@ -17,10 +16,4 @@ pub fn one_reduced_tree<L: Drop>()
 /// the law.
 pub fn has_values<L: Drop>()
     ensures { HasValues L }
-{}
-
-/// Where a point lies in just one of the rows, the first leaf is that row's. The call does nothing:
-/// its contract is the law.
-pub fn first_of_paths<L: Drop>()
-    ensures { PathsGiveValues L }
 {}

@@ -44,7 +44,7 @@ mod walk;
 
 pub use build::from_rows;
 pub use canvas::Canvas;
-pub use laws::{first_of_paths, has_values, one_reduced_tree};
+pub use laws::{has_values, one_reduced_tree};
 pub use leaf::Leaf;
 pub use mark::Mark;
 pub use moves::Moves;

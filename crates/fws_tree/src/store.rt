@@ -82,8 +82,8 @@ impl Store {
         }
     }
 
-    /// How much the store holds: its cells and their steps, all in all.
-    pub fn size(&self) -> u64 {
+    /// How much the store holds: its cells and their steps, all in all. Nothing hangs on it but time.
+    pub(crate) fn size(&self) -> u64 {
         self.size
     }
 
