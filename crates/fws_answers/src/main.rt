@@ -10,9 +10,8 @@ mod table;
 mod wanted;
 
 use crate::stop::Stop;
-use crate::table::follow_table;
+use crate::table::{Said, follow_table};
 use fws_io::{Shelf, StdShelf, StdSink, write_all};
-use fws_num::Text;
 use fws_top::FILE_LIMIT;
 use std::alloc::Global;
 use std::process::ExitCode;
@@ -22,23 +21,26 @@ use std::rt::Files;
 const TABLE: &[u8] = b"answers.cases";
 
 /// Follows the table, and says what its cases came to.
-fn said_of<S: Shelf>(alloc: Global, files: &mut S) -> Result<Text, Stop> {
+fn said_of<S: Shelf>(alloc: Global, files: &mut S) -> Result<Said, Stop> {
     let table = files.read(alloc, TABLE, FILE_LIMIT)?;
     follow_table(alloc, files, table.as_slice())
 }
 
-/// Follows the table, and writes what its cases came to.
-fn follow_cases<R: Files + Print + AllocGlobal>(rt: &R) -> Result<(), Stop> {
+/// Follows the table, writes what its cases came to, and says whether all are as expected.
+fn follow_cases<R: Files + Print + AllocGlobal>(rt: &R) -> Result<bool, Stop> {
     let said = said_of(rt.alloc(), &mut StdShelf::new(rt))?;
-    match write_all(&mut StdSink::new(rt), said.as_slice()) {
-        Ok(()) => Ok(()),
+    match write_all(&mut StdSink::new(rt), said.text.as_slice()) {
+        Ok(()) => Ok(said.agrees),
         Err(_) => Err(Stop::Unread),
     }
 }
 
+/// Ends with 1 where a case isn't as expected or a line can't be followed, and with 3, 4 or 6 where the table isn't read,
+/// what it came to isn't written, or memory is wanting.
 fn main(rt: HostRuntime) -> ExitCode {
     match follow_cases(&rt) {
-        Ok(()) => ExitCode::SUCCESS,
+        Ok(true) => ExitCode::SUCCESS,
+        Ok(false) => ExitCode::from(1),
         Err(Stop::Malformed) => ExitCode::from(3),
         Err(Stop::Unread) => ExitCode::from(4),
         Err(Stop::Memory) => ExitCode::from(6),

@@ -25,6 +25,15 @@ fn number(word: &Word) -> Result<u64, Stop> {
     }
 }
 
+/// What the lines followed so far came to.
+#[derive(Drop)]
+pub struct Said {
+    /// A line for each case, with what was found where it isn't as expected.
+    pub text: Text,
+    /// Whether each line could be followed, and each case is as expected.
+    pub agrees: bool,
+}
+
 /// So many bytes `#`.
 fn filled(alloc: Global, length: usize) -> Result<Text, Memory> {
     let bytes = vec![in alloc; b'#'; length]?;
@@ -86,19 +95,20 @@ fn put_found(said: &mut Text, command: &Word, found: &Found) -> Result<(), Memor
 
 /// Adds what a case came to: that it is as expected, or what was found instead.
 fn put_verdict(
-    said: &mut Text,
+    said: &mut Said,
     kind: &Word,
     command: &Word,
     found: &Found,
     agrees: bool,
 ) -> Result<(), Memory> {
-    said.put(kind.text.as_slice())?;
-    said.put(b" ")?;
-    said.put(command.text.as_slice())?;
+    said.text.put(kind.text.as_slice())?;
+    said.text.put(b" ")?;
+    said.text.put(command.text.as_slice())?;
     if agrees {
-        said.put(b": as expected\n")
+        said.text.put(b": as expected\n")
     } else {
-        put_found(said, command, found)
+        said.agrees = false;
+        put_found(&mut said.text, command, found)
     }
 }
 
@@ -120,7 +130,7 @@ fn is_as_expected<S: Shelf>(
 fn judge_found<S: Shelf>(
     alloc: Global,
     files: &mut S,
-    said: &mut Text,
+    said: &mut Said,
     kind: &Word,
     command: &Word,
     found: &Found,
@@ -136,7 +146,7 @@ fn try_case<S: Shelf>(
     alloc: Global,
     files: &mut S,
     outside: &mut Outside,
-    said: &mut Text,
+    said: &mut Said,
     kind: &Word,
     command: &Word,
     status: &Word,
@@ -176,7 +186,7 @@ fn follow<S: Shelf>(
     alloc: Global,
     files: &mut S,
     outside: &mut Outside,
-    said: &mut Text,
+    said: &mut Said,
     words: &[Word],
 ) -> Result<(), Stop> {
     if !are_sound(words) {
@@ -194,10 +204,11 @@ fn follow<S: Shelf>(
 }
 
 /// Names a line that can't be followed.
-fn put_unfollowed(said: &mut Text, number: u32) -> Result<(), Memory> {
-    said.put(b"line ")?;
-    put_dec(said, u64::from(number))?;
-    said.put(b" can't be followed\n")
+fn put_unfollowed(said: &mut Said, number: u32) -> Result<(), Memory> {
+    said.agrees = false;
+    said.text.put(b"line ")?;
+    put_dec(&mut said.text, u64::from(number))?;
+    said.text.put(b" can't be followed\n")
 }
 
 /// Follows a line, or names it where it can't be followed.
@@ -205,7 +216,7 @@ fn follow_line<S: Shelf>(
     alloc: Global,
     files: &mut S,
     outside: &mut Outside,
-    said: &mut Text,
+    said: &mut Said,
     line: &Line,
 ) -> Result<(), Memory> {
     match follow(alloc, files, outside, said, line.words.as_slice()) {
@@ -220,7 +231,7 @@ fn follow_lines<S: Shelf>(
     alloc: Global,
     files: &mut S,
     outside: &mut Outside,
-    said: &mut Text,
+    said: &mut Said,
     lines: &[Line],
 ) -> Result<(), Memory> {
     for line in lines {
@@ -235,20 +246,23 @@ fn said_over<S: Shelf>(
     files: &mut S,
     outside: &mut Outside,
     lines: &[Line],
-) -> Result<Text, Memory> {
-    let mut said = Text::new(alloc);
+) -> Result<Said, Memory> {
+    let mut said = Said {
+        text: Text::new(alloc),
+        agrees: true,
+    };
     follow_lines(alloc, files, outside, &mut said, lines)?;
     Ok(said)
 }
 
 /// Follows lines, and says what their cases came to.
-fn said_of_lines<S: Shelf>(alloc: Global, files: &mut S, lines: &[Line]) -> Result<Text, Memory> {
+fn said_of_lines<S: Shelf>(alloc: Global, files: &mut S, lines: &[Line]) -> Result<Said, Memory> {
     let mut outside = Outside::new(alloc, 0)?;
     said_over(alloc, files, &mut outside, lines)
 }
 
 /// Follows the table of a text, and says what its cases came to; a line that can't be followed is named.
-pub fn follow_table<S: Shelf>(alloc: Global, files: &mut S, table: &[u8]) -> Result<Text, Stop> {
+pub fn follow_table<S: Shelf>(alloc: Global, files: &mut S, table: &[u8]) -> Result<Said, Stop> {
     let lines = read_lines(alloc, Comments::HashLine, table)?;
     Ok(said_of_lines(alloc, files, lines.lines.as_slice())?)
 }
