@@ -1,3 +1,4 @@
 pub mod Cubes
 pub mod Ivs
 pub mod Prefixes
+pub mod Stored

@@ -6,9 +6,9 @@ ghost use Rattle.fws_iv.specs.Ivs.{has, AreRanges, IsRegular, least, with_range,
 use crate::find::has_number;
 use crate::inter::inter_into;
 use crate::iv::Iv;
-use crate::joined::join_last;
 use crate::minus::minus_into;
 use crate::ranges::parts_of_ranges;
+use crate::stored::Stored;
 use crate::union::union_into;
 use fws_num::Memory;
 use std::alloc::Global;
@@ -17,7 +17,7 @@ use std::marker::Model;
 /// A set of numbers, as the list of its intervals in ascending order, of which no two touch.
 #[derive(Drop)]
 pub struct Ivs {
-    parts: Vec<Iv>,
+    parts: Stored,
 }
 
 impl Model for Ivs {
@@ -27,10 +27,11 @@ impl Model for Ivs {
     ghost Value = { List Iv };
 
     ghost use Rattle.fws_iv.specs.Ivs.{IsRegular};
+    ghost use Rattle.fws_iv.specs.Stored.{stored};
 
-    ghost view = { λ s. s.parts.items };
+    ghost view = { λ s. stored s.parts };
 
-    ghost invariant = { λ s. IsRegular s.parts.items };
+    ghost invariant = { λ s. IsRegular (stored s.parts) };
 }
 
 impl Ivs {
@@ -39,7 +40,7 @@ impl Ivs {
         ensures { result ≡ [] }
     {
         Ivs {
-            parts: Vec::new(alloc),
+            parts: Stored::none(alloc),
         }
     }
 
@@ -51,9 +52,8 @@ impl Ivs {
         ensures value { IfOk result (λ s. s ≡ with_ranges [] ranges.now) }
         ensures members { IfOk result (λ s. (v : ℕ) → has s v ≡ has ranges.now v) }
     {
-        Ok(Ivs {
-            parts: parts_of_ranges(alloc, ranges)?,
-        })
+        let parts = parts_of_ranges(alloc, ranges)?;
+        Ivs::kept(alloc, parts)
     }
 
     /// The set of these intervals, which ascend and of which no two touch. An error is want of memory.
@@ -61,8 +61,16 @@ impl Ivs {
         requires { IsRegular parts.now }
         ensures { IfOk result (λ s. s ≡ parts.now) }
     {
+        Ivs::kept(alloc, Vec::from_slice(alloc, parts)?)
+    }
+
+    /// The set of these intervals, kept as it is. An error is want of memory.
+    fn kept(alloc: Global, parts: Vec<Iv>) -> Result<Ivs, Memory>
+        requires { IsRegular parts.items }
+        ensures { IfOk result (λ s. s ≡ parts.items) }
+    {
         Ok(Ivs {
-            parts: Vec::from_slice(alloc, parts)?,
+            parts: Stored::of(alloc, parts)?,
         })
     }
 
@@ -78,7 +86,7 @@ impl Ivs {
     pub fn is_empty(&self) -> bool
         ensures { IsTrue result ↔ (self.now ≡ []) }
     {
-        self.parts.is_empty()
+        self.parts().is_empty()
     }
 
     /// Whether `v` is a member. The time is logarithmic in the number of intervals.
@@ -88,11 +96,13 @@ impl Ivs {
         has_number(self.parts.as_slice(), v)
     }
 
-    /// An equal set. An error is want of memory.
+    /// An equal set, which shares its intervals with this one where they are many. An error is want of memory.
     pub fn copy(&self, alloc: Global) -> Result<Ivs, Memory>
         ensures { IfOk result (λ s. s ≡ self.now) }
     {
-        Ivs::of_parts(alloc, self.parts())
+        Ok(Ivs {
+            parts: self.parts.copy(alloc)?,
+        })
     }
 
     /// Adds the numbers from `lo` to `hi`, all past those that are there; they join the last interval
@@ -106,7 +116,7 @@ impl Ivs {
         ensures regular { IsRegular self.new }
         ensures err { OnErr result (self.new ≡ self.old) }
     {
-        join_last(&mut self.parts, lo, hi)
+        self.parts.join_last(lo, hi)
     }
 
     /// The members of either set. The time is linear in the number of intervals. An error is want of
@@ -116,7 +126,7 @@ impl Ivs {
     {
         let mut parts = Vec::new(alloc);
         union_into(&mut parts, self.parts(), other.parts())?;
-        Ok(Ivs { parts })
+        Ivs::kept(alloc, parts)
     }
 
     /// The members, and the numbers from `lo` to `hi`, of which `lo` is no greater. The time is linear
@@ -129,7 +139,7 @@ impl Ivs {
     {
         let mut parts = Vec::new(alloc);
         union_into(&mut parts, self.parts(), &[Iv { lo, hi }])?;
-        Ok(Ivs { parts })
+        Ivs::kept(alloc, parts)
     }
 
     /// The members that the sets share. The time is linear in the number of intervals. An error is
@@ -139,7 +149,7 @@ impl Ivs {
     {
         let mut parts = Vec::new(alloc);
         inter_into(&mut parts, self.parts(), other.parts())?;
-        Ok(Ivs { parts })
+        Ivs::kept(alloc, parts)
     }
 
     /// The members that `other` has not. The time is linear in the number of intervals. An error is
@@ -149,7 +159,7 @@ impl Ivs {
     {
         let mut parts = Vec::new(alloc);
         minus_into(&mut parts, self.parts(), other.parts())?;
-        Ok(Ivs { parts })
+        Ivs::kept(alloc, parts)
     }
 }
 
@@ -160,5 +170,5 @@ pub fn one(alloc: Global, lo: u32, hi: u32) -> Result<Ivs, Memory>
 {
     let mut parts = Vec::new(alloc);
     parts.push(Iv { lo, hi })?;
-    Ok(Ivs { parts })
+    Ivs::kept(alloc, parts)
 }

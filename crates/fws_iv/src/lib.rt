@@ -14,6 +14,7 @@ mod law;
 mod minus;
 mod prefix_list;
 mod ranges;
+mod stored;
 mod union;
 
 pub use coverage::Overlap;
