@@ -24,6 +24,10 @@ sink_fails sink = sink.failing.listed
 abbrev pub puts_made : MemSink → ℕ
 puts_made sink = sink.failing.made
 
+-- for how many puts there was no memory
+abbrev pub puts_refused : MemSink → ℕ
+puts_refused sink = sink.refused.count
+
 -- the greatest length of one put
 abbrev pub most_of : MemSink → ℕ
 most_of sink = sink.most

@@ -11,6 +11,7 @@ mod std_shelf;
 mod std_sink;
 mod sure_shelf;
 mod sure_sink;
+mod turns;
 
 pub use mem_shelf::MemShelf;
 pub use mem_sink::MemSink;

@@ -80,6 +80,9 @@ impl Shelf for MemShelf {
 
     ghost faults = { λ s name. s.faults.count };
 
+    // The whole content is at hand, so that a read is one turn.
+    ghost turns = { λ s. reads_made s };
+
     fn read(&mut self, alloc: Global, name: &[u8], limit: usize) -> Result<Text, ShelfAnswer>
         ensures same { ⟦<MemShelf as Shelf>⟧.told self.new ≡ ⟦<MemShelf as Shelf>⟧.told self.old }
         ensures whole { IfOk result (λ text. (held : List ℕ → List ℕ) → ⟦<MemShelf as Shelf>⟧.told self.old ≡ Some held → text ≡ held name.now) }
@@ -87,6 +90,7 @@ impl Shelf for MemShelf {
         ensures failed { IsErrOf result ShelfAnswer.Failed → Rose (⟦<MemShelf as Shelf>⟧.faults self.old name.now) (⟦<MemShelf as Shelf>⟧.faults self.new name.now) }
         ensures counts { (IsErrOf result ShelfAnswer.Failed → ⊥) → ⟦<MemShelf as Shelf>⟧.faults self.new ≡ ⟦<MemShelf as Shelf>⟧.faults self.old }
         ensures never_falls { (any : List ℕ) → ⟦<MemShelf as Shelf>⟧.faults self.old any ≤ ⟦<MemShelf as Shelf>⟧.faults self.new any }
+        ensures turns { ⟦<MemShelf as Shelf>⟧.turns self.new ≤ ⟦<MemShelf as Shelf>⟧.turns self.old + limit + 1 }
         ensures over { (taken : ℕ) → IsErrOf result (ShelfAnswer.TooLong taken) → limit < taken }
         ensures over_told { (taken : ℕ) (held : List ℕ → List ℕ) → IsErrOf result (ShelfAnswer.TooLong taken) → ⟦<MemShelf as Shelf>⟧.told self.old ≡ Some held → limit < length (held name.now) }
         ensures taken_told { (taken : ℕ) (held : List ℕ → List ℕ) → IsErrOf result (ShelfAnswer.TooLong taken) → ⟦<MemShelf as Shelf>⟧.told self.old ≡ Some held → taken ≤ length (held name.now) }

@@ -1,6 +1,6 @@
 //! A sink in memory, of which chosen calls fail.
 
-ghost use Rattle.std.specs.Prelude.{◌≡◌, ◌+◌, ◌-◌, ◌^◌, ◌<◌, ◌≤◌, min, false, [], ◌++◌, length, take, IsTrue, IsErr, IfOk, OnOk, OnErr};
+ghost use Rattle.std.specs.Prelude.{◌≡◌, ◌+◌, ◌-◌, ◌^◌, ◌<◌, ◌≤◌, ◌⊎◌, min, false, [], ◌++◌, length, take, IsTrue, IsErr, IfOk, OnOk, OnErr};
 ghost use Rattle.fws_io.specs.Outside.{Rose, is_listed, with_more};
 
 use crate::faults::{FailingCalls, FaultCount};
@@ -9,18 +9,20 @@ use fws_num::{Items, Text};
 use std::alloc::Global;
 
 /// Bytes in memory, a greatest length for one put, and a list of the puts that fail. A put that
-/// fails, or for which there is no memory, raises the count of faults.
+/// fails, or for which there is no memory, raises the count of faults; want of memory has a count of its
+/// own besides.
 #[derive(Drop)]
 pub struct MemSink {
     bytes: Text,
     most: usize,
     failing: FailingCalls,
     faults: FaultCount,
+    refused: FaultCount,
     ghost takes: { 1 ≤ most },
 }
 
 impl MemSink {
-    ghost use Rattle.fws_io.specs.Failing.{sink_fails, puts_made, most_of};
+    ghost use Rattle.fws_io.specs.Failing.{sink_fails, puts_made, puts_refused, most_of};
 
     /// A sink without bytes, which takes at most `most` bytes at a time. The puts whose numbers are
     /// in `fails` will fail; those whose piece isn't empty are numbered from 1, and the number stays
@@ -32,12 +34,14 @@ impl MemSink {
         ensures most { most_of result ≡ most }
         ensures fails { sink_fails result ≡ fails }
         ensures made { puts_made result ≡ 0 }
+        ensures refused { puts_refused result ≡ 0 }
     {
         MemSink {
             bytes: Text::new(alloc),
             most,
             failing: FailingCalls::new(fails),
             faults: FaultCount::none(),
+            refused: FaultCount::none(),
         }
     }
 
@@ -48,6 +52,13 @@ impl MemSink {
         self.bytes.as_slice()
     }
 
+    /// For how many puts there was no memory. The count stays at its last value.
+    pub fn refused(&self) -> u64
+        ensures { result ≡ puts_refused self.now }
+    {
+        self.refused.count
+    }
+
     /// Appends at most `most` bytes of a piece that isn't empty, unless this call is to fail.
     fn append(&mut self, piece: &[u8]) -> Result<usize, Failed>
         requires { 0 < length piece.now }
@@ -55,6 +66,9 @@ impl MemSink {
         ensures appended { IfOk result (λ taken. self.new.bytes ≡ self.old.bytes ++ take taken piece.now) }
         ensures same { OnErr result (self.new.bytes ≡ self.old.bytes) }
         ensures listed { OnOk result (is_listed (sink_fails self.old) (puts_made self.new) ≡ false) }
+        ensures fails { OnErr result (IsTrue (is_listed (sink_fails self.old) (puts_made self.new)) ⊎ Rose (puts_refused self.old) (puts_refused self.new)) }
+        ensures found { OnOk result (puts_refused self.new ≡ puts_refused self.old) }
+        ensures spared { IsTrue (is_listed (sink_fails self.old) (puts_made self.new)) → puts_refused self.new ≡ puts_refused self.old }
         ensures failed { OnErr result (Rose self.old.faults.count self.new.faults.count) }
         ensures counted { OnErr result (self.new.faults.count ≡ min (self.old.faults.count + 1) (2 ^ 64 - 1)) }
         ensures count { OnOk result (self.new.faults ≡ self.old.faults) }
@@ -64,7 +78,12 @@ impl MemSink {
         ensures number { puts_made self.new ≡ min (puts_made self.old + 1) (2 ^ 64 - 1) }
     {
         let taken = piece.len().min(self.most);
-        if self.failing.next_fails() || self.bytes.put(&piece[..taken]).is_err() {
+        if self.failing.next_fails() {
+            self.faults.raise();
+            return Err(Failed);
+        }
+        if self.bytes.put(&piece[..taken]).is_err() {
+            self.refused.raise();
             self.faults.raise();
             return Err(Failed);
         }
@@ -74,7 +93,7 @@ impl MemSink {
 
 impl Sink for MemSink {
     ghost use Rattle.std.specs.Prelude.{Some};
-    ghost use Rattle.fws_io.specs.Failing.{sink_fails, puts_made, most_of};
+    ghost use Rattle.fws_io.specs.Failing.{sink_fails, puts_made, puts_refused, most_of};
 
     ghost written = { λ s. Some s.bytes };
 
@@ -90,9 +109,13 @@ impl Sink for MemSink {
         ensures count { OnOk result (⟦<MemSink as Sink>⟧.faults self.new ≡ ⟦<MemSink as Sink>⟧.faults self.old) }
         ensures never_falls { ⟦<MemSink as Sink>⟧.faults self.old ≤ ⟦<MemSink as Sink>⟧.faults self.new }
 
-        // A piece that isn't empty is a call, which fails where its number is listed and else takes what it may.
+        // A piece that isn't empty is a call, which fails where its number is listed, or for want of memory, and else
+        // takes what it may.
         ensures taken { IfOk result (λ taken. taken ≡ min (length piece.now) (most_of self.old)) }
         ensures listed { 0 < length piece.now → IsTrue (is_listed (sink_fails self.old) (puts_made self.new)) → IsErr result }
+        ensures fails { OnErr result (IsTrue (is_listed (sink_fails self.old) (puts_made self.new)) ⊎ Rose (puts_refused self.old) (puts_refused self.new)) }
+        ensures found { OnOk result (puts_refused self.new ≡ puts_refused self.old) }
+        ensures spared { 0 < length piece.now → IsTrue (is_listed (sink_fails self.old) (puts_made self.new)) → puts_refused self.new ≡ puts_refused self.old }
         ensures counted { OnErr result (⟦<MemSink as Sink>⟧.faults self.new ≡ min (⟦<MemSink as Sink>⟧.faults self.old + 1) (2 ^ 64 - 1)) }
         ensures number { 0 < length piece.now → puts_made self.new ≡ min (puts_made self.old + 1) (2 ^ 64 - 1) }
         ensures no_call { piece.now ≡ [] → self.new ≡ self.old }

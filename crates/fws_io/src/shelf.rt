@@ -1,6 +1,6 @@
 //! Where files come from.
 
-ghost use Rattle.std.specs.Prelude.{◌≡◌, ℕ, ◌<◌, ◌≤◌, List, Option, length, IfOk, IsErrOf};
+ghost use Rattle.std.specs.Prelude.{◌≡◌, ℕ, ◌+◌, ◌<◌, ◌≤◌, List, Option, length, IfOk, IsErrOf};
 ghost use Rattle.fws_io.specs.Outside.{Rose};
 
 use fws_num::{Memory, Text};
@@ -35,8 +35,12 @@ pub trait Shelf {
     // How many faults each name has had.
     ghost faults: { Self → List ℕ → ℕ };
 
+    // How often the outside was asked for bytes.
+    ghost turns: { Self → ℕ };
+
     /// The whole content of the name. Answers `Failed` where a fault was counted for the name,
-    /// `TooLong` where the content has more than `limit` bytes, and `Memory` for want of memory.
+    /// `TooLong` where the content has more than `limit` bytes, and `Memory` for want of memory. A call
+    /// takes at most `limit` and 1 turns, whatever the outside gives.
     fn read(&mut self, alloc: Global, name: &[u8], limit: usize) -> Result<Text, ShelfAnswer>
         ensures same { told self.new ≡ told self.old }
         ensures whole { IfOk result (λ text. (held : List ℕ → List ℕ) → told self.old ≡ Some held → text ≡ held name.now) }
@@ -46,6 +50,9 @@ pub trait Shelf {
         ensures failed { IsErrOf result ShelfAnswer.Failed → Rose (faults self.old name.now) (faults self.new name.now) }
         ensures counts { (IsErrOf result ShelfAnswer.Failed → ⊥) → faults self.new ≡ faults self.old }
         ensures never_falls { (any : List ℕ) → faults self.old any ≤ faults self.new any }
+
+        // Each turn takes a byte, but for the one that finds the end or fails.
+        ensures turns { turns self.new ≤ turns self.old + limit + 1 }
 
         // So many bytes were taken, and they are above the limit.
         ensures over { (taken : ℕ) → IsErrOf result (ShelfAnswer.TooLong taken) → limit < taken }

@@ -1,9 +1,10 @@
 //! Files as a shelf.
 
-ghost use Rattle.std.specs.Prelude.{◌≡◌, ℕ, ◌<◌, ◌≤◌, List, length, IfOk, IsErrOf};
+ghost use Rattle.std.specs.Prelude.{◌≡◌, ℕ, ◌+◌, ◌<◌, ◌≤◌, List, length, IfOk, IsErrOf};
 
 use crate::faults::FaultCount;
 use crate::shelf::{Shelf, ShelfAnswer};
+use crate::turns::TurnCount;
 use fws_num::Text;
 use std::alloc::Global;
 use std::fs;
@@ -20,6 +21,7 @@ const PIECE: usize = 8192;
 pub struct StdShelf<'r, R> {
     runtime: &'r R,
     faults: FaultCount,
+    turns: TurnCount,
 }
 
 impl<'r, R: Files> StdShelf<'r, R> {
@@ -27,10 +29,12 @@ impl<'r, R: Files> StdShelf<'r, R> {
     pub fn new(runtime: &'r R) -> StdShelf<'r, R>
         ensures told { ⟦<StdShelf<'r, R> as Shelf>⟧.told result ≡ None }
         ensures faults { ⟦<StdShelf<'r, R> as Shelf>⟧.faults result ≡ (λ name. 0) }
+        ensures turns { ⟦<StdShelf<'r, R> as Shelf>⟧.turns result ≡ 0 }
     {
         StdShelf {
             runtime,
             faults: FaultCount::none(),
+            turns: TurnCount::none(),
         }
     }
 }
@@ -42,8 +46,10 @@ impl<'r, R: Files> Shelf for StdShelf<'r, R> {
 
     ghost faults = { λ s name. s.faults.count };
 
+    ghost turns = { λ s. s.turns.made };
+
     fn read(&mut self, alloc: Global, name: &[u8], limit: usize) -> Result<Text, ShelfAnswer> {
-        let answer = read_file(self.runtime, alloc, name, limit);
+        let answer = read_file(self.runtime, alloc, name, limit, &mut self.turns);
         if let Err(ShelfAnswer::Failed) = answer {
             self.faults.raise();
         }
@@ -57,9 +63,11 @@ fn read_file<R: Files>(
     alloc: Global,
     name: &[u8],
     limit: usize,
+    turns: &mut TurnCount,
 ) -> Result<Text, ShelfAnswer>
     ensures within { IfOk result (λ text. length text ≤ limit) }
     ensures over { (taken : ℕ) → IsErrOf result (ShelfAnswer.TooLong taken) → limit < taken }
+    ensures turns { turns.new.made ≤ turns.old.made + limit + 1 }
 {
     let Ok(path) = str::from_utf8(name) else {
         return Err(ShelfAnswer::Failed);
@@ -68,7 +76,7 @@ fn read_file<R: Files>(
         return Err(ShelfAnswer::Failed);
     };
     let mut piece = [0; PIECE];
-    read_pieces(&mut file, alloc, &mut piece, limit)
+    read_pieces(&mut file, alloc, &mut piece, limit, turns)
 }
 
 /// All that the reader has left, taken piece by piece until its end or past the limit. Each turn
@@ -78,16 +86,18 @@ fn read_pieces<F: Read>(
     alloc: Global,
     piece: &mut [u8],
     limit: usize,
+    turns: &mut TurnCount,
 ) -> Result<Text, ShelfAnswer>
     requires { 0 < length piece.old }
     ensures whole { IfOk result (λ text. (left : List ℕ) → F.remaining file.old ≡ Some left → text ≡ left) }
     ensures within { IfOk result (λ text. length text ≤ limit) }
     ensures over { (taken : ℕ) → IsErrOf result (ShelfAnswer.TooLong taken) → limit < taken }
+    ensures turns { turns.new.made ≤ turns.old.made + limit + 1 }
 {
     let mut text = Text::new(alloc);
     let mut taken = 0usize;
     loop {
-        let Ok(count) = file.read(piece) else {
+        let Ok(count) = turns.read(file, piece) else {
             return Err(ShelfAnswer::Failed);
         };
         if count == 0 {

@@ -1,6 +1,6 @@
 //! A shelf in memory that never fails.
 
-ghost use Rattle.std.specs.Prelude.{◌≡◌, ℕ, ◌<◌, ◌≤◌, List, [], length, IfOk, OnOk, OnErr, IsErrOf};
+ghost use Rattle.std.specs.Prelude.{◌≡◌, ℕ, ◌+◌, ◌<◌, ◌≤◌, List, [], length, IfOk, OnOk, OnErr, IsErrOf};
 ghost use Rattle.fws_io.specs.Outside.{Rose};
 
 use crate::contents::{Contents, read_within};
@@ -46,6 +46,9 @@ impl Shelf for SureShelf {
 
     ghost faults = { λ s name. 0 };
 
+    // All contents are at hand, so that no turn is taken.
+    ghost turns = { λ s. 0 };
+
     fn read(&mut self, alloc: Global, name: &[u8], limit: usize) -> Result<Text, ShelfAnswer>
         ensures same { ⟦<SureShelf as Shelf>⟧.told self.new ≡ ⟦<SureShelf as Shelf>⟧.told self.old }
         ensures whole { IfOk result (λ text. (held : List ℕ → List ℕ) → ⟦<SureShelf as Shelf>⟧.told self.old ≡ Some held → text ≡ held name.now) }
@@ -53,6 +56,7 @@ impl Shelf for SureShelf {
         ensures failed { IsErrOf result ShelfAnswer.Failed → Rose (⟦<SureShelf as Shelf>⟧.faults self.old name.now) (⟦<SureShelf as Shelf>⟧.faults self.new name.now) }
         ensures counts { (IsErrOf result ShelfAnswer.Failed → ⊥) → ⟦<SureShelf as Shelf>⟧.faults self.new ≡ ⟦<SureShelf as Shelf>⟧.faults self.old }
         ensures never_falls { (any : List ℕ) → ⟦<SureShelf as Shelf>⟧.faults self.old any ≤ ⟦<SureShelf as Shelf>⟧.faults self.new any }
+        ensures turns { ⟦<SureShelf as Shelf>⟧.turns self.new ≤ ⟦<SureShelf as Shelf>⟧.turns self.old + limit + 1 }
         ensures over { (taken : ℕ) → IsErrOf result (ShelfAnswer.TooLong taken) → limit < taken }
         ensures over_told { (taken : ℕ) (held : List ℕ → List ℕ) → IsErrOf result (ShelfAnswer.TooLong taken) → ⟦<SureShelf as Shelf>⟧.told self.old ≡ Some held → limit < length (held name.now) }
         ensures taken_told { (taken : ℕ) (held : List ℕ → List ℕ) → IsErrOf result (ShelfAnswer.TooLong taken) → ⟦<SureShelf as Shelf>⟧.told self.old ≡ Some held → taken ≤ length (held name.now) }

@@ -7,6 +7,7 @@ abbrev pub invariant-loop-count : goal.invariant-loop-count
 invariant-loop-count g l = record {
   counted : length l.text ≡ l.taken;
   within : l.taken ≤ l.limit;
+  turns : l.turns.made ≤ l.initial.turns.made + l.taken;
   taken : Consumes (g.F.Read.remaining l.initial.file) (g.F.Read.remaining l.file) l.text;
 }
 
