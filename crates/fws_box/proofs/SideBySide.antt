@@ -127,7 +127,7 @@ meet_end k a b p n = and_true a ∙ ap (λ x. a && x) (sym (left_none k b p n))
 -- ---- sides with a member
 
 -- within a list the default is of no account
-default : (xs : List (List Iv)) (k : ℕ) (d e : List Iv) → k < length xs → get_or xs k d ≡ get_or xs k e
+pub default : (xs : List (List Iv)) (k : ℕ) (d e : List Iv) → k < length xs → get_or xs k d ≡ get_or xs k e
 default [] k d e lt = absurd (omega arith)
 default (x ∷ xs) zero d e lt = refl
 default (x ∷ xs) (suc k) d e lt = default xs k d e (omega arith)

@@ -15,9 +15,16 @@ use std::alloc::Global;
 use std::marker::Model;
 
 /// A set of numbers, as the list of its intervals in ascending order, of which no two touch.
-#[derive(Drop)]
 pub struct Ivs {
     parts: Stored,
+}
+
+// Written out, so that letting a set go is one call, of which a proof need not know how sets are kept.
+impl Drop for Ivs {
+    fn drop(self) {
+        let Ivs { parts } = self;
+        drop(parts);
+    }
 }
 
 impl Model for Ivs {
@@ -27,11 +34,10 @@ impl Model for Ivs {
     ghost Value = { List Iv };
 
     ghost use Rattle.fws_iv.specs.Ivs.{IsRegular};
-    ghost use Rattle.fws_iv.specs.Stored.{stored};
 
-    ghost view = { λ s. stored s.parts };
+    ghost view = { λ s. s.parts };
 
-    ghost invariant = { λ s. IsRegular (stored s.parts) };
+    ghost invariant = { λ s. IsRegular s.parts };
 }
 
 impl Ivs {

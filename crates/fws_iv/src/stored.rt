@@ -2,64 +2,111 @@
 
 ghost use Rattle.std.specs.Prelude.{◌≡◌, ◌≤◌, ◌||◌, ℕ, [], ◌∷◌, Some, IfOk, OnOk, OnErr, unwrap_or};
 ghost use Rattle.fws_iv.specs.Ivs.{has, in_part, IsRegular, last_start, least};
-ghost use Rattle.fws_iv.specs.Stored.{stored};
+ghost use Rattle.fws_iv.specs.Stored.{intervals_of};
 
 use crate::iv::Iv;
 use crate::joined::join_last;
 use fws_num::Memory;
 use std::alloc::Global;
+use std::marker::Model;
 use std::rc::Rc;
 
 // A list of more intervals than this is worth a count of its owners.
 const FEW: usize = 8;
 
-/// A list of intervals. Where it is long, equal sets share it.
-#[derive(Drop)]
-pub(crate) enum Stored {
+/// A list of intervals with one owner, or with several.
+enum Kept {
     /// A list of one set alone.
     Own(Vec<Iv>),
     /// A list that several sets may have.
     Shared(Rc<Vec<Iv>>),
 }
 
+// Written out, so that whoever lets a set go has one call there and no choice of two.
+impl Drop for Kept {
+    fn drop(self) {
+        match self {
+            Kept::Own(list) => drop(list),
+            Kept::Shared(list) => drop(list),
+        }
+    }
+}
+
+/// The same intervals in a list of their own. An error is want of memory.
+fn own_list(from: &Kept) -> Result<Vec<Iv>, Memory>
+    ensures { IfOk result (λ own. own.items ≡ intervals_of from.now) }
+{
+    match from {
+        Kept::Own(list) => Ok(Vec::from_slice(*list.allocator(), list.as_slice())?),
+        Kept::Shared(list) => {
+            let list = list.as_ref();
+            Ok(Vec::from_slice(*list.allocator(), list.as_slice())?)
+        }
+    }
+}
+
+/// A list of intervals. Where it is long, equal sets share it. Contracts see the list.
+#[derive(Drop)]
+pub(crate) struct Stored {
+    kept: Kept,
+}
+
+impl Model for Stored {
+    ghost use Rattle.std.specs.Prelude.{List};
+    ghost use Rattle.fws_iv.specs.declared.iv.Iv.{Iv as Seen};
+    ghost use Rattle.fws_iv.specs.Stored.{intervals_of};
+
+    ghost Value = { List Seen };
+
+    ghost view = { λ s. intervals_of s.kept };
+}
+
 impl Stored {
     /// No interval.
     pub(crate) fn none(alloc: Global) -> Stored
-        ensures { stored result ≡ [] }
+        ensures { result ≡ [] }
     {
-        Stored::Own(Vec::new(alloc))
+        Stored {
+            kept: Kept::Own(Vec::new(alloc)),
+        }
     }
 
     /// These intervals. An error is want of memory.
     pub(crate) fn of(alloc: Global, parts: Vec<Iv>) -> Result<Stored, Memory>
-        ensures { IfOk result (λ s. stored s ≡ parts.items) }
+        ensures { IfOk result (λ s. s ≡ parts.items) }
     {
         if parts.len() <= FEW {
-            return Ok(Stored::Own(parts));
+            let kept = Kept::Own(parts);
+            return Ok(Stored { kept });
         }
         match Rc::new(alloc, parts) {
-            Ok(list) => Ok(Stored::Shared(list)),
+            Ok(list) => Ok(Stored {
+                kept: Kept::Shared(list),
+            }),
             Err(_) => Err(Memory),
         }
     }
 
     /// The intervals.
     pub(crate) fn as_slice(&self) -> &[Iv]
-        ensures { result.now ≡ stored self.now }
+        ensures { result.now ≡ self.now }
     {
-        match self {
-            Stored::Own(list) => list.as_slice(),
-            Stored::Shared(list) => list.as_ref().as_slice(),
+        match &self.kept {
+            Kept::Own(list) => list.as_slice(),
+            Kept::Shared(list) => list.as_ref().as_slice(),
         }
     }
 
-    /// The same intervals. What is shared already costs a step, and what isn't the time of its length. An error is want of memory.
+    /// The same intervals. What is shared already costs a step, and what isn't the time of its length. An error is want of
+    /// memory.
     pub(crate) fn copy(&self, alloc: Global) -> Result<Stored, Memory>
-        ensures { IfOk result (λ s. stored s ≡ stored self.now) }
+        ensures { IfOk result (λ s. s ≡ self.now) }
     {
-        match self {
-            Stored::Own(list) => Stored::of(alloc, Vec::from_slice(alloc, list.as_slice())?),
-            Stored::Shared(list) => Ok(Stored::Shared(list.clone()?)),
+        match &self.kept {
+            Kept::Own(list) => Stored::of(alloc, Vec::from_slice(alloc, list.as_slice())?),
+            Kept::Shared(list) => Ok(Stored {
+                kept: Kept::Shared(list.clone()?),
+            }),
         }
     }
 
@@ -67,31 +114,20 @@ impl Stored {
     /// touch it. A shared list is left to its other owners. After want of memory the intervals are as before.
     pub(crate) fn join_last(&mut self, lo: u32, hi: u32) -> Result<(), Memory>
         requires order { lo ≤ hi }
-        requires regular { IsRegular (stored self.old) }
-        requires begun { last_start 0 (stored self.old) ≤ lo }
-        ensures regular { IsRegular (stored self.new) }
-        ensures members { OnOk result ((v : ℕ) → has (stored self.new) v ≡ (has (stored self.old) v || in_part (record { lo = lo; hi = hi }) v)) }
-        ensures first { OnOk result (least (stored self.new) ≡ Some (unwrap_or (least (stored self.old)) lo)) }
-        ensures alone { OnOk result (stored self.old ≡ [] → stored self.new ≡ record { lo = lo; hi = hi } ∷ []) }
-        ensures err { OnErr result (stored self.new ≡ stored self.old) }
+        requires regular { IsRegular self.old }
+        requires begun { last_start 0 self.old ≤ lo }
+        ensures regular { IsRegular self.new }
+        ensures members { OnOk result ((v : ℕ) → has self.new v ≡ (has self.old v || in_part (record { lo = lo; hi = hi }) v)) }
+        ensures first { OnOk result (least self.new ≡ Some (unwrap_or (least self.old) lo)) }
+        ensures alone { OnOk result (self.old ≡ [] → self.new ≡ record { lo = lo; hi = hi } ∷ []) }
+        ensures err { OnErr result (self.new ≡ self.old) }
     {
-        if let Stored::Own(list) = self {
+        if let Kept::Own(list) = &mut self.kept {
             return join_last(list, lo, hi);
         }
-        let mut own = self.own_list()?;
+        let mut own = own_list(&self.kept)?;
         join_last(&mut own, lo, hi)?;
-        *self = Stored::Own(own);
+        self.kept = Kept::Own(own);
         Ok(())
-    }
-
-    /// The same intervals in a list of their own. An error is want of memory.
-    fn own_list(&self) -> Result<Vec<Iv>, Memory>
-        ensures { IfOk result (λ own. own.items ≡ stored self.now) }
-    {
-        let alloc = match self {
-            Stored::Own(list) => *list.allocator(),
-            Stored::Shared(list) => *list.as_ref().allocator(),
-        };
-        Ok(Vec::from_slice(alloc, self.as_slice())?)
     }
 }
