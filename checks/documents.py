@@ -1,6 +1,7 @@
 """python3 checks/documents.py, at the top of the repository
 
-Checks README.md and docs/*.md; checks/documents.sh says how it is called and what it prints. What is checked:
+Checks README.md, CONTRIBUTING.md, CHANGELOG.md, crates/README.md and docs/*.md; checks/documents.sh says how it is called and
+what it prints. What is checked:
 
 - In a fenced block that has a line beginning `$ ./fws` or `$ tools/`, each line beginning `$ ` is a command, and the lines
   behind it, up to the next command or the end of the block, are exactly what it writes to standard output. Other blocks are
@@ -12,7 +13,7 @@ Checks README.md and docs/*.md; checks/documents.sh says how it is called and wh
   docs/ARCHITECTURE.md.
 - Each path that is named in backquotes is there, in the map and elsewhere. `path_of` says which words are paths, and
   where a file lies whose folder isn't written.
-- The list of crates, which is the first block below "The crates" of docs/ARCHITECTURE.md, has each crate of crates.txt
+- The list of crates, which are the items of crates/README.md that begin with the name of one, has each crate of crates.txt
   once, and above those that it uses; and each word in backquotes that has the form of a crate's name is one.
 - Numbers that can be counted, as `COUNTED` lists them, and the line of the toolchain.
 - Each file of examples/ is named in a document.
@@ -32,8 +33,9 @@ from spoken import check_spoken  # noqa: E402
 COMMANDS = 'docs/COMMANDS.md'
 CLAIMS = 'docs/CLAIMS.md'
 ARCHITECTURE = 'docs/ARCHITECTURE.md'
+CRATE_LIST = 'crates/README.md'
 MAP = '## Where the definitions are'
-CRATE_LIST = '## The crates'
+NAMES = ['README.md', 'CONTRIBUTING.md', 'CHANGELOG.md', CRATE_LIST]  # beside those of docs/
 PROGRAM = 'crates/fws/out/fws'
 SECONDS = 120  # that a command may take
 
@@ -284,7 +286,7 @@ def paths_of(passage, names):
         path = path_of(word, [path for path, _, _ in found], crate)
         if path:
             found.append((path, word, line))
-            if path.startswith('crates/') and path.split('/')[1] != '*':
+            if path.startswith('crates/') and path.split('/')[1] in names:
                 crate = path.split('/')[1]
         elif word in names:
             crate = word
@@ -317,23 +319,15 @@ def check_map(tally, architecture):
 # Crates
 
 
-def listed_crates(block):
-    """The crates that a block lists, each with its line: the names that stand at the beginning of a line."""
-    found = []
-    for number, line in enumerate(block.lines, block.line):
-        if not line.startswith(' '):
-            for word in line.split():
-                if not CRATE_NAME.fullmatch(word):
-                    break
-                found.append((word, number))
-    return found
+def listed_crates(document):
+    """The crates that a document lists, each with its line: the names with which items begin."""
+    items = [(passage.line, re.match(r'- `([^`]+)`:', passage.text)) for passage in document.passages]
+    return [(item[1], line) for line, item in items if item and CRATE_NAME.fullmatch(item[1])]
 
 
-def check_crates(tally, documents, architecture):
-    blocks = [block for block in architecture.blocks if block.heading == CRATE_LIST]
+def check_crates(tally, documents, crate_list):
     known = crates()
-    if tally.check(blocks, ARCHITECTURE, 1, 'no block below "%s"' % CRATE_LIST):
-        check_crate_list(tally, listed_crates(blocks[0]), known)
+    check_crate_list(tally, listed_crates(crate_list), known)
     for document in documents:
         for passage in document.passages:
             for word, line in passage.code_words():
@@ -345,12 +339,12 @@ def check_crates(tally, documents, architecture):
 def check_crate_list(tally, listed, known):
     lines = dict(listed)
     for k, (name, line) in enumerate(listed):
-        tally.check(name in known, ARCHITECTURE, line, '%s is no crate of crates.txt' % name)
-        tally.check(name not in dict(listed[:k]), ARCHITECTURE, line, '%s is listed twice' % name)
+        tally.check(name in known, CRATE_LIST, line, '%s is no crate of crates.txt' % name)
+        tally.check(name not in dict(listed[:k]), CRATE_LIST, line, '%s is listed twice' % name)
     for name, (line, uses) in known.items():
-        if tally.check(name in lines, 'crates.txt', line, '%s is not in the list of %s' % (name, ARCHITECTURE)):
+        if tally.check(name in lines, 'crates.txt', line, '%s is not in the list of %s' % (name, CRATE_LIST)):
             above = [used for used in uses if lines.get(used, lines[name] + 1) <= lines[name]]
-            tally.check(not above, ARCHITECTURE, lines[name], '%s does not stand above %s' % (name, ', '.join(above)))
+            tally.check(not above, CRATE_LIST, lines[name], '%s does not stand above %s' % (name, ', '.join(above)))
 
 
 # Numbers
@@ -362,6 +356,16 @@ def edit_count():
 
 def crate_count():
     return len(crates())
+
+
+def chain_length():
+    """How many crates stand in the longest chain in which each uses the one before."""
+    known = crates()
+
+    def length(name):
+        return 1 + max((length(used) for used in known[name][1]), default=0)
+
+    return max(length(name) for name in known)
 
 
 def read_count():
@@ -377,6 +381,8 @@ COUNTED = (
     (r'(?<![\w.,])(\d[\d,]*)\s+(?:must-fail\s+)?edits\b', edit_count),
     # `15 crates`: the crates of crates.txt
     (r'(?<![\w.,])(\d[\d,]*)\s+crates\b', crate_count),
+    # `the longest chain of crates is 12 long`: by crates.txt
+    (r'\blongest\s+chain\s+of\s+crates\s+is\s+(\d+)\s+long\b', chain_length),
     # `reads 255 lines and texts`: what fws_rows reads of lines and texts that are accepted or refused
     (r'\breads\s+(\d[\d,]*)\s+lines\s+and\s+texts\b', read_count),
 )
@@ -424,12 +430,13 @@ def check_examples(tally, documents):
 
 def main():
     tally = Tally()
-    documents = [Document(name) for name in ['README.md'] + sorted(glob.glob('docs/*.md'))]
+    documents = [Document(name) for name in NAMES + sorted(glob.glob('docs/*.md'))]
     architecture = next(document for document in documents if document.name == ARCHITECTURE)
+    crate_list = next(document for document in documents if document.name == CRATE_LIST)
     check_commands(tally, documents)
     check_paths(tally, documents)
     check_map(tally, architecture)
-    check_crates(tally, documents, architecture)
+    check_crates(tally, documents, crate_list)
     check_numbers(tally, documents)
     check_toolchain(tally, documents)
     check_examples(tally, documents)
