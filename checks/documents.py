@@ -41,7 +41,7 @@ SECONDS = 120  # that a command may take
 
 # What begins a path from the top, and a path within a crate.
 FOLDERS = ('crates/', 'docs/', 'bench/', 'checks/', 'examples/', 'share/', 'tools/', '.ci/')
-CRATE_FOLDERS = ('src/', 'specs/', 'proofs/', 'must-fail/', 'data/')
+CRATE_FOLDERS = ('src/', 'specs/', 'proofs/', 'edits/', 'data/')
 
 IN_CODE = re.compile(r'`([^`]+)`')
 CRATE_NAME = re.compile(r'fws(_[a-z0-9]+)*')
@@ -351,7 +351,7 @@ def check_crate_list(tally, listed, known):
 
 
 def edit_count():
-    return sum(1 for path in ALL_PATHS if re.fullmatch(r'crates/[^/]+/must-fail/[^/]+\.edit', path))
+    return sum(1 for path in ALL_PATHS if re.fullmatch(r'crates/[^/]+/edits/[^/]+\.edit', path))
 
 
 def crate_count():
@@ -377,8 +377,8 @@ def read_count():
 # The sentences in which a number is counted: their form, and what counts it. A number that stands in such a sentence
 # and is a part of them, or that of an earlier time, has to be said in another way.
 COUNTED = (
-    # `184 edits`, `184 must-fail edits`, `19 of 184 edits`: the edits that must be refused, of all crates
-    (r'(?<![\w.,])(\d[\d,]*)\s+(?:must-fail\s+)?edits\b', edit_count),
+    # `184 edits`, `19 of 184 edits`: the edits that must be refused, of all crates
+    (r'(?<![\w.,])(\d[\d,]*)\s+edits\b', edit_count),
     # `15 crates`: the crates of crates.txt
     (r'(?<![\w.,])(\d[\d,]*)\s+crates\b', crate_count),
     # `the longest chain of crates is 12 long`: by crates.txt
