@@ -15,6 +15,7 @@ use Rattle.fws_top.specs.declared.lang.TargetLang.{TargetLang}
 use Rattle.fws_top.specs.declared.status.Status.{Status}
 use Rattle.fws_top.specs.declared.status.Status.TheVariants as status
 use Rattle.fws_top.specs.Forms.{site2}
+use Rattle.fws_top.specs.Judged.{Policy}
 use Rattle.fws_top.specs.Loads.{IsLoad}
 use Rattle.fws_top.specs.Parts.{load_part, packets_part, query_part, table_part, translation_part}
 use Rattle.fws_top.specs.Plan.{Plan, says, shows, plan_of, site_plan, source_plan, load_site_plan, load_text_plan, packets_plan}
@@ -30,7 +31,7 @@ pub table_shown : (lang : SourceLang) (file : List ℕ) (site : Site) (state : S
     → ((walk : Packet → Kind → Outcome) → Does flat site walk → IsTable site state walk text)
     → Answered (table_part lang site file state) told old new status.Ok text
 table_shown lang file site state flat told old new text code quiet made =
-    code.goes_on (λ walk. shows (table site state walk)) old new status.Ok text (quiet, (refl, made code.walk code.does))
+    code.goes_on (λ policy. shows (table site state policy.walk)) old new status.Ok text (quiet, (refl, made code.policy.walk code.does))
 
 -- the asked part of that table is shown
 pub asked_table_shown : (lang : SourceLang) (file : List ℕ) (site : Site) (state : State) (asks : List (List ℕ)) (flat : Flat) (told : Option (List ℕ → List ℕ)) (old new : List ℕ → ℕ) (text : List ℕ)
@@ -38,9 +39,9 @@ pub asked_table_shown : (lang : SourceLang) (file : List ℕ) (site : Site) (sta
     → ((walk : Packet → Kind → Outcome) → Does flat site walk → IsAskedTable site state asks walk text)
     → Answered (query_part lang site file state asks) told old new status.Ok text
 asked_table_shown lang file site state asks flat told old new text known code quiet made =
-    let shown : (Packet → Kind → Outcome) → Plan = λ walk. shows (asked_table site state asks walk) in
+    let shown : Policy → Plan = λ policy. shows (asked_table site state asks policy.walk) in
     subst (λ plan. Answered plan told old new status.Ok text) (sym (asks_on site asks (source_plan lang site file shown) known))
-    (code.goes_on shown old new status.Ok text (quiet, (refl, made code.walk code.does)))
+    (code.goes_on shown old new status.Ok text (quiet, (refl, made code.policy.walk code.does)))
 
 -- the translation of code is shown
 pub translation_shown : (from : SourceLang) (to : TargetLang) (file : List ℕ) (site : Site) (flat : Flat) (told : Option (List ℕ → List ℕ)) (old new : List ℕ → ℕ) (s : Status) (text : List ℕ)
@@ -48,7 +49,7 @@ pub translation_shown : (from : SourceLang) (to : TargetLang) (file : List ℕ) 
     → ((walk : Packet → Kind → Outcome) → Does flat site walk → IsTranslation to site walk s text)
     → Answered (translation_part from to site file) told old new s text
 translation_shown from to file site flat told old new s text code quiet made =
-    code.goes_on (λ walk. shows (translation to site walk)) old new s text (quiet, made code.walk code.does)
+    code.goes_on (λ policy. shows (translation to site policy.walk)) old new s text (quiet, made code.policy.walk code.does)
 
 -- the trace is said
 pub trace_said : (name : List ℕ) (site : Site) (walk : Packet → Kind → Outcome) (conns : List Conn) (packets : List Packet) (told : Option (List ℕ → List ℕ)) (old new : List ℕ → ℕ) (text : List ℕ)
@@ -61,7 +62,7 @@ pub load_shown : (n : ℕ) (site : Site) (flat : Flat) (told : Option (List ℕ 
     → IsCode (load_text_plan n site) site flat → ((walk : Packet → Kind → Outcome) → Does flat site walk → IsLoad n site walk text)
     → Answered (load_part n site) told faults faults status.Ok text
 load_shown n site flat told faults text code made =
-    subst (λ plan. Answered plan told faults faults status.Ok text) (sym (code.chooses (λ walk. shows (loaded n site walk)))) (refl, (refl, made code.walk code.does))
+    subst (λ plan. Answered plan told faults faults status.Ok text) (sym (code.chooses (λ policy. shows (loaded n site policy.walk)))) (refl, (refl, made code.policy.walk code.does))
 
 -- the second form of a site is said
 pub second_form_said : (name : List ℕ) (site : Site) (told : Option (List ℕ → List ℕ)) (old new : List ℕ → ℕ) (text : List ℕ)
@@ -87,17 +88,17 @@ load_site_stops told faults stop next ends = ended_at load_site_plan told faults
 -- so does the generated filter
 pub load_text_stops : (n : ℕ) (site : Site) (told : Option (List ℕ → List ℕ)) (faults : List ℕ → ℕ) (stop : Stop)
     → EndsIn (load_text_plan n site) stop → Stopped (load_part n site) told faults faults stop
-load_text_stops n site told faults stop ends = ended_at (load_text_plan n site) told faults stop (λ walk. shows (loaded n site walk)) ends
+load_text_stops n site told faults stop ends = ended_at (load_text_plan n site) told faults stop (λ policy. shows (loaded n site policy.walk)) ends
 
 -- the configuration stops a query
 pub asked_source_stops : (lang : SourceLang) (file : List ℕ) (site : Site) (state : State) (asks : List (List ℕ)) (told : Option (List ℕ → List ℕ)) (old new : List ℕ → ℕ) (stop : Stop)
     → are_known site asks ≡ true → StopsAt (source_plan lang site file) told old new stop → Stopped (query_part lang site file state asks) told old new stop
 asked_source_stops lang file site state asks told old new stop known stops =
-    let shown : (Packet → Kind → Outcome) → Plan = λ walk. shows (asked_table site state asks walk) in
+    let shown : Policy → Plan = λ policy. shows (asked_table site state asks policy.walk) in
     subst (λ plan. Stopped plan told old new stop) (sym (asks_on site asks (source_plan lang site file shown) known)) (step_stops (source_plan lang site file) told old new stop shown stops)
 
 -- the words of a query stop it
 pub asks_stop : (lang : SourceLang) (file : List ℕ) (site : Site) (state : State) (asks : List (List ℕ)) (told : Option (List ℕ → List ℕ)) (faults : List ℕ → ℕ) (stop : Stop)
     → AsksStopped site asks stop → Stopped (query_part lang site file state asks) told faults faults stop
 asks_stop lang file site state asks told faults stop unknown =
-    asks_stopped site asks told faults faults stop (source_plan lang site file (λ walk. shows (asked_table site state asks walk))) refl unknown
+    asks_stopped site asks told faults faults stop (source_plan lang site file (λ policy. shows (asked_table site state asks policy.walk))) refl unknown

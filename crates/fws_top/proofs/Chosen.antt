@@ -9,15 +9,15 @@ use Rattle.fws_top.specs.declared.answer.Stop.{Stop}
 use Rattle.fws_top.specs.declared.answer.Stop.TheVariants.{Due, Memory}
 use Rattle.fws_top.specs.declared.status.Status.{Status}
 use Rattle.fws_top.specs.declared.status.Status.TheVariants as status
-use Rattle.fws_top.specs.declared.texts.TheConstants.{FILE_LIMIT, USAGE}
 use Rattle.fws_top.specs.Lines.{refused_line, too_long_words}
 use Rattle.fws_top.specs.Plan.{Plan, says, asks_plan, file_plan, refuses}
 use Rattle.fws_top.specs.Stops.{Answered, AsksStopped, IsHeld, GoesOn, StopsAt, Stopped, Chooses, EndsIn}
+use Rattle.fws_top.specs.Texts.{file_limit, usage_text}
 
 -- a file that isn't too long is gone on with
-pub file_read : (name bytes : List ℕ) (told : Option (List ℕ → List ℕ)) → length bytes ≤ FILE_LIMIT → IsHeld told name bytes → GoesOn (file_plan name) told bytes
+pub file_read : (name bytes : List ℕ) (told : Option (List ℕ → List ℕ)) → length bytes ≤ file_limit → IsHeld told name bytes → GoesOn (file_plan name) told bytes
 file_read name bytes told within is_held next old new s t a =
-    inr (bytes, is_held, subst (λ b. Answered (cond b (refuses name too_long_words) (next bytes)) told old new s t) (sym (le-ltb FILE_LIMIT (length bytes) within)) a)
+    inr (bytes, is_held, subst (λ b. Answered (cond b (refuses name too_long_words) (next bytes)) told old new s t) (sym (le-ltb file_limit (length bytes) within)) a)
 
 -- bytes as long as one likes
 long_bytes : (n : ℕ) → (bytes : List ℕ) × (n < length bytes)
@@ -28,18 +28,18 @@ held_at name None = []
 held_at name (Some held) = held name
 
 -- bytes that are too long, those that the name holds where that is told
-too_long : (name : List ℕ) (told : Option (List ℕ → List ℕ)) → ((held : List ℕ → List ℕ) → told ≡ Some held → FILE_LIMIT < length (held name))
-    → (bytes : List ℕ) × (FILE_LIMIT < length bytes) × IsHeld told name bytes
-too_long name None over = let b = long_bytes FILE_LIMIT in (b.0, b.1, λ held e. absurd (cc))
+too_long : (name : List ℕ) (told : Option (List ℕ → List ℕ)) → ((held : List ℕ → List ℕ) → told ≡ Some held → file_limit < length (held name))
+    → (bytes : List ℕ) × (file_limit < length bytes) × IsHeld told name bytes
+too_long name None over = let b = long_bytes file_limit in (b.0, b.1, λ held e. absurd (cc))
 too_long name (Some f) over = (f name, over f refl, λ held e. ap (held_at name) e)
 
 -- a file that holds too much is refused
 pub file_refused : (name : List ℕ) (told : Option (List ℕ → List ℕ)) (old new : List ℕ → ℕ) (s : Status) (t : List ℕ)
-    → ((held : List ℕ → List ℕ) → told ≡ Some held → FILE_LIMIT < length (held name))
+    → ((held : List ℕ → List ℕ) → told ≡ Some held → file_limit < length (held name))
     → new ≡ old → s ≡ status.Refused → t ≡ refused_line name too_long_words → (next : List ℕ → Plan) → Answered (file_plan name next) told old new s t
 file_refused name told old new s t over quiet status_is text_is next =
     let b = too_long name told over in
-    inr (b.0, b.2, subst (λ c. Answered (cond c (refuses name too_long_words) (next b.0)) told old new s t) (sym (lt-ltb FILE_LIMIT (length b.0) b.1)) (tt, quiet, status_is, text_is))
+    inr (b.0, b.2, subst (λ c. Answered (cond c (refuses name too_long_words) (next b.0)) told old new s t) (sym (lt-ltb file_limit (length b.0) b.1)) (tt, quiet, status_is, text_is))
 
 -- a plan whose bytes choose what follows goes on with that
 pub chosen : {X : Type 0} → (name bytes seen : List ℕ) (told : Option (List ℕ → List ℕ)) (judges : List ℕ → (X → Plan) → Plan) (x : X)
@@ -107,4 +107,4 @@ asks_stopped site asks told old new Memory next quiet unknown = tt
 
 -- entries that a site has don't
 pub asks_on : (site : Site) (asks : List (List ℕ)) (next : Plan) → are_known site asks ≡ true → asks_plan site asks next ≡ next
-asks_on site asks next known = ap (λ b. cond b next (says status.Usage USAGE.now)) known
+asks_on site asks next known = ap (λ b. cond b next (says status.Usage usage_text)) known

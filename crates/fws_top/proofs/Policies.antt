@@ -15,7 +15,7 @@ use Rattle.fws_top.specs.declared.answer.Stop.{Stop}
 use Rattle.fws_top.specs.declared.answer.Stop.TheVariants.{Due}
 use Rattle.fws_top.specs.declared.status.Status.TheVariants as status
 use Rattle.fws_top.specs.Due.{IsFaultless}
-use Rattle.fws_top.specs.Judged.{ChainRefusal, IsPacketOf, Judged, chain_words, diagram_refusal, judged_by, judged_chains, refused}
+use Rattle.fws_top.specs.Judged.{ChainRefusal, IsPacketOf, Judged, Policy, chain_words, diagram_refusal, judged_by, judged_chains, refused}
 use Rattle.fws_top.specs.Lines.{cause_text, line_words, refused_line}
 use Rattle.fws_top.specs.Plan.{judged, says}
 use Rattle.fws_top.specs.Stops.{EndsIn, IsCode, IsUnfolded}
@@ -33,9 +33,9 @@ pub line_refused : {C : Type 0} → (name : List ℕ) (refusal : C → Option Ch
     → EndsIn (judged name (judged_by refusal walk read)) (Due a)
 line_refused name refusal walk read line cause a e s t = says_refused name (line_words line (cause_text cause)) (judged_by refusal walk read) a (ap (judged_by refusal walk) e) s t
 
-pub chain_refused : (name : List ℕ) (walk : Packet → Kind → Outcome) (found : Option ChainRefusal) (r : ChainRefusal) (a : Answer)
-    → found ≡ Some r → a.status ≡ status.Refused → a.text ≡ refused_line name (chain_words r) → EndsIn (judged name (judged_chains found walk)) (Due a)
-chain_refused name walk found r a e s t = says_refused name (chain_words r) (judged_chains found walk) a (ap (λ o. judged_chains o walk) e) s t
+pub chain_refused : (name : List ℕ) (policy : Policy) (found : Option ChainRefusal) (r : ChainRefusal) (a : Answer)
+    → found ≡ Some r → a.status ≡ status.Refused → a.text ≡ refused_line name (chain_words r) → EndsIn (judged name (judged_chains found policy)) (Due a)
+chain_refused name policy found r a e s t = says_refused name (chain_words r) (judged_chains found policy) a (ap (λ o. judged_chains o policy) e) s t
 
 -- code of a diagram that is a configuration's, whose walk is regular
 pub policy_code : {C : Type 0} → (name : List ℕ) (site : Site) (refusal : C → Option ChainRefusal) (walk : C → Packet → Kind → Outcome) (read : Result C (Refusal Cause)) (config : C) (d : Ifcl) (flat : Flat)
@@ -46,16 +46,16 @@ policy_code name site refusal walk read config d flat regular given same means u
     let unrefused : refusal config ≡ None = sym same ∙ unfolded.unrefused in
     record {
       ok = unfolded.ok;
-      walk = walk config;
+      policy = record { walk = walk config };
       regular = regular;
       does = λ p k inside. unfolded.does site p k ∙ means unrefused p k inside;
-      chooses = λ next. ap (λ r. judged name (judged_by refusal walk r) next) given ∙ ap (λ o. judged name (judged_chains o (walk config)) next) unrefused;
+      chooses = λ next. ap (λ r. judged name (judged_by refusal walk r) next) given ∙ ap (λ o. judged name (judged_chains o (record { walk = walk config })) next) unrefused;
     }
 
 -- a refusal of a diagram that is a configuration's
 pub policy_refused : {C : Type 0} → (name : List ℕ) (refusal : C → Option ChainRefusal) (walk : C → Packet → Kind → Outcome) (read : Result C (Refusal Cause)) (config : C) (d : Ifcl) (stop : Stop)
-    → read ≡ Ok config → diagram_refusal d ≡ refusal config → ((w : Packet → Kind → Outcome) → EndsIn (judged name (judged_chains (diagram_refusal d) w)) stop)
+    → read ≡ Ok config → diagram_refusal d ≡ refusal config → ((policy : Policy) → EndsIn (judged name (judged_chains (diagram_refusal d) policy)) stop)
     → EndsIn (judged name (judged_by refusal walk read)) stop
 policy_refused name refusal walk read config d stop given same ends =
     subst (λ r. EndsIn (judged name (judged_by refusal walk r)) stop) (sym given)
-    (subst (λ o. EndsIn (judged name (judged_chains o (walk config))) stop) same (ends (walk config)))
+    (subst (λ o. EndsIn (judged name (judged_chains o (record { walk = walk config }))) stop) same (ends (record { walk = walk config })))

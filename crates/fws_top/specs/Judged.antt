@@ -92,20 +92,24 @@ ios_refusal site c = None
 abbrev pub IsPacketOf : Site → Packet → Type 0
 IsPacketOf site p = p.entry ≤ length site.faces + 1
 
--- a text is refused with these words, or accepted with what it makes of the packets of each class
+-- what a configuration means at a site: what becomes of a packet of a class
+pub record Policy : Type 0 where
+  pub walk : Packet → Kind → Outcome
+
+-- a text is refused with these words, or accepted with what it means
 pub data Judged : Type 0 where
   refused : List ℕ → Judged
-  accepted : (Packet → Kind → Outcome) → Judged
+  accepted : Policy → Judged
 
 -- a configuration whose chains can't be unfolded is refused
-abbrev pub judged_chains : Option ChainRefusal → (Packet → Kind → Outcome) → Judged
-judged_chains None walk = accepted walk
-judged_chains (Some refusal) walk = refused (chain_words refusal)
+abbrev pub judged_chains : Option ChainRefusal → Policy → Judged
+judged_chains None policy = accepted policy
+judged_chains (Some refusal) policy = refused (chain_words refusal)
 
--- the first bad line is refused, then the chains; the walk of what is left decides
+-- the first bad line is refused, then the chains; what is left means what its walk says
 abbrev pub judged_by : {C : Type 0} → (C → Option ChainRefusal) → (C → Packet → Kind → Outcome) → Result C (Refusal Cause) → Judged
 judged_by refusal walk (Err r) = refused (line_words r.line (cause_text r.cause))
-judged_by refusal walk (Ok config) = judged_chains (refusal config) (walk config)
+judged_by refusal walk (Ok config) = judged_chains (refusal config) (record { walk = walk config })
 
 -- the configuration is that of some text
 abbrev pub HasText : {C : Type 0} → (List ℕ → Result C (Refusal Cause)) → C → Type 0

@@ -10,5 +10,6 @@ pub mod Plan
 pub mod RegularTables
 pub mod Stops
 pub mod Tables
+pub mod Texts
 pub mod Translations
 pub mod Walked

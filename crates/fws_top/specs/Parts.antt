@@ -15,19 +15,19 @@ use Rattle.fws_trace.specs.TraceText.{trace_text}
 
 -- `synth` at a site
 abbrev pub table_part : SourceLang → Site → List ℕ → State → Plan
-table_part lang site file state = source_plan lang site file (λ walk. shows (table site state walk))
+table_part lang site file state = source_plan lang site file (λ policy. shows (table site state policy.walk))
 
 -- `query` at a site
 abbrev pub query_part : SourceLang → Site → List ℕ → State → List (List ℕ) → Plan
-query_part lang site file state asks = asks_plan site asks (source_plan lang site file (λ walk. shows (asked_table site state asks walk)))
+query_part lang site file state asks = asks_plan site asks (source_plan lang site file (λ policy. shows (asked_table site state asks policy.walk)))
 
 -- `translate` at a site
 abbrev pub translation_part : SourceLang → TargetLang → Site → List ℕ → Plan
-translation_part from to site file = source_plan from site file (λ walk. shows (translation to site walk))
+translation_part from to site file = source_plan from site file (λ policy. shows (translation to site policy.walk))
 
 -- `load` at a site
 abbrev pub load_part : ℕ → Site → Plan
-load_part n site = load_text_plan n site (λ walk. shows (loaded n site walk))
+load_part n site = load_text_plan n site (λ policy. shows (loaded n site policy.walk))
 
 -- `trace` of a walk against connections
 abbrev pub packets_part : Site → (Packet → Kind → Outcome) → List Conn → List ℕ → Plan
@@ -39,4 +39,4 @@ conns_part site walk conns packets = conns_plan conns (λ tracked. packets_part 
 
 -- `trace` at a site
 abbrev pub trace_part : SourceLang → Site → List ℕ → List ℕ → List ℕ → Plan
-trace_part lang site file conns packets = source_plan lang site file (λ walk. conns_part site walk conns packets)
+trace_part lang site file conns packets = source_plan lang site file (λ policy. conns_part site policy.walk conns packets)

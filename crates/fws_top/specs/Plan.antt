@@ -3,8 +3,6 @@ use Rattle.std.specs.Prelude.{ℕ, Result, Ok, Err, List, length, nat_lt, codes,
 use Rattle.fws_load.specs.Load.{filter_text, site_text}
 use Rattle.fws_net.specs.declared.cause.SiteCause.{SiteCause}
 use Rattle.fws_net.specs.declared.connection.Conn.{Conn}
-use Rattle.fws_net.specs.declared.connection.Kind.{Kind}
-use Rattle.fws_net.specs.declared.outcome.Outcome.{Outcome}
 use Rattle.fws_net.specs.declared.packet.Packet.{Packet}
 use Rattle.fws_net.specs.declared.site.Site.{Site}
 use Rattle.fws_net.specs.Reading.{Refusal}
@@ -15,11 +13,11 @@ use Rattle.fws_top.specs.declared.lang.SourceLang.{SourceLang}
 use Rattle.fws_top.specs.declared.lang.SourceLang.TheVariants.{Iptables}
 use Rattle.fws_top.specs.declared.status.Status.{Status}
 use Rattle.fws_top.specs.declared.status.Status.TheVariants as status
-use Rattle.fws_top.specs.declared.texts.TheConstants.{FILE_LIMIT, HELP, USAGE, VERSION}
 use Rattle.fws_top.specs.Forms.{Command, unknown, help, version, synth, query, translate, trace, load, site2}
-use Rattle.fws_top.specs.Judged.{Judged, refused, accepted, judge}
+use Rattle.fws_top.specs.Judged.{Judged, Policy, refused, accepted, judge}
 use Rattle.fws_top.specs.Lines.{refused_line, too_long_words, line_words, syntax_words, site_cause_text}
 use Rattle.fws_top.specs.Tables.{Wanted, table, asked_table, translation, loaded}
+use Rattle.fws_top.specs.Texts.{file_limit, help_text, usage_text, version_text}
 use Rattle.fws_trace.specs.ConnectionText.{conns_of}
 use Rattle.fws_trace.specs.PacketText.{packets_of}
 use Rattle.fws_trace.specs.TraceText.{trace_text}
@@ -38,7 +36,7 @@ refuses name words = says status.Refused (refused_line name words)
 
 -- a file that is too long is refused; else its bytes decide
 abbrev pub file_plan : List ℕ → (List ℕ → Plan) → Plan
-file_plan name next = reads name (λ bytes. if nat_lt FILE_LIMIT (length bytes) then refuses name too_long_words else next bytes)
+file_plan name next = reads name (λ bytes. if nat_lt file_limit (length bytes) then refuses name too_long_words else next bytes)
 
 -- a bad line of a site is refused; else the site decides
 abbrev pub spelled_site : List ℕ → Result Site (Refusal SiteCause) → (Site → Plan) → Plan
@@ -48,12 +46,12 @@ spelled_site name (Ok site) next = next site
 abbrev pub site_plan : List ℕ → (Site → Plan) → Plan
 site_plan name next = file_plan name (λ bytes. spelled_site name (site_of bytes) next)
 
--- a configuration that isn't accepted is refused; else its walk decides
-abbrev pub judged : List ℕ → Judged → ((Packet → Kind → Outcome) → Plan) → Plan
+-- a configuration that isn't accepted is refused; else what it means decides
+abbrev pub judged : List ℕ → Judged → (Policy → Plan) → Plan
 judged name (refused words) next = refuses name words
-judged name (accepted walk) next = next walk
+judged name (accepted policy) next = next policy
 
-abbrev pub source_plan : SourceLang → Site → List ℕ → ((Packet → Kind → Outcome) → Plan) → Plan
+abbrev pub source_plan : SourceLang → Site → List ℕ → (Policy → Plan) → Plan
 source_plan lang site name next = file_plan name (λ bytes. judged name (judge lang site bytes) next)
 
 -- a bad line of a list is refused; else what is listed decides
@@ -69,29 +67,29 @@ packets_plan site name next = file_plan name (λ bytes. listed name (packets_of 
 
 -- the words of a query that name an entry which the site lacks are no form of the command line
 abbrev pub asks_plan : Site → List (List ℕ) → Plan → Plan
-asks_plan site asks next = if are_known site asks then next else says status.Usage USAGE.now
+asks_plan site asks next = if are_known site asks then next else says status.Usage usage_text
 
 -- the site of the generator, judged as a file of this name
 abbrev pub load_site_plan : (Site → Plan) → Plan
 load_site_plan next = spelled_site (codes "load site") (site_of site_text) next
 
 -- its filter with so many rules, judged as a file of iptables of this name
-abbrev pub load_text_plan : ℕ → Site → ((Packet → Kind → Outcome) → Plan) → Plan
+abbrev pub load_text_plan : ℕ → Site → (Policy → Plan) → Plan
 load_text_plan n site next = judged (codes "load text") (judge Iptables site (filter_text n)) next
 
 -- Plans
 
 -- what a command does
 abbrev pub plan_of : Command → Plan
-plan_of unknown = says status.Usage USAGE.now
-plan_of help = says status.Ok HELP.now
-plan_of version = says status.Ok VERSION.now
+plan_of unknown = says status.Usage usage_text
+plan_of help = says status.Ok help_text
+plan_of version = says status.Ok version_text
 plan_of (site2 site) = site_plan site (λ value. says status.Ok (site2_text value))
-plan_of (synth lang site file state) = site_plan site (λ value. source_plan lang value file (λ walk. shows (table value state walk)))
+plan_of (synth lang site file state) = site_plan site (λ value. source_plan lang value file (λ policy. shows (table value state policy.walk)))
 plan_of (query lang site file state asks) =
-    site_plan site (λ value. asks_plan value asks (source_plan lang value file (λ walk. shows (asked_table value state asks walk))))
-plan_of (translate from to site file) = site_plan site (λ value. source_plan from value file (λ walk. shows (translation to value walk)))
-plan_of (load n) = load_site_plan (λ value. load_text_plan n value (λ walk. shows (loaded n value walk)))
+    site_plan site (λ value. asks_plan value asks (source_plan lang value file (λ policy. shows (asked_table value state asks policy.walk))))
+plan_of (translate from to site file) = site_plan site (λ value. source_plan from value file (λ policy. shows (translation to value policy.walk)))
+plan_of (load n) = load_site_plan (λ value. load_text_plan n value (λ policy. shows (loaded n value policy.walk)))
 plan_of (trace lang site file conns packets) =
-    site_plan site (λ value. source_plan lang value file (λ walk. conns_plan conns (λ tracked. packets_plan value packets (λ sent.
-    says status.Ok (trace_text walk tracked sent)))))
+    site_plan site (λ value. source_plan lang value file (λ policy. conns_plan conns (λ tracked. packets_plan value packets (λ sent.
+    says status.Ok (trace_text policy.walk tracked sent)))))

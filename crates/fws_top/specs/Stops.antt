@@ -16,7 +16,7 @@ use Rattle.fws_top.specs.declared.answer.Stop.TheVariants.{Due, Memory}
 use Rattle.fws_top.specs.declared.status.Status.{Status}
 use Rattle.fws_top.specs.declared.status.Status.TheVariants as status
 use Rattle.fws_top.specs.Due.{IsFaultless}
-use Rattle.fws_top.specs.Judged.{IsPacketOf, diagram_refusal}
+use Rattle.fws_top.specs.Judged.{IsPacketOf, Policy, diagram_refusal}
 use Rattle.fws_top.specs.Lines.{cannot_read_line}
 use Rattle.fws_top.specs.Plan.{Plan, says, shows, reads, asks_plan}
 use Rattle.fws_top.specs.Tables.{IsWanted}
@@ -89,18 +89,18 @@ pub record IsUnfolded (d : Ifcl) (flat : Flat) : Type 0 where
   pub unrefused : diagram_refusal d ≡ None
   pub does : (site : Site) (p : Packet) (k : Kind) → means flat site p k ≡ diagram_means d site p k
 
--- code that does what a regular walk says, for which the plan is what follows
-pub record IsCode (plan : ((Packet → Kind → Outcome) → Plan) → Plan) (site : Site) (flat : Flat) : Type 0 where
+-- code that does what a policy with a regular walk means, for which the plan is what follows
+pub record IsCode (plan : (Policy → Plan) → Plan) (site : Site) (flat : Flat) : Type 0 where
   pub ok : flat_ok flat ≡ true
-  pub walk : Packet → Kind → Outcome
-  pub regular : IsRegularWalk site walk
-  pub does : Does flat site walk
-  pub chooses : Chooses plan walk
+  pub policy : Policy
+  pub regular : IsRegularWalk site policy.walk
+  pub does : Does flat site policy.walk
+  pub chooses : Chooses plan policy
 
--- code that does what a regular walk says, with which the plan goes on
-pub record IsTakenCode (plan : ((Packet → Kind → Outcome) → Plan) → Plan) (told : Option (List ℕ → List ℕ)) (site : Site) (flat : Flat) : Type 0 where
+-- code that does what a policy with a regular walk means, with which the plan goes on
+pub record IsTakenCode (plan : (Policy → Plan) → Plan) (told : Option (List ℕ → List ℕ)) (site : Site) (flat : Flat) : Type 0 where
   pub ok : flat_ok flat ≡ true
-  pub walk : Packet → Kind → Outcome
-  pub regular : IsRegularWalk site walk
-  pub does : Does flat site walk
-  pub goes_on : GoesOn plan told walk
+  pub policy : Policy
+  pub regular : IsRegularWalk site policy.walk
+  pub does : Does flat site policy.walk
+  pub goes_on : GoesOn plan told policy

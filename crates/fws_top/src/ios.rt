@@ -18,6 +18,7 @@ impl Source for Ios {
 
     ghost use Rattle.fws_ios.specs.FileText.{spelled};
     ghost use Rattle.fws_ios.specs.Walk.{walk};
+    ghost use Rattle.fws_ios_put.specs.Placed.{tracks};
     ghost use Rattle.fws_top.specs.Judged.{ios_refusal};
 
     ghost spelled = { λ site text. spelled site text };
@@ -25,6 +26,8 @@ impl Source for Ios {
     ghost refusal = { λ site config. ios_refusal site config };
 
     ghost walk = { λ config site packet kind. walk config site packet kind };
+
+    ghost tracks = { λ site config. tracks site config };
 
     fn read(alloc: Global, text: &[u8], site: &Site) -> Result<IosConfig, ReadAnswer> {
         fws_ios_read::read(alloc, text, site)
@@ -42,14 +45,11 @@ impl Source for Ios {
 
 impl Language for Ios {
     ghost use Rattle.fws_ios_print.specs.Printable.{is_printable};
-    ghost use Rattle.fws_ios_put.specs.Placed.{tracks};
     ghost use Rattle.fws_net.specs.declared.packet.Lang.TheVariants as langs;
 
     ghost system = { langs.Ios };
 
     ghost printable = { λ site config. is_printable site config };
-
-    ghost tracks = { λ site config. tracks site config };
 
     fn place(alloc: Global, t: &Tables, site: &Site) -> Result<IosConfig, PlaceAnswer> {
         fws_ios_put::place(alloc, t, site)

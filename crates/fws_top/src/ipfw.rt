@@ -19,6 +19,7 @@ impl Source for Ipfw {
 
     ghost use Rattle.fws_ipfw.specs.FileText.{spelled};
     ghost use Rattle.fws_ipfw.specs.Walk.{walk};
+    ghost use Rattle.fws_ipfw_put.specs.Placed.{tracks};
     ghost use Rattle.fws_top.specs.Judged.{ipfw_refusal};
 
     ghost spelled = { λ site text. spelled site text };
@@ -26,6 +27,8 @@ impl Source for Ipfw {
     ghost refusal = { λ site config. ipfw_refusal site config };
 
     ghost walk = { λ config site packet kind. walk config site packet kind };
+
+    ghost tracks = { λ site config. tracks site config };
 
     fn read(alloc: Global, text: &[u8], site: &Site) -> Result<IpfwConfig, ReadAnswer> {
         fws_ipfw_read::read(alloc, text, site)
@@ -44,14 +47,11 @@ impl Source for Ipfw {
 
 impl Language for Ipfw {
     ghost use Rattle.fws_ipfw_print.specs.Printable.{is_printable};
-    ghost use Rattle.fws_ipfw_put.specs.Placed.{tracks};
     ghost use Rattle.fws_net.specs.declared.packet.Lang.TheVariants as langs;
 
     ghost system = { langs.Ipfw };
 
     ghost printable = { λ site config. is_printable site config };
-
-    ghost tracks = { λ site config. tracks site config };
 
     fn place(alloc: Global, t: &Tables, site: &Site) -> Result<IpfwConfig, PlaceAnswer> {
         fws_ipfw_put::place(alloc, t, site)

@@ -19,6 +19,7 @@ impl Source for Iptables {
 
     ghost use Rattle.fws_ipt.specs.FileText.{spelled};
     ghost use Rattle.fws_ipt.specs.Walk.{walk};
+    ghost use Rattle.fws_ipt_put.specs.Placed.{tracks};
     ghost use Rattle.fws_top.specs.Judged.{ipt_refusal};
 
     ghost spelled = { λ site text. spelled site text };
@@ -26,6 +27,8 @@ impl Source for Iptables {
     ghost refusal = { λ site config. ipt_refusal site config };
 
     ghost walk = { λ config site packet kind. walk config site packet kind };
+
+    ghost tracks = { λ site config. tracks site config };
 
     fn read(alloc: Global, text: &[u8], site: &Site) -> Result<IptConfig, ReadAnswer> {
         fws_ipt_read::read(alloc, text, site)
@@ -45,14 +48,11 @@ impl Source for Iptables {
 
 impl Language for Iptables {
     ghost use Rattle.fws_ipt_print.specs.Printable.{is_printable};
-    ghost use Rattle.fws_ipt_put.specs.Placed.{tracks};
     ghost use Rattle.fws_net.specs.declared.packet.Lang.TheVariants as langs;
 
     ghost system = { langs.Iptables };
 
     ghost printable = { λ site config. is_printable site config };
-
-    ghost tracks = { λ site config. tracks site config };
 
     fn place(alloc: Global, t: &Tables, site: &Site) -> Result<IptConfig, PlaceAnswer> {
         fws_ipt_put::place(alloc, t, site)

@@ -26,9 +26,6 @@ pub trait Language: Source {
     // Whether a configuration can be printed at a site.
     ghost printable: { Site → Self.Config → Bool };
 
-    // Whether a configuration keeps state where it accepts.
-    ghost tracks: { Site → Self.Config → Bool };
-
     /// A configuration that gives the packets of the site the fates of the tables: `Ok` exactly where these fit the system,
     /// and else the first clause that they don't meet, with packets that show so.
     fn place(alloc: Global, t: &Tables, site: &Site) -> Result<Self::Config, PlaceAnswer>
@@ -37,7 +34,7 @@ pub trait Language: Source {
         requires regular { AreRegular site.now t.now }
         ensures fits { OnOk result (Fits system site.now t.now) }
         ensures printable { IfOk result (λ c. printable site.now c ≡ true) }
-        ensures tracks { IfOk result (λ c. tracks site.now c ≡ true) }
+        ensures tracks { IfOk result (λ c. Self.tracks site.now c ≡ true) }
         ensures fates { IfOk result (λ c. GivesFates site.now t.now (Self.walk c site.now)) }
         ensures unfit { (b : Breach) → result ≡ Err (PlaceAnswer.Unfit b) → IsBreach system site.now t.now b };
 

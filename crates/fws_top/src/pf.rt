@@ -18,6 +18,7 @@ impl Source for Pf {
 
     ghost use Rattle.fws_pf.specs.FileText.{spelled};
     ghost use Rattle.fws_pf.specs.Walk.{walk};
+    ghost use Rattle.fws_pf_put.specs.Placed.{tracks};
     ghost use Rattle.fws_top.specs.Judged.{pf_refusal};
 
     ghost spelled = { λ site text. spelled site text };
@@ -25,6 +26,8 @@ impl Source for Pf {
     ghost refusal = { λ site config. pf_refusal site config };
 
     ghost walk = { λ config site packet kind. walk config site packet kind };
+
+    ghost tracks = { λ site config. tracks site config };
 
     fn read(alloc: Global, text: &[u8], site: &Site) -> Result<PfConfig, ReadAnswer> {
         fws_pf_read::read(alloc, text, site)
@@ -43,13 +46,10 @@ impl Source for Pf {
 impl Language for Pf {
     ghost use Rattle.fws_net.specs.declared.packet.Lang.TheVariants as langs;
     ghost use Rattle.fws_pf_print.specs.Printable.{is_printable};
-    ghost use Rattle.fws_pf_put.specs.Placed.{tracks};
 
     ghost system = { langs.Pf };
 
     ghost printable = { λ site config. is_printable site config };
-
-    ghost tracks = { λ site config. tracks site config };
 
     fn place(alloc: Global, t: &Tables, site: &Site) -> Result<PfConfig, PlaceAnswer> {
         fws_pf_put::place(alloc, t, site)

@@ -2,11 +2,8 @@
 
 ghost use Rattle.std.specs.Prelude.{◌≡◌, Ok, true, IfOk, IfErr};
 ghost use Rattle.fws_ifcl.specs.Soundness.{ifcl_ok};
-ghost use Rattle.fws_net.specs.declared.connection.Kind.{Kind};
-ghost use Rattle.fws_net.specs.declared.outcome.Outcome.{Outcome};
-ghost use Rattle.fws_net.specs.declared.packet.Packet.{Packet};
 ghost use Rattle.fws_net.specs.Routes.{IsSound};
-ghost use Rattle.fws_top.specs.Judged.{chain_name, diagram_refusal, judged_by, judged_chains};
+ghost use Rattle.fws_top.specs.Judged.{Policy, chain_name, diagram_refusal, judged_by, judged_chains};
 ghost use Rattle.fws_top.specs.Plan.{judged};
 ghost use Rattle.fws_top.specs.Stops.{EndsIn, IsCode, IsUnfolded};
 
@@ -57,7 +54,7 @@ fn chain_name(diagram: &Ifcl, chain: u32) -> &[u8]
 fn take_code(alloc: Global, name: &[u8], diagram: &Ifcl) -> Result<Flat, Stop>
     requires { ifcl_ok diagram.now ≡ true }
     ensures code { IfOk result (IsUnfolded diagram.now) }
-    ensures refused { (walk : Packet → Kind → Outcome) → IfErr result (EndsIn (judged name.now (judged_chains (diagram_refusal diagram.now) walk))) }
+    ensures refused { (policy : Policy) → IfErr result (EndsIn (judged name.now (judged_chains (diagram_refusal diagram.now) policy))) }
 {
     match unfold(alloc, diagram) {
         Ok(code) => Ok(code),

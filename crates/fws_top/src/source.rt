@@ -11,7 +11,7 @@ pub trait Source {
     /// What a text spells.
     type Config: Drop;
 
-    ghost use Rattle.std.specs.Prelude.{◌≡◌, ℕ, List, Option, None, Result, Ok, true, IfOk};
+    ghost use Rattle.std.specs.Prelude.{◌≡◌, ℕ, Bool, List, Option, None, Result, Ok, true, IfOk};
     ghost use Rattle.fws_ifcl.specs.Soundness.{ifcl_ok};
     ghost use Rattle.fws_ifcl.specs.Walk.{means};
     ghost use Rattle.fws_net.specs.declared.cause.Cause.{Cause};
@@ -32,6 +32,9 @@ pub trait Source {
 
     // What becomes of a packet of a class at a site.
     ghost walk: { Self.Config → Site → Packet → Kind → Outcome };
+
+    // Whether a configuration keeps state where it accepts, at a site.
+    ghost tracks: { Site → Self.Config → Bool };
 
     /// The configuration that a text spells at a site. `Refused` comes exactly where a line is refused, and has the first
     /// such line and its cause.

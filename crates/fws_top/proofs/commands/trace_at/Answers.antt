@@ -5,6 +5,7 @@ use Rattle.fws_net.specs.declared.outcome.Outcome.{Outcome}
 use Rattle.fws_net.specs.declared.packet.Packet.{Packet}
 use Rattle.fws_top.specs.declared.status.Status.TheVariants as status
 use Rattle.fws_top.specs.Parts.{conns_part}
+use Rattle.fws_top.specs.Judged.{Policy}
 use Rattle.fws_top.specs.Plan.{Plan, source_plan}
 use Rattle.fws_top.specs.Stops.{Answered, Stopped}
 use Rattle.fws_top.proofs.AnsweredCommands.{step_stops}
@@ -13,7 +14,7 @@ use Rattle.fws_top.proofs.commands.trace_at.Goals as goal
 
 pub returns-in_err-code-clause-stopped : goal.returns-in_err-code-clause-stopped
 returns-in_err-code-clause-stopped g c =
-    let next : (Packet → Kind → Outcome) → Plan = λ walk. conns_part c.args.site.now walk c.args.conns_name.now c.args.packets_name.now in
+    let next : Policy → Plan = λ policy. conns_part c.args.site.now policy.walk c.args.conns_name.now c.args.packets_name.now in
     let stops = step_stops (source_plan c.args.lang c.args.site.now c.args.file_name.now) (g.S.Shelf.told c.args.shelf.now) (g.S.Shelf.faults c.args.shelf.now)
     (g.S.Shelf.faults c.take_source.new.shelf) c.in_err-code.field-0.0 next c.in_err-code.ensures.stopped in
     search (rules, stops)
@@ -26,8 +27,8 @@ returns-clause-answered g c =
     let at = g.S.Shelf.faults c.take_source.new.shelf in
     let new = g.S.Shelf.faults c.trace_by.new.shelf in
     let code = c.in_ok-code.ensures.code in
-    let next : (Packet → Kind → Outcome) → Plan = λ walk. conns_part c.args.site.now walk c.args.conns_name.now c.args.packets_name.now in
-    let plan : ((Packet → Kind → Outcome) → Plan) → Plan = source_plan c.args.lang c.args.site.now c.args.file_name.now in
+    let next : Policy → Plan = λ policy. conns_part c.args.site.now policy.walk c.args.conns_name.now c.args.packets_name.now in
+    let plan : (Policy → Plan) → Plan = source_plan c.args.lang c.args.site.now c.args.file_name.now in
     IfOk-weaker c.trace_by.result (Answered (next code.walk) before at new status.Ok) (Answered (plan next) told old new status.Ok)
     (λ t a. answered_behind plan told before old at new status.Ok t next code.walk code.goes_on c.in_ok-code.ensures.same c.in_ok-code.ensures.quiet a)
     (c.trace_by.ensures.answered code.walk code.does)
@@ -40,8 +41,8 @@ returns-clause-stopped g c =
     let at = g.S.Shelf.faults c.take_source.new.shelf in
     let new = g.S.Shelf.faults c.trace_by.new.shelf in
     let code = c.in_ok-code.ensures.code in
-    let next : (Packet → Kind → Outcome) → Plan = λ walk. conns_part c.args.site.now walk c.args.conns_name.now c.args.packets_name.now in
-    let plan : ((Packet → Kind → Outcome) → Plan) → Plan = source_plan c.args.lang c.args.site.now c.args.file_name.now in
+    let next : Policy → Plan = λ policy. conns_part c.args.site.now policy.walk c.args.conns_name.now c.args.packets_name.now in
+    let plan : (Policy → Plan) → Plan = source_plan c.args.lang c.args.site.now c.args.file_name.now in
     IfErr-weaker c.trace_by.result (Stopped (next code.walk) before at new) (Stopped (plan next) told old new)
     (λ stop s. stopped_behind plan told before old at new stop next code.walk code.goes_on c.in_ok-code.ensures.same c.in_ok-code.ensures.quiet s)
     (c.trace_by.ensures.stopped code.walk)

@@ -1,7 +1,5 @@
 use Rattle.std.proofs.Common.{rules}
-use Rattle.fws_net.specs.declared.connection.Kind.{Kind}
-use Rattle.fws_net.specs.declared.outcome.Outcome.{Outcome}
-use Rattle.fws_net.specs.declared.packet.Packet.{Packet}
+use Rattle.fws_top.specs.Judged.{Policy}
 use Rattle.fws_top.specs.Plan.{Plan, shows, source_plan}
 use Rattle.fws_top.specs.Tables.{translation}
 use Rattle.fws_top.proofs.AnsweredCommands.{step_stops, translation_shown}
@@ -9,7 +7,7 @@ use Rattle.fws_top.proofs.commands.translate_at.Goals as goal
 
 pub returns-in_err-code-clause-stopped : goal.returns-in_err-code-clause-stopped
 returns-in_err-code-clause-stopped g c =
-    let shown : (Packet → Kind → Outcome) → Plan = λ walk. shows (translation c.args.to c.args.site.now walk) in
+    let shown : Policy → Plan = λ policy. shows (translation c.args.to c.args.site.now policy.walk) in
     let stops = step_stops (source_plan c.args.from c.args.site.now c.args.file_name.now) (g.S.Shelf.told c.args.shelf.now) (g.S.Shelf.faults c.args.shelf.now)
     (g.S.Shelf.faults c.take_source.new.shelf) c.in_err-code.field-0.0 shown c.in_err-code.ensures.stopped in
     search (rules, stops)
