@@ -6,7 +6,6 @@
 mod agreeing;
 mod canvases;
 mod changes;
-mod counts;
 mod drawing;
 mod hand;
 mod hosts;
@@ -21,7 +20,6 @@ mod tally;
 mod trial;
 mod views;
 
-use crate::counts::try_counts;
 use crate::hand::try_by_hand;
 use crate::hosts::try_hosts;
 use crate::tally::Tally;
@@ -57,9 +55,7 @@ fn try_worked_out(alloc: Global, said: &mut Text) -> Result<bool, Memory> {
     by_hand.put_line(said, b"trees by hand")?;
     let hosts = try_hosts(alloc)?;
     hosts.put_line(said, b"one host")?;
-    let counts = try_counts(alloc)?;
-    counts.put_line(said, b"lists of rules")?;
-    Ok(by_hand.is_clean() && hosts.is_clean() && counts.is_clean())
+    Ok(by_hand.is_clean() && hosts.is_clean())
 }
 
 /// Tries what was worked out by hand and all groups, and says whether all cases agree.
