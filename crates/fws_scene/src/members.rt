@@ -41,7 +41,8 @@ fn add_block(
 {
     let range = one(alloc, base + (lo - start), base + (hi - start))?;
     let image = set.inter(alloc, &range)?;
-    add_image(out, &image, base, start)
+    add_image(out, &image, base, start)?;
+    Ok(())
 }
 
 /// The last number of the block that begins at `start`, or `hi` where that comes sooner.
