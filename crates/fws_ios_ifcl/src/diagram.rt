@@ -7,6 +7,7 @@ ghost use Rattle.fws_ifcl.specs.Refusals.{refusal_of};
 ghost use Rattle.fws_ifcl.specs.Soundness.{ifcl_ok};
 ghost use Rattle.fws_ifcl.specs.Walk.{means};
 ghost use Rattle.fws_draw.specs.Rules.{ruled};
+ghost use Rattle.fws_draw.specs.Straight.{is_straight};
 ghost use Rattle.fws_ios.specs.Walk.{walk};
 ghost use Rattle.fws_ios_ifcl.specs.Diagram.{chains_of, destination_rules, diagram_of, kept_destinations, kept_sources, list_rules, source_rules, stage_of};
 
@@ -202,6 +203,7 @@ pub fn to_ifcl(alloc: Global, c: &IosConfig, site: &Site) -> Result<Ifcl, Memory
     ensures diagram { IfOk result (λ d. d ≡ diagram_of c.now) }
     ensures ok { IfOk result (λ d. ifcl_ok d ≡ true) }
     ensures means { IfOk result (λ d. (p : Packet) (k : Kind) → means d site.now p k ≡ walk c.now site.now p k) }
+    ensures straight { IfOk result (λ d. is_straight d ≡ true) }
     ensures unfolds { IfOk result (λ d. refusal_of d ≡ None) }
 {
     walks_go_by_places();

@@ -7,6 +7,7 @@ ghost use Rattle.fws_net.specs.declared.packet.Packet.{Packet};
 ghost use Rattle.fws_ifcl.specs.Refusals.{refusal_of};
 ghost use Rattle.fws_ifcl.specs.Soundness.{ifcl_ok};
 ghost use Rattle.fws_ifcl.specs.Walk.{means};
+ghost use Rattle.fws_draw.specs.Straight.{is_straight};
 ghost use Rattle.fws_ipfw.specs.Soundness.{are_apart, are_ordered};
 ghost use Rattle.fws_ipfw.specs.Walk.{walk};
 ghost use Rattle.fws_ipfw_ifcl.specs.Blocks.{place_behind, starts_from};
@@ -287,6 +288,7 @@ pub fn to_ifcl(alloc: Global, c: &IpfwConfig, site: &Site) -> Result<Ifcl, Memor
     ensures diagram { IfOk result (λ d. d ≡ diagram_of site.now c.now) }
     ensures ok { IfOk result (λ d. ifcl_ok d ≡ true) }
     ensures means { IfOk result (λ d. (p : Packet) (k : Kind) → means d site.now p k ≡ walk c.now site.now p k) }
+    ensures straight { IfOk result (λ d. is_straight d ≡ true) }
     ensures unfolds { IfOk result (λ d. refusal_of d ≡ None) }
 {
     walks_go_by_places();

@@ -4,6 +4,7 @@ use Rattle.fws_net.specs.declared.packet.Packet.{Packet}
 use Rattle.fws_ifcl.specs.Refusals.{refusal_of}
 use Rattle.fws_ifcl.specs.Soundness.{ifcl_ok}
 use Rattle.fws_ifcl.specs.Walk.{means}
+use Rattle.fws_draw.specs.Straight.{is_straight}
 use Rattle.fws_ipfw.specs.Walk.{walk}
 use Rattle.fws_ipfw_ifcl.specs.Diagram.{diagram_of}
 use Rattle.fws_ipfw_ifcl.proofs.Numbered.{diagram_ok, diagram_straight}
@@ -19,6 +20,11 @@ returns-clause-means c =
     let site = c.args.site.now in
     subst (λ d. (p : Packet) (k : Kind) → means d site p k ≡ walk f site p k) (sym c.in_ok-d.ensures)
     (keeps_walks c.walks_go_by_places.ensures site f c.requires)
+
+pub returns-clause-straight : goal.returns-clause-straight
+returns-clause-straight c =
+    subst (λ d. is_straight d ≡ true) (sym c.in_ok-d.ensures)
+    (diagram_straight c.rules_are_right_by_parts.ensures c.args.site.now c.args.c.now)
 
 pub returns-clause-unfolds : goal.returns-clause-unfolds
 returns-clause-unfolds c =
