@@ -105,5 +105,6 @@ pub(crate) fn not_outside(alloc: Global, site: &Site) -> Result<Ivs, Memory>
     ensures { IfOk result (λ s. (a : ℕ) → has s a ≡ (not (is_sent_outside site.now a) && nat_lt a (2 ^ 32))) }
 {
     let outside = outside_set(alloc, site)?;
-    one(alloc, 0, u32::MAX)?.minus(alloc, &outside)
+    let rest = one(alloc, 0, u32::MAX)?.minus(alloc, &outside)?;
+    Ok(rest)
 }

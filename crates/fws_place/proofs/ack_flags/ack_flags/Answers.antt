@@ -12,5 +12,5 @@ returns c =
     let with : List Iv = c.in_ok-with.with in
     let P : List Iv → Type 0 = λ s. (v : ℕ) → has s v ≡ (has all v && not (has with v)) in
     let Q : List Iv → Type 0 = λ s. (v : ℕ) → v ≤ 63 → has s v ≡ acknowledges_as c.args.asked v in
-    IfOk-weaker c.minus-2.result P Q
-    (λ s h v le. others_are all with s v c.in_ok-one.ensures (c.in_ok-with.ensures v le) (h v) le ∙ ap (λ b. acknowledges_as b v) (sym c.if-asked.false)) c.minus-2.ensures
+    IfOk-weaker c.minus.result P Q
+    (λ s h v le. others_are all with s v c.in_ok-one.ensures (c.in_ok-with.ensures v le) (h v) le ∙ ap (λ b. acknowledges_as b v) (sym c.if-asked.false)) c.minus.ensures

@@ -43,8 +43,8 @@ returns c =
     let low : dst p < 2 ^ 32 = c.in_ok-boxes.ensures.low (slice_index p 2) (slice_index p 8) (dst_low site p w) (sent_dst_low site p w) in
     sent_there (there p) (has c.in_ok-routed_set.field-0 (dst p)) (has c.args.ways.now.local (dst p)) (has set (route_of site (dst p))) (nat_lt (dst p) (2 ^ 32)) (is_local site (dst p))
     (c.in_ok-there.ensures (dst p)) (c.in_ok-routed_set.ensures (dst p)) (c.requires.ways.local (dst p)) (lt-ltb (dst p) (2 ^ 32) low) in
-    IfOk-weaker c.those_in-else-site.result _ (λ boxes. AreWhere area (λ p. x p && (site.forwarding || host p)) boxes.items)
+    IfOk-weaker c.those_in.result _ (λ boxes. AreWhere area (λ p. x p && (site.forwarding || host p)) boxes.items)
     (λ boxes e. where_same area (λ p. there p && one p) (λ p. x p && (site.forwarding || host p)) boxes.items
     (where_those area there one c.in_ok-boxes.boxes.items boxes.items c.in_ok-boxes.ensures.held e)
     (λ p n h. ap (λ b. there p && b) (c.in_ok-single.ensures (slice_index p 0)) ∙ from_host (there p) (x p) site.forwarding (host p) (same p n h) c.if-site.false))
-    c.those_in-else-site.ensures
+    c.those_in.ensures
