@@ -81,7 +81,8 @@ fn read_among(
         ground,
         progress: Progress::new(alloc),
     };
-    read_with(alloc, reader, &ground, lines)
+    let config = read_with(alloc, reader, &ground, lines)?;
+    Ok(config)
 }
 
 /// The configuration that statements spell on a site.
