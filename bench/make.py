@@ -214,7 +214,8 @@ def marked(rng, count):
 def crossing(rng, count):
     def rule(chain):
         tests = ['-s ' + spelled(network_or_host(rng)), '-d ' + spelled(network_or_host(rng))]
-        tests += ['-p {0} -m {0} --sport {1}:{2} --dport {3}'.format(rng.choice(['tcp', 'udp']), *sorted(rng.sample(range(65536), 2)), rng.randrange(65536))]
+        tests += ['-p {0} -m {0} --sport {1}:{2} --dport {3}'.format(
+            rng.choice(['tcp', 'udp']), *sorted(rng.sample(range(65536), 2)), rng.randrange(65536))]
         if chain == 'FORWARD':
             tests += ['-i ' + rng.choice(['eth0', 'eth1'])]
         chosen = [test for test in tests if rng.random() < 0.5] or [rng.choice(tests)]
@@ -426,9 +427,11 @@ def passed_pf(rng, count):
 
 
 FILES = {
-    'iptables': {family.__name__: family for family in (called, shared, loaded, rewritten, services, unfolded, marked, crossing, skipping, sources, decided, applied, bordered)},
+    'iptables': {family.__name__: family for family in (
+        called, shared, loaded, rewritten, services, unfolded, marked, crossing, skipping, sources, decided, applied, bordered)},
     'ipfw': {'skipping': skipping_ipfw, 'sources': sources_ipfw, 'redirected': redirected_ipfw},
-    'pf': {'decided': decided_pf, 'expanded': expanded_pf, 'repeated': repeated_pf, 'joined': joined_pf, 'defined': defined_pf, 'typed': typed_pf, 'passed': passed_pf},
+    'pf': {'decided': decided_pf, 'expanded': expanded_pf, 'repeated': repeated_pf, 'joined': joined_pf, 'defined': defined_pf,
+           'typed': typed_pf, 'passed': passed_pf},
     'ios': {'applied': applied_ios, 'bordered': bordered_ios},
 }
 

@@ -1,4 +1,4 @@
-"""python3 checks/documents.py, at the top of the repository
+"""python3 -B checks/documents.py, at the top of the repository
 
 Checks README.md, CONTRIBUTING.md, CHANGELOG.md, crates/README.md and docs/*.md; checks/documents.sh says how it is called and
 what it prints. What is checked:
@@ -26,9 +26,7 @@ import shlex
 import subprocess
 import sys
 
-sys.dont_write_bytecode = True  # of the next line, into the checkout
-
-from spoken import check_spoken  # noqa: E402
+from spoken import check_spoken
 
 COMMANDS = 'docs/COMMANDS.md'
 CLAIMS = 'docs/CLAIMS.md'

@@ -5,4 +5,4 @@
 # thing that is wrong, and last how many checks there were and how many went wrong. Exit status 1 where one did.
 # Build first: ./fws --build. FWS_PROGRAM, where it is set, names a program that is run in place of ./fws.
 cd "$(dirname "$0")/.." || exit 1
-exec python3 checks/documents.py
+exec python3 -B checks/documents.py

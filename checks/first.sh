@@ -12,7 +12,7 @@ cd "$work/clone" || exit 1
 command=$(sed -n 's/^\$ \(\.\/fws .*\)/\1/p' README.md | head -n 1)
 sed -n '/^\$ \.\/fws /,/^```\|^\$ /p' README.md | sed '1d;/^```\|^\$ /,$d' >"$work/wanted"
 on=()
-if command -v taskset >/dev/null; then on=(taskset -c 0,1); fi
+if command -v taskset >/dev/null; then on=(taskset -c '0,1'); fi
 echo "$command"
 cat /proc/loadavg 2>/dev/null
 begin=$(date +%s)

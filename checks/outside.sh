@@ -39,7 +39,7 @@ check 'a closed standard output' 5 "$?"
 got=$("$program" synth iptables S /dev/stdin new <F)
 check 'standard input as a file' "$table" "$got"
 
-got=$(cat F | "$program" synth iptables S /dev/stdin new)
+got=$("$program" synth iptables S /dev/stdin new < <(cat F))
 check 'a pipe as a file' "$table" "$got"
 
 mkfifo pipe && { cat F >pipe & }

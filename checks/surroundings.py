@@ -1,19 +1,14 @@
 """Runs the parts of checks/surroundings; checks/surroundings.sh says how it is called and what it prints."""
 
+import importlib
 import os
 import sys
 
 sys.dont_write_bytecode = True  # of the parts, into the checkout
 sys.path.insert(0, os.path.join(os.path.dirname(os.path.abspath(__file__)), 'surroundings'))
 
-from common import Tally  # noqa: E402
-import hosts  # noqa: E402
-import installing  # noqa: E402
-import manual  # noqa: E402
-import shells  # noqa: E402
-import viewing  # noqa: E402
-
-PARTS = {'installing': installing, 'manual': manual, 'shells': shells, 'hosts': hosts, 'viewing': viewing}
+Tally = importlib.import_module('common').Tally
+PARTS = {name: importlib.import_module(name) for name in ('installing', 'manual', 'shells', 'hosts', 'viewing')}
 
 
 def main():

@@ -12,8 +12,8 @@ language that each has, with the built program. What is checked of each:
   The rules of checks/placing have the status and the line of LINES.
 - The text, read back, has the two tables of the configuration that it was made of.
 - A text of ipfw keeps what its tool asks for: at most 31 networks and 30 ranges of ports in a list, and lines of at most 4,095 bytes.
-- A text of pf keeps what pf.conf(5) asks for: options of a line in their order, translations ahead of filter rules, names of tags of at most 63 bytes,
-  `static-port` behind each end of `nat`, and `flags` and `keep state` on each rule that passes packets.
+- A text of pf keeps what pf.conf(5) asks for: options of a line in their order, translations ahead of filter rules, names of tags
+  of at most 63 bytes, `static-port` behind each end of `nat`, and `flags` and `keep state` on each rule that passes packets.
 - A text of Cisco IOS keeps the forms of its manuals, each entry in a list that stands ahead of the translations, and each list that is named is
   defined.
 - A text of iptables keeps what iptables-restore asks for: no blank behind COMMIT; at most 15 ports in a list, where a range counts as two,
@@ -185,7 +185,8 @@ PF_FORMS = [
     ('rdr', r'rdr%s(?: tag %s)?(?: tagged %s)? -> \S+(?: bitmask| port \S+)?' % (PF_HEAD, PF_TAG, PF_TAG)),
     ('nat', r'no nat%s(?: tag %s)?(?: tagged %s)?' % (PF_HEAD, PF_TAG, PF_TAG)),
     ('nat', r'nat%s(?: tag %s)?(?: tagged %s)? -> \S+(?: bitmask)? static-port' % (PF_HEAD, PF_TAG, PF_TAG)),
-    ('filter', r'block(?: drop)?(?: in| out)?%s(?: flags [FSRPAU]*/[FSRPAU]+| icmp-type \w+)?(?: tagged %s)?(?: tag %s)?' % (PF_HEAD, PF_TAG, PF_TAG)),
+    ('filter', r'block(?: drop)?(?: in| out)?%s(?: flags [FSRPAU]*/[FSRPAU]+| icmp-type \w+)?(?: tagged %s)?(?: tag %s)?' % (
+        PF_HEAD, PF_TAG, PF_TAG)),
     ('filter', r'pass(?: in| out)?%s(?: tagged %s)? flags (?:any|[FSRPAU]*/[FSRPAU]+) keep state' % (PF_HEAD, PF_TAG)),
 ]
 
@@ -390,7 +391,8 @@ def shown(tally, job, clause, status, text):
     kind = 'new' if len(words) == 8 else 'est'
     asked = run('query', language, site, name, kind, *('%s=%s' % pair for pair in zip(fields, words)))[1]
     outcome = asked.partition(' : ')[2]
-    wanted = {2: r'accept .*src=[^ /]+:.*', 3: r'accept .*dst=.*', 4: r'accept .*src=.*', 11: r'(?!accept$).*', 12: r'accept .*dst=.*', 16: r'drop', 17: r'accept .*/.*'}[clause]
+    wanted = {2: r'accept .*src=[^ /]+:.*', 3: r'accept .*dst=.*', 4: r'accept .*src=.*', 11: r'(?!accept$).*',
+              12: r'accept .*dst=.*', 16: r'drop', 17: r'accept .*/.*'}[clause]
     tally.check(len(words) in (8, 12) and re.fullmatch(wanted, outcome.strip()), name, 'names', *words)
     tally.check(clause not in (3, 11) or words[:1] == ['host'], name, 'names a packet that is not of the host', *words)
     if clause == 16:

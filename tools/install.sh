@@ -43,7 +43,7 @@ ask_folder() {
     local folder=$1
     while [ ! -e "$folder" ] && [ ! -L "$folder" ] && [ "$folder" != / ]; do folder=$(dirname -- "$folder"); done
     [ -d "$folder" ] || refuse "cannot write to $1: $folder is no folder"
-    [ -w "$folder" ] && [ -x "$folder" ] || refuse "cannot write to $1: $folder may not be written to"
+    { [ -w "$folder" ] && [ -x "$folder" ]; } || refuse "cannot write to $1: $folder may not be written to"
 }
 
 # Refuses where a place can't be written to.
@@ -86,7 +86,7 @@ put() {
         make_folder "$(dirname -- "$prefix/$to")"
         other_name "$prefix/$to"
         news+=("$other")
-        cp -- "$top/$from" "$other" 2>/dev/null && chmod "$mode" "$other" || refuse "cannot write $prefix/$to"
+        { cp -- "$top/$from" "$other" 2>/dev/null && chmod "$mode" "$other"; } || refuse "cannot write $prefix/$to"
     done
     trap '' HUP INT TERM # from here on it takes no time
     for k in "${!places[@]}"; do
@@ -125,7 +125,7 @@ check() {
     for place in "${places[@]}"; do ask_place "$prefix/${place##* }"; done
 }
 
-[ "$#" -eq 3 ] && [ -n "$3" ] || { say 'usage: tools/install.sh check|put|take TOP PREFIX'; exit 2; }
+if [ "$#" -ne 3 ] || [ -z "$3" ]; then say 'usage: tools/install.sh check|put|take TOP PREFIX'; exit 2; fi
 top=$2
 case "$3" in
     /) prefix= ;;

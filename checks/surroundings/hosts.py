@@ -222,8 +222,8 @@ LINES = (
      [{'dst': 'default', 'flags': [], 'nexthops': [{'gateway': '10.0.0.2', 'dev': 'a'}, {'gateway': '203.0.113.1', 'dev': 'b'}]},
       route('10.0.0.0/24', 'a'), route('203.0.113.0/30', 'b')], (),
      ('default a', '# guessed: default a: the default route leads to a and b')),
-    ('an unreachable default', [face('a', '10.0.0.1/24')], [{'type': 'unreachable', 'dst': 'default', 'flags': []},
-                                                         route('10.0.0.0/24', 'a')], (),
+    ('an unreachable default', [face('a', '10.0.0.1/24')],
+     [{'type': 'unreachable', 'dst': 'default', 'flags': []}, route('10.0.0.0/24', 'a')], (),
      ('default a', '# guessed: default a: the default route has no place here (unreachable). Packets without a route go there in '
       'the tables, where the host drops or sends them otherwise')),
     ('an address of two interfaces', [face('a', '10.0.0.1/24'), face('b', '10.0.0.1/24', '10.0.1.1/24')],

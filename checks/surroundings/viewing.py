@@ -68,8 +68,9 @@ def check_columns(tally):
     lines = text.splitlines()[2:]
     for name in ('proto', 'dst', 'dport', 'verdict', 'written'):
         place = lines[0].index(name)
-        tally.holds('a table: the column %s' % name, all(line[place - 1:place] in ('', ' ') and line[place:place + 1] != ' ' for line in
-                                                        lines if len(line) > place and name != 'written'), lines)
+        tally.holds('a table: the column %s' % name, all(
+            line[place - 1:place] in ('', ' ') and line[place:place + 1] != ' '
+            for line in lines if len(line) > place and name != 'written'), lines)
     narrow = run(VIEW, told=TABLE, env=dict(os.environ, COLUMNS='80'))[1].splitlines()
     tally.holds('80 columns', max(map(len, narrow)) <= 80, narrow)
     tally.holds('80 columns: a set is shortened behind a whole item or within its first', any(
