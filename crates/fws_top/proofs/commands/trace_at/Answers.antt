@@ -1,8 +1,5 @@
 use Rattle.std.proofs.Common.{rules}
 use Rattle.std.proofs.lemmas.Result.{IfErr-weaker, IfOk-weaker}
-use Rattle.fws_net.specs.declared.connection.Kind.{Kind}
-use Rattle.fws_net.specs.declared.outcome.Outcome.{Outcome}
-use Rattle.fws_net.specs.declared.packet.Packet.{Packet}
 use Rattle.fws_top.specs.declared.status.Status.TheVariants as status
 use Rattle.fws_top.specs.Parts.{conns_part}
 use Rattle.fws_top.specs.Judged.{Policy}
@@ -29,9 +26,9 @@ returns-clause-answered g c =
     let code = c.in_ok-code.ensures.code in
     let next : Policy → Plan = λ policy. conns_part c.args.site.now policy.walk c.args.conns_name.now c.args.packets_name.now in
     let plan : (Policy → Plan) → Plan = source_plan c.args.lang c.args.site.now c.args.file_name.now in
-    IfOk-weaker c.trace_by.result (Answered (next code.walk) before at new status.Ok) (Answered (plan next) told old new status.Ok)
-    (λ t a. answered_behind plan told before old at new status.Ok t next code.walk code.goes_on c.in_ok-code.ensures.same c.in_ok-code.ensures.quiet a)
-    (c.trace_by.ensures.answered code.walk code.does)
+    IfOk-weaker c.trace_by.result (Answered (next code.policy) before at new status.Ok) (Answered (plan next) told old new status.Ok)
+    (λ t a. answered_behind plan told before old at new status.Ok t next code.policy code.goes_on c.in_ok-code.ensures.same c.in_ok-code.ensures.quiet a)
+    (c.trace_by.ensures.answered code.policy.walk code.does)
 
 pub returns-clause-stopped : goal.returns-clause-stopped
 returns-clause-stopped g c =
@@ -43,6 +40,6 @@ returns-clause-stopped g c =
     let code = c.in_ok-code.ensures.code in
     let next : Policy → Plan = λ policy. conns_part c.args.site.now policy.walk c.args.conns_name.now c.args.packets_name.now in
     let plan : (Policy → Plan) → Plan = source_plan c.args.lang c.args.site.now c.args.file_name.now in
-    IfErr-weaker c.trace_by.result (Stopped (next code.walk) before at new) (Stopped (plan next) told old new)
-    (λ stop s. stopped_behind plan told before old at new stop next code.walk code.goes_on c.in_ok-code.ensures.same c.in_ok-code.ensures.quiet s)
-    (c.trace_by.ensures.stopped code.walk)
+    IfErr-weaker c.trace_by.result (Stopped (next code.policy) before at new) (Stopped (plan next) told old new)
+    (λ stop s. stopped_behind plan told before old at new stop next code.policy code.goes_on c.in_ok-code.ensures.same c.in_ok-code.ensures.quiet s)
+    (c.trace_by.ensures.stopped code.policy.walk)
