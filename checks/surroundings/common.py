@@ -1,6 +1,7 @@
 """What the checks of the surroundings share."""
 
 import os
+import shutil
 import subprocess
 
 TOP = os.path.dirname(os.path.dirname(os.path.dirname(os.path.abspath(__file__))))
@@ -48,6 +49,23 @@ def run(*words, told='', seconds=300, **further):
     ended = subprocess.run(words, input=told.encode(), stdout=subprocess.PIPE, stderr=subprocess.PIPE, timeout=seconds,
                            check=False, **further)
     return ended.returncode, ended.stdout.decode('utf-8', 'replace'), ended.stderr.decode('utf-8', 'replace')
+
+
+def copy_checkout(folder):
+    """A checkout of three crates, with what ./fws needs and with a program that is newer than the sources."""
+    for name in ('fws', 'tools', 'share'):
+        source = os.path.join(TOP, name)
+        (shutil.copytree if os.path.isdir(source) else shutil.copy2)(source, os.path.join(folder, name))
+    for crate in ('fws', 'fws_high', 'fws_low', 'fws_answers/data'):
+        os.makedirs(os.path.join(folder, 'crates', crate))
+    for name in ('help.text', 'version.text', 'usage.text'):
+        shutil.copy(os.path.join(TOP, 'crates/fws_answers/data', name), os.path.join(folder, 'crates/fws_answers/data'))
+    write(os.path.join(folder, 'crates.txt'), 'fws: fws_high std\nfws_high: fws_low # the one above\nfws_low:\n')
+    os.makedirs(os.path.join(folder, 'crates/fws/out'))
+    shutil.copy(PROGRAM, os.path.join(folder, 'crates/fws/out/fws'))
+    for name in ('fws', 'tools/install.sh', 'tools/view', 'tools/site-of-host', 'crates/fws/out/fws'):
+        os.chmod(os.path.join(folder, name), 0o755)
+    os.utime(os.path.join(folder, 'crates.txt'), (0, 0))
 
 
 def read(name):

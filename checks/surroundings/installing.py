@@ -1,11 +1,11 @@
 """Tries ./fws --install and --uninstall on a copy of what they need, below folders that may and may not be written to."""
 
 import os
-import shutil
+import re
 import stat
 import tempfile
 
-from common import PROGRAM, TOP, run, write
+from common import PROGRAM, TOP, copy_checkout, read, run, write
 
 NOBODY = 65534
 
@@ -24,18 +24,6 @@ def files_below(folder):
             path = os.path.join(place, name)
             found[os.path.relpath(path, folder)] = stat.S_IMODE(os.stat(path).st_mode)
     return found
-
-
-def copy_checkout(folder):
-    """A checkout with a program that is newer than its one source."""
-    for name in ('fws', 'tools', 'share', 'crates.txt'):
-        source = os.path.join(TOP, name)
-        (shutil.copytree if os.path.isdir(source) else shutil.copy2)(source, os.path.join(folder, name))
-    os.makedirs(os.path.join(folder, 'crates/fws/out'))
-    shutil.copy(PROGRAM, os.path.join(folder, 'crates/fws/out/fws'))
-    for name in ('fws', 'tools/install.sh', 'tools/view', 'tools/site-of-host', 'crates/fws/out/fws'):
-        os.chmod(os.path.join(folder, name), 0o755)
-    os.utime(os.path.join(folder, 'crates.txt'), (0, 0))
 
 
 def said_lines(verb, prefix, places=PLACES):
@@ -139,9 +127,14 @@ def check_built_first(tally, script, checkout, folder):
     tally.holds('nothing is built in vain', not os.path.exists(checkout + '/called'), 'rt was called')
     prefix = os.path.join(folder, 'built')
     status, _, said = run(script, '--install', prefix, env=surroundings)
-    tally.check('a build that goes wrong', (6, True), (status, 'why it went wrong\nfws: the program could not be built\n' in said))
+    told = re.search(r'\nwhy it went wrong\nfws: fws_low could not be proved and built; all that rt said: (.*)\n'
+                     r'fws: the program could not be built\n$', said)
+    if tally.holds('a build that goes wrong', status == 6 and told, (status, said)):
+        tally.check('a build that goes wrong: all that was said', 'why it went wrong\n', read(told[1]))
+        os.remove(told[1])
+    tally.check('a build that goes wrong: what was called', 'lib\n', read(checkout + '/called'))
     tally.holds('a build that goes wrong: nothing is left', not os.path.exists(prefix), '%s is there' % prefix)
-    write(checkout + '/bin/rt', '#!/bin/sh\ntouch out/fws\n')
+    write(checkout + '/bin/rt', '#!/bin/sh\n[ "$1" != run ] || touch out/fws\n')
     status, _, said = run(script, '--install', prefix, env=surroundings)
     tally.check('a build that goes well', (0, True), (status, said.endswith(said_lines('put %s', prefix))))
     tally.check('a build that goes well: files', PLACES, files_below(prefix))
