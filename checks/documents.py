@@ -1,7 +1,7 @@
 """python3 -B checks/documents.py, at the top of the repository
 
-Checks README.md, CONTRIBUTING.md, CHANGELOG.md, crates/README.md and docs/*.md; checks/documents.sh says how it is called and
-what it prints. What is checked:
+Checks README.md, CONTRIBUTING.md, CHANGELOG.md, crates/README.md, checks/cases/README.md and docs/*.md; checks/documents.sh says
+how it is called and what it prints. What is checked:
 
 - In a fenced block that has a line beginning `$ ./fws` or `$ tools/`, each line beginning `$ ` is a command, and the lines
   behind it, up to the next command or the end of the block, are exactly what it writes to standard output. Other blocks are
@@ -33,7 +33,7 @@ CLAIMS = 'docs/CLAIMS.md'
 ARCHITECTURE = 'docs/ARCHITECTURE.md'
 CRATE_LIST = 'crates/README.md'
 MAP = '## Where the definitions are'
-NAMES = ['README.md', 'CONTRIBUTING.md', 'CHANGELOG.md', CRATE_LIST]  # beside those of docs/
+NAMES = ['README.md', 'CONTRIBUTING.md', 'CHANGELOG.md', CRATE_LIST, 'checks/cases/README.md']  # beside those of docs/
 PROGRAM = 'crates/fws/out/fws'
 SECONDS = 120  # that a command may take
 
@@ -366,6 +366,10 @@ def chain_length():
     return max(length(name) for name in known)
 
 
+def case_count():
+    return sum(1 for path in ALL_PATHS if re.fullmatch(r'checks/cases/[^/]+\.case', path))
+
+
 def read_count():
     """The lines and texts that fws_rows reads, by what it has to print: `lines FILE FILE 35 of 35 agree`."""
     with open('crates/fws_rows/stdout', encoding='utf-8') as file:
@@ -381,6 +385,8 @@ COUNTED = (
     (r'(?<![\w.,])(\d[\d,]*)\s+crates\b', crate_count),
     # `the longest chain of crates is 12 long`: by crates.txt
     (r'\blongest\s+chain\s+of\s+crates\s+is\s+(\d+)\s+long\b', chain_length),
+    # `492 command lines`: those of checks/cases
+    (r'(?<![\w.,])(\d[\d,]*)\s+command\s+lines\b', case_count),
     # `reads 255 lines and texts`: what fws_rows reads of lines and texts that are accepted or refused
     (r'\breads\s+(\d[\d,]*)\s+lines\s+and\s+texts\b', read_count),
 )

@@ -65,7 +65,7 @@ rm -- "$odd"
 check 'an odd name that is absent' "cannot read $odd"$'\nstatus 4' "$(told "$program" synth iptables S "$odd" new)"
 
 check 'an argument that is no UTF-8' $'\nstatus 2' "$(told "$program" synth iptables S $'\xff' new)"
-check 'no words' $'usage: fws synth|query|translate|trace|load|site2\nstatus 2' "$(told "$program")"
+check 'no words' "$(cat "$top/crates/fws_answers/data/usage.text")"$'\nstatus 2' "$(told "$program")"
 
 for rules in "$top"/examples/*.rules; do
     wanted=$("$program" synth iptables S "$rules" new | sed '1s/^table/query/')$'\nstatus 0'
@@ -73,11 +73,6 @@ for rules in "$top"/examples/*.rules; do
     check "a query for everything of ${rules##*/}" "$wanted" \
         "$(told "$program" query iptables S "$rules" new 'entry=*' dst=0.0.0.0-255.255.255.255)"
 done
-
-check 'the second form of a site' "$(sed '/^#/d' "$top/examples/routed.site")"$'\nstatus 0' \
-    "$(told "$program" site2 "$top/examples/routed.site")"
-
-check 'the version' $'fws 0.1.0\nstatus 0' "$(told "$program" --version)"
 
 echo "outside: $right passed, $wrong failed"
 [ "$wrong" -eq 0 ]

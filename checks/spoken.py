@@ -46,8 +46,8 @@ def read(name):
 
 
 def script_options():
-    """The options of ./fws: the words that its `case` tells apart."""
-    return sorted(set(re.findall(r'\d:(--[a-z]+)', read('fws'))))
+    """The options of ./fws: the words that its `case` tells apart, beside those of the program that it answers itself."""
+    return sorted(set(re.findall(r'\d:(--[a-z]+)', read('fws'))) - {'--help', '--version'})
 
 
 def tool_options(tool):

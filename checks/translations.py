@@ -9,7 +9,6 @@ language that each has, with the built program. What is checked of each:
   What of the condition of Cisco IOS can be told by the rows of the tables alone is told by them: source ports, sources of what is delivered,
   rewritten packets of the host, destinations, dropped packets of connections, and mapped networks; of the other clauses UNPLACED has the
   configurations that break one first.
-  The rules of checks/placing have the status and the line of LINES.
 - The text, read back, has the two tables of the configuration that it was made of.
 - A text of ipfw keeps what its tool asks for: at most 31 networks and 30 ranges of ports in a list, and lines of at most 4,095 bytes.
 - A text of pf keeps what pf.conf(5) asks for: options of a line in their order, translations ahead of filter rules, names of tags
@@ -21,8 +20,8 @@ language that each has, with the built program. What is checked of each:
 - Where iptables-restore or iptables-nft-restore is installed and may be tried, it takes the text with --test; unless an interface
   of the site has a name of more than 15 bytes.
 
-And that a trace of the router's translation says of packets what one of the router itself says. Prints a line for each check that
-goes wrong, and last how many went right. Exit status 1 where one went wrong.
+Prints a line for each check that goes wrong, and last how many went right. Exit status 1 where one went wrong. Further
+translations, traces of texts, and policies that can't be placed are cases of checks/cases.
 """
 
 import ipaddress
@@ -82,22 +81,6 @@ UNPLACED = {
     ('ios', 'S', 'stateless.pf'): ('not placeable on ios clause 14: ', {1: '6', 8: 'with', 10: '6'}),
     ('ios', 'S', 'flag-tests.pf'): ('not placeable on ios clause 14: ', {1: '6', 8: 'with', 10: '6'}),
 }
-
-# Rules of checks/placing at the site S of the worked tables: the target, and what the line of status 1 is; none where they are placed.
-LINES = [
-    ('ipfw', 'handed-out.rules', r'clause 3: host \d+ 198\.51\.100\.9( \S+){5}'),
-    ('ipfw', 'unanswered.rules', r'clause 7: (lo|lan|wan)( \S+){7} (10\.0\.0\.1|203\.0\.113\.2|127\.\S+)( \S+){3}'),
-    ('iptables', 'unanswered.rules', None),
-    ('ipfw', 'left-early.rules', r'clause 7: host \d+ 198\.51\.100\.9( \S+){9}'),
-    ('ipfw', 'left-late.rules', None),
-    ('ipfw', 'every-server.rules', r'clause 6: (lo|lan|wan) 6 \S+ 80( \S+){4}'),
-    ('ipfw', 'closed.rules', None),
-    ('pf', 'closed.rules', r'clause 8: \S+( \S+){11}'),
-    ('pf', 'forgotten.rules', r'clause 8: \S+( \S+){11}'),
-    ('pf', 'begun.rules', r'clause 9: (lo|lan|wan) 6 203\.0\.113\.2 80( \S+){4} with (lo|lan|wan) 6 203\.0\.113\.2 80( \S+){4}'),
-    ('pf', 'handed-out.rules', r'clause 3: host \d+ 198\.51\.100\.9( \S+){5}'),
-    ('pf', 'left-late.rules', r'clause 8: host( \S+){11}'),
-]
 
 # How many words name what breaks a clause, beside those on packets of connections.
 PACKET_WORDS = {'2': 8, '3': 8, '4': 8, '6': 8, '14': 17, '17': 8}
@@ -429,29 +412,6 @@ def placed(tally, tools, work, target, job, text):
         tally.check(ended.returncode == 0, name, tool, ended.stderr.decode())
 
 
-def lines(tally, tools, work):
-    site = os.path.join(DATA, 'S')
-    for target, name, pattern in LINES:
-        file = os.path.join(TOP, 'checks/placing', name)
-        status, text = run('translate', 'iptables', target, site, file)
-        if pattern is None:
-            tally.check(status == 0, name, 'has status', status, text[:80])
-            placed(tally, tools, work, target, ('iptables', site, file), text)
-        else:
-            line = 'not placeable on %s %s\n' % (re.escape(target), pattern)
-            tally.check(status == 1 and re.fullmatch(line, text), name, 'has status', status, text[:80])
-
-
-def traced(tally, work, target):
-    """The trace of the router's translation is that of the router."""
-    site, router = os.path.join(EXAMPLES, 'site.txt'), os.path.join(EXAMPLES, 'router.saved')
-    lists = [os.path.join(EXAMPLES, 'router.' + name) for name in ('connections', 'packets')]
-    again = os.path.join(work, 'router')
-    with open(again, 'w', encoding='utf-8') as file:
-        file.write(run('translate', 'iptables', target, site, router)[1])
-    tally.check(run('trace', target, site, again, *lists) == run('trace', 'iptables', site, router, *lists), 'another trace of the router on', target)
-
-
 def main():
     tally, tools = Tally(), list(loaders())
     jobs = [(language, os.path.join(EXAMPLES, site), os.path.join(EXAMPLES, name)) for language, site, name in EXAMPLE_FILES]
@@ -469,9 +429,6 @@ def main():
             else:
                 tally.check(status == 0, name, 'has status', status, text[:80])
                 placed(tally, tools, work, target, job, text)
-        lines(tally, tools, work)
-        for target in ('iptables', 'ipfw', 'pf'):
-            traced(tally, work, target)
     print('translations: %d right, %d wrong; loaded by %s' % (tally.right, tally.wrong, ', '.join(tools) or 'none, as none is installed'))
     return 1 if tally.wrong or not tally.right else 0
 

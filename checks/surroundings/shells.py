@@ -64,6 +64,7 @@ COMMON_TRIES = (
     ('fws query pf nowhere rules.pf new entry=ho', 'fws query pf nowhere rules.pf new entry=host', (), ()),
     ('fws synth pf a', 'fws synth pf a\\ site ', (), ()),
     ('./checkout/fws --ins', './checkout/fws --install ', (), ()),
+    ('./checkout/fws --te', './checkout/fws --test ', (), ()),
     ('./checkout/fws --install su', './checkout/fws --install sub/', (), ()),
     ('./checkout/fws sy', './checkout/fws synth ', (), ()),
 )
