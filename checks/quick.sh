@@ -4,5 +4,4 @@
 # `--program PATH` the program at PATH answers. Words behind name cases, as `'pf-*'` does; without any all are run. Prints a
 # line for each case that differs, and last how many passed and failed. The status is 0 where all passed, 1 where one didn't,
 # 2 where the words or the files of a case are wrong, and 7 where the toolchain isn't found. `./fws --test` runs this.
-cd "$(dirname "$0")/.." || exit 1
-exec python3 checks/quick.py "$@"
+exec python3 "$(dirname "$0")/quick.py" "$@"
