@@ -50,6 +50,35 @@ echo '3 passed, 0 failed'
 '''
 
 
+# It has libraries built where they have a stamp.
+RTLIB = '''
+import os
+
+
+class Crate:
+    def __init__(self, top, name, uses):
+        self.folder, self.name, self.uses, self.every = top + '/crates/' + name, name, uses, {}
+
+    def below(self):
+        return [one for use in self.uses if use in self.every for one in [*self.every[use].below(), self.every[use]]]
+
+    def stamp(self):
+        return 'as it is'
+
+    def is_built(self):
+        stamp = self.folder + '/out/rlib/stamp'
+        return os.path.isfile(stamp) and open(stamp).read() == self.stamp()
+
+
+def crates_below(top):
+    lines = [line.split(':') for line in open(top + '/crates.txt')]
+    found = {name: Crate(top, name, uses.split()) for name, uses in lines}
+    for one in found.values():
+        one.every = found
+    return list(found.values())
+'''
+
+
 class Tally:
     def __init__(self):
         self.right = self.wrong = 0
@@ -252,18 +281,22 @@ def check_surroundings(tally, room):
     tally.check('edits of no crate', (1, ['crates/gone/edits: crates.txt has no such crate']), room.run('--list'))
     shutil.rmtree(room.path('crates/gone'))
     room.calls()
-    # what rt check kept, older and newer than the files
-    room.write('crates/low/out/rlib/stamp', 'x')
-    room.write('crates/low/out/rlib/low.rlib/format', 'x')
+    # what rt check kept
+    room.say('rtlib.py', RTLIB)
+    room.write('crates/low/out/rlib/stamp', 'as it is')
     room.write('crates/top/out/incremental/a.oantt', 'x')
     room.run('top')
     tally.check('a library below that was not checked', ['ci low mid top'], room.calls())
-    room.write('crates/mid/out/rlib/stamp', 'x')
+    room.write('crates/mid/out/rlib/stamp', 'as it is')
     room.run('top')
     tally.check('all below was checked', ['must-fail top low mid top'], room.calls())
-    os.utime(room.path('crates/low/src/lib.rt'), (time.time() + 9, time.time() + 9))
+    room.write('crates/low/out/rlib/stamp', 'as it was')
     room.run('top')
-    tally.check('a file is newer', ['ci low mid top'], room.calls())
+    tally.check('a library below that was checked earlier', ['ci low mid top'], room.calls())
+    room.write('crates/low/out/rlib/stamp', 'as it is')
+    room.unsay('rtlib.py')
+    room.run('top')
+    tally.check('a toolchain that tells nothing of it', ['ci low mid top'], room.calls())
 
 
 def check_stops(tally, room):

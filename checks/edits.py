@@ -31,6 +31,22 @@ LITTLE = {
     'only by a limit of the prover': 'only by a limit',
 }
 
+# Asks rt's own library whether each library below a crate is built of the files that stand there; the status is 0 where it is. A
+# later toolchain may not be asked so: then the answer is no.
+BUILT = '''
+import sys
+sys.path.insert(0, sys.argv[1])
+import rtlib
+stamp, stamps = rtlib.Crate.stamp, {}
+def once(crate):
+    if crate.folder not in stamps:
+        stamps[crate.folder] = stamp(crate)
+    return stamps[crate.folder]
+rtlib.Crate.stamp = once
+crate, = [one for one in rtlib.crates_below(sys.argv[2]) if one.name == sys.argv[3]]
+sys.exit(not all(one.is_built() for one in crate.below()))
+'''
+
 
 def files_of(folder):
     """The files below a folder, by their paths in it."""
@@ -175,17 +191,13 @@ class Tree:
         return 10**9 + 10**6 * count(name, 'src') + 200_000 * (count(name, 'specs') + count(name, 'proofs')) + 80_000 * below
 
     def is_checked(self, name):
-        """Whether out/ holds what `rt check` kept of the crate and all below it, newer than their files."""
-        made = {}
-        for low in self.below(name):
-            stamp = self.folder(low, 'out', 'rlib', 'stamp')
-            if not os.path.isfile(stamp):
-                return False
-            made[low] = os.stat(stamp).st_mtime
-            own = [file for part in PARTS for file in files_of(self.folder(low, part)).values()]
-            if max([os.stat(file).st_mtime for file in own] + [made[one] for one in self.uses[low]]) > made[low]:
-                return False
-        return bool(files_of(self.folder(name, 'out', 'incremental')))
+        """Whether out/ holds what `rt check` kept of the crate, and of all below it as they stand."""
+        if not files_of(self.folder(name, 'out', 'incremental')):
+            return False
+        tools = os.path.dirname(os.path.realpath(shutil.which('rt')))
+        asked = subprocess.run([sys.executable, '-B', '-c', BUILT, tools, self.top, name], stdin=subprocess.DEVNULL,
+                               stdout=subprocess.DEVNULL, stderr=subprocess.DEVNULL, check=False)
+        return asked.returncode == 0
 
 
 def copy_of(tree, name, to):
@@ -335,7 +347,8 @@ def try_all(tree, names, toolchain, jobs, minutes):
     tally, waiting, running = Tally(), list(names), []
     until = None if minutes is None else time.monotonic() + 60 * minutes
     # one crate alone takes the processors and the memory that rt finds
-    lanes = max(1, PROCESSORS // jobs) if jobs > 1 and len(names) > 1 else None
+    at_once = min(jobs, len(names))
+    lanes = max(1, PROCESSORS // at_once) if at_once > 1 else None
     memory, needs = 0.85 * free_memory(), {name: (lanes or 1) * tree.need(name) for name in names}
     work = tempfile.mkdtemp(prefix='fws-edits-')
     try:

@@ -15,9 +15,9 @@
 # it specs, every byte, and the statements of src, as checks/statements.py tells them. Bodies below aren't in it, since no crate
 # above sees them; nor are proofs below, since no statement changes with them.
 #
-# A try happens in a copy of the crate and those below, in which edits stands as must-fail. Where out/ holds what `rt check` kept of all of
-# these, and it is newer than their files, the copy gets it by links and runs `rt must-fail`: then what is proved there isn't proved
-# again. Else, as in a fresh clone in which `rt ci` passed, the copy runs `rt ci`: it takes the proofs of all crates from where `rt ci` keeps them
+# A try happens in a copy of the crate and those below, in which edits stands as must-fail. Where out/ holds what `rt check` kept of the
+# crate, and of all below it as they stand, the copy gets it by links and runs `rt must-fail`: what is proved there isn't proved again.
+# Else, as in a fresh clone in which `rt ci` passed, the copy runs `rt ci`: it takes the proofs of all crates from where `rt ci` keeps them
 # on this machine, checks the crate once for its edits to begin with, which nothing keeps, and tries them; `rt must-fail` would prove
 # every library below anew there, since it can't take them from `rt ci`. An edit whose result `rt` keeps is tried by neither.
 #
