@@ -37,6 +37,7 @@ here=$(dirname "$0")
 if [ "$1" = version ]; then cat "$here/version"; exit; fi
 [ -d .git ] && [ -f crates.txt ] || exit 2
 echo "$* $(cut -d: -f1 crates.txt | tr '\\n' ' ')" >>"$here/calls"
+echo $$ >"$here/number"
 [ ! -e "$here/wait" ] || sleep 600
 [ ! -e "$here/touch" ] || echo '// more' >>"$(cat "$here/touch")"
 echo "== $1"
@@ -164,6 +165,11 @@ class Room:
     def records(self):
         return [name for name in CRATES if os.path.exists(self.path('crates/%s/edits/tried' % name))]
 
+    def is_running(self):
+        """Whether the stand-in still runs, that was called last."""
+        with open(os.path.join(self.tools, 'number'), encoding='utf-8') as file:
+            return os.path.exists('/proc/' + file.read().strip())
+
     def left(self):
         return os.listdir(self.temporary)
 
@@ -205,6 +211,7 @@ CHANGED = (
     ('an edit', 'crates/mid/edits/mid-halves.edit', '+ 2', '+ 3', ['mid']),
     ('a crate beside', 'crates/side/src/lib.rt', 'n < 9', 'n < 8', []),
     ('what a crate stands on', 'crates.txt', 'mid: low', 'mid: low side', ['mid', 'top']),
+    ('a library of the toolchain', 'crates.txt', 'itoa', 'indexmap', ['top']),
     ('a line of another crate', 'crates.txt', 'side: ', 'side: itoa', []),
 )
 
@@ -251,6 +258,13 @@ def check_answers(tally, room):
             tally.check('it gets no record: ' + said, False, 'mid' in room.records())
         room.unsay('mid-halves.edit')
         tally.check('it is mended', 0, room.run('mid')[0])
+    room.write('crates/low/edits/low-other.edit', 'x')
+    room.say('low-other.edit', SAID[0][0])
+    tally.check('one of two', (1, '1 edits refused, 1 not, 1 crates still due'), tell(room))
+    room.unsay('low-other.edit')
+    tally.check('both', (0, '2 edits refused, 0 not, 0 crates still due'), tell(room))
+    os.remove(room.path('crates/low/edits/low-other.edit'))
+    tally.check('an edit less', (1, ['low']), room.run('--list'))
     room.say('low-halves.edit', 'refused, as it must be (only by a limit of the prover, which gave no verdict): x')
     room.say('top-halves.edit', 'refused, as it must be (only because a proof file names what the edit took away, so): x')
     tally.check('refusals that say little', (
@@ -269,8 +283,10 @@ def check_answers(tally, room):
 
 
 def check_surroundings(tally, room):
+    os.remove(room.path('crates/low/edits/tried'))
     room.say('touch', room.path('crates/low/src/lib.rt'))
     tally.check('a change meanwhile', (0, '1 edits refused, 0 not, 1 crates still due'), tell(room, 'low'))
+    tally.check('no record of what was', False, 'low' in room.records())
     room.unsay('touch')
     tally.check('it is tried over the change', (0, '1 edits refused, 0 not, 0 crates still due'), tell(room))
     os.remove(room.path('crates/mid/edits/mid-halves.edit'))
@@ -303,7 +319,7 @@ def check_stops(tally, room):
     room.say('wait', '')
     status, lines = room.run('--all', '--jobs', '1', '--minutes', '0.02')
     tally.check('the time is over', (0, True, 1), (status, any(line.startswith('low: stopped after ') for line in lines), len(room.calls())))
-    tally.check('what was stopped leaves nothing', [], room.left())
+    tally.check('what was stopped leaves nothing', ([], False), (room.left(), room.is_running()))
     for number in (signal.SIGINT, signal.SIGTERM):
         begun = room.begin('--all')
         until = time.monotonic() + 60
@@ -313,7 +329,8 @@ def check_stops(tally, room):
             time.sleep(0.1)
         begun.send_signal(number)
         begun.communicate()
-        tally.check('an interrupt', (130, [], ['top', 'low']), (begun.returncode, room.left(), room.records()))
+        tally.check('an interrupt', (130, [], ['top', 'low'], False),
+                    (begun.returncode, room.left(), room.records(), room.is_running()))
         room.calls()
     room.unsay('wait')
 
