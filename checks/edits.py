@@ -344,22 +344,27 @@ def free_memory():
 
 def try_all(tree, names, toolchain, jobs, minutes):
     """Tries the edits of these crates, side by side as far as processors and memory allow, and returns the tally."""
-    tally, waiting, running = Tally(), list(names), []
+    tally, waiting, running, interrupts = Tally(), list(names), [], []
     until = None if minutes is None else time.monotonic() + 60 * minutes
     # one crate alone takes the processors and the memory that rt finds
     at_once = min(jobs, len(names))
     lanes = max(1, PROCESSORS // at_once) if at_once > 1 else None
     memory, needs = 0.85 * free_memory(), {name: (lanes or 1) * tree.need(name) for name in names}
+    # an interrupt is heeded between two steps, so that none is left half done
+    handlers = {stop: signal.signal(stop, lambda number, _: interrupts.append(number))
+                for stop in STOPS if signal.getsignal(stop) is not signal.SIG_IGN}
     work = tempfile.mkdtemp(prefix='fws-edits-')
     try:
         os.chmod(work, 0o711)
         while waiting or running:
             is_over = until is not None and time.monotonic() >= until
-            while waiting and len(running) < jobs and not is_over:
+            while waiting and len(running) < jobs and not is_over and not interrupts:
                 if running and needs[waiting[0]] + sum(needs[one.name] for one in running) > memory:
                     break
                 running.append(Try(tree, waiting.pop(0), work, toolchain, lanes))
                 running[-1].begin()
+            if interrupts:
+                raise KeyboardInterrupt
             if is_over and time.monotonic() >= until + GRACE:
                 for one in running:
                     say('%s: stopped after %d seconds' % (one.name, one.seconds()))
@@ -371,22 +376,15 @@ def try_all(tree, names, toolchain, jobs, minutes):
                 tally.close(tree, one, toolchain)
                 one.remove()
             time.sleep(0.2)
-    except KeyboardInterrupt:
-        # a second one stops no cleaning up
-        for number in STOPS:
-            signal.signal(number, signal.SIG_IGN)
-        raise
     finally:
         for one in running:
             one.stop()
         for one in running:
             one.remove()
         shutil.rmtree(work, ignore_errors=True)
+        for stop, handler in handlers.items():
+            signal.signal(stop, handler)
     return tally
-
-
-def stopped(*_):
-    raise KeyboardInterrupt
 
 
 def read_words():
@@ -445,9 +443,6 @@ def main():
     return 1 if tally.others or is_wrong else 0
 
 
-for stop in STOPS:
-    if signal.getsignal(stop) is not signal.SIG_IGN:  # as under nohup
-        signal.signal(stop, stopped)
 try:
     sys.exit(main())
 except KeyboardInterrupt:
