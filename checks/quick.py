@@ -1,8 +1,7 @@
 """Runs the command lines of checks/cases; checks/quick.sh says how it is called, and checks/cases/README.md what a case is.
 
-The program is handed the files of a case in one of two ways. A built one runs in a folder where they lie. The toolchain's
-try takes all cases at once, runs one after the other, and tells their answers as they end: a text that one case gives and
-another reads goes there through a named pipe, at which the program waits.
+Each case runs in a folder where the files of all lie, and the texts that other cases gave. The program is a built one, or that which
+the toolchain's try builds without proofs and with its checks.
 """
 
 import fnmatch
@@ -13,16 +12,15 @@ import shutil
 import subprocess
 import sys
 import tempfile
-import threading
+import time
+from multiprocessing.pool import ThreadPool
 
 TOP = os.path.dirname(os.path.dirname(os.path.abspath(__file__)))
 CASES = os.path.join(TOP, 'checks/cases')
 ENDING = '.case'
-SECONDS = 60  # that a case may take as the toolchain tries it
-BUILT_SECONDS = 300  # and with a built program
+SECONDS = 300  # that a case may take
+BUILD_SECONDS = 600  # that the toolchain lets the program wait that is copied
 
-# Names that the toolchain keeps for itself in the folder in which it runs the program.
-TAKEN = ('program', 'stdin', 'stdout', 'stderr', 'case')
 STANDARD_INPUT = 'standard input'
 
 # The statuses of this command.
@@ -59,7 +57,7 @@ class Case:
             heading = re.fullmatch(r'-- (.+) --', line)
             if self.status is not None and heading:
                 section = heading[1]
-                if section in self.files or section in TAKEN or section.startswith(('/', '-')):
+                if section in self.files or section.startswith(('/', '-')):
                     self.fail(number, 'no name for a file, or a name for the second time')
                 self.files[section] = ''
             elif section is not None:
@@ -75,8 +73,8 @@ class Case:
         if self.words is None:
             if line.startswith('$ fws') and line[5:6] in ('', ' '):
                 self.words = shlex.split(line[5:])
-                if any(word == '{}' or '\n' in word for word in self.words):
-                    self.fail(number, 'a word that the toolchain cannot be given')
+                if any('\0' in word for word in self.words):
+                    self.fail(number, 'a word with a byte 0, which no command line has')
             elif line and not line.startswith('#'):
                 self.fail(number, 'neither a comment nor a command: `$ fws WORDS`')
         elif self.status is None and status:
@@ -265,168 +263,101 @@ class Tally:
         return text_difference(text, case.wanted_lines())
 
 
-# A built program
+# Running
 
 
-def run_built(program, cases, files, tally):
-    with tempfile.TemporaryDirectory() as folder:
+def run_case(command, case, folder):
+    """The status and the answer of a case, or None and lines on why there is none."""
+    told = case.files.get(STANDARD_INPUT, '').encode()
+    try:
+        ended = subprocess.run([*command, *case.words], cwd=folder, env={}, input=told, stdout=subprocess.PIPE,
+                               stderr=subprocess.PIPE, timeout=SECONDS, check=False)
+    except subprocess.TimeoutExpired:
+        return None, b'', ['it had not ended after %d seconds' % SECONDS]
+    return ended.returncode, ended.stdout, ended.stderr.decode('utf-8', 'replace').splitlines()[:20]
+
+
+def run_cases(command, cases, files, tally):
+    """Runs the cases in a folder where their files lie, as many at a time as there are processors: first those that give texts."""
+    with tempfile.TemporaryDirectory() as folder, ThreadPool(len(os.sched_getaffinity(0))) as pool:
         for name, text in files.items():
             path = os.path.join(folder, name)
             os.makedirs(os.path.dirname(path), exist_ok=True)
             with open(path, 'wb') as file:
                 file.write(text)
-        for case in cases:
-            told = case.files.get(STANDARD_INPUT, '').encode()
-            try:
-                ended = subprocess.run([program, *case.words], cwd=folder, input=told, stdout=subprocess.PIPE,
-                                       stderr=subprocess.PIPE, timeout=BUILT_SECONDS, check=False)
-            except subprocess.TimeoutExpired:
-                tally.judge(case, None, b'', ['it had not ended after %d seconds' % BUILT_SECONDS])
-                continue
-            tally.judge(case, ended.returncode, ended.stdout)
-            if case.keeps:
-                with open(os.path.join(folder, case.keeps), 'wb') as file:
-                    file.write(ended.stdout)
+        for part in ([case for case in cases if case.keeps], [case for case in cases if not case.keeps]):
+            for case, (status, text, told) in zip(part, pool.imap(lambda case: run_case(command, case, folder), part)):
+                tally.judge(case, status, text, told)
+                if case.keeps:
+                    with open(os.path.join(folder, case.keeps), 'wb') as file:
+                        file.write(text)
 
 
-# The toolchain's try
+# The program that the toolchain builds without proofs
 
 
-class Pipes:
-    """The named pipes through which texts go from the cases that give them to those that read them."""
-
-    def __init__(self, folder, cases):
-        self.folder = folder
-        self.texts = {case.keeps for case in cases if case.keeps}
-        self.readers = {}  # the pipes of each text
-
-    def words(self, case):
-        """The words of the case with a pipe in place of each text that another case gives."""
-        return [self.pipe(word) if word in self.texts else word for word in case.words]
-
-    def pipe(self, name):
-        made = self.readers.setdefault(name, [])
-        made.append(os.path.join(self.folder, '%s-%d' % (name, len(made))))
-        os.mkfifo(made[-1])
-        return made[-1]
-
-    def give(self, name, text):
-        """Writes the text into each of its pipes once a program opens that."""
-        for path in self.readers.get(name, []):
-            threading.Thread(target=self.write, args=(path, text), daemon=True).start()
-
-    @staticmethod
-    def write(path, text):
+def processes():
+    """The words with which each process was started that can be looked at."""
+    for number in filter(str.isdigit, os.listdir('/proc')):
         try:
-            with open(path, 'wb') as pipe:
-                pipe.write(text)
-        except BrokenPipeError:
-            pass  # the program had enough of it, and its answer says why
-
-    def named(self, text):
-        """The answer with the names that stand in the words of the cases."""
-        return re.sub(re.escape(os.fsencode(self.folder)) + rb'/(\S+)-\d+', rb'\1', text)
+            with open('/proc/%s/cmdline' % number, 'rb') as file:
+                yield [os.fsdecode(word) for word in file.read().split(b'\0')[:-1]]
+        except OSError:
+            pass  # it has ended, or isn't ours
 
 
-class Answers:
-    """What the toolchain's try tells of the cases, as it goes. The text of a case is whole once the next one's begins, so that
-    behind the last case that gives a text stands one, None, that waits for no text."""
-
-    def __init__(self, cases, pipes, tally):
-        self.cases = cases
-        self.pipes = pipes
-        self.tally = tally
-        self.texts = {}  # by the place of the case
-        self.ends = {}  # the status, or None; and the lines that were told ahead of it
-        self.told = []  # lines that belong to no case yet
-        self.given = 0  # how many cases have handed on their texts
-
-    def take_errors(self, stream):
-        """The lines of standard error: `case=0007 run=ended status=3 ..`, with what goes wrong in a case ahead of it."""
-        for line in stream:
-            line = line.decode('utf-8', 'replace').rstrip('\n')
-            ended = re.match(r'case=(\d+) (?:run=ended status=(\d+))?', line)
-            if not ended:
-                self.told.append(line)
-                continue
-            told, self.told = self.told + [line], []
-            self.ends[int(ended[1])] = (None if ended[2] is None else int(ended[2]), told)
-
-    def take_texts(self, stream):
-        """What the cases write: each text stands behind a line with the number of its case, `== 0007`."""
-        place, text = None, []
-        for line in stream:
-            heading = re.fullmatch(rb'== (\d{4})\n', line)
-            if heading and int(heading[1]) < len(self.cases) and (place is None or int(heading[1]) > place):
-                self.put(place, text)
-                place, text = int(heading[1]), []
-            else:
-                text.append(line)
-        self.put(place, text)
-
-    def put(self, place, text):
-        """Keeps the text of a case, and hands it on; the cases before it that wrote none have the empty one."""
-        if place is not None:
-            self.texts[place] = b''.join(text)
-            for earlier in range(self.given, place + 1):
-                if self.cases[earlier] and self.cases[earlier].keeps:
-                    self.pipes.give(self.cases[earlier].keeps, self.texts.get(earlier, b''))
-            self.given = place + 1
-
-    def judge(self):
-        for place, case in enumerate(self.cases):
-            if case:
-                status, told = self.ends.get(place, (None, []))
-                self.tally.judge(case, status, self.pipes.named(self.texts.get(place, b'')), told)
-
-
-def write_cases(folder, cases, pipes):
-    """What the toolchain's try reads: for each case its standard input, and its words one a line."""
-    os.makedirs(folder)
-    for place, case in enumerate(cases):
-        told, words = (case.files.get(STANDARD_INPUT, ''), pipes.words(case)) if case else ('', ['--version'])
-        with open(os.path.join(folder, '%04d' % place), 'wb') as file:
-            file.write(told.encode())
-        with open(os.path.join(folder, '%04d.args' % place), 'w', encoding='utf-8') as file:
-            file.write(''.join(word + '\n' for word in words))
-
-
-def data_words(folder, files):
-    """The words that hand the files of the cases to the toolchain's try."""
-    os.makedirs(folder)
-    words = []
-    for place, (name, text) in enumerate(sorted(files.items())):
-        path = os.path.join(folder, str(place))
-        with open(path, 'wb') as file:
-            file.write(text)
-        words += ['--data', '%s=%s' % (name, path)]
-    return words
-
-
-def run_tried(cases, files, tally):
-    """Whether the toolchain gave any answer."""
-    with tempfile.TemporaryDirectory(prefix='fws-cases-') as folder:
-        os.makedirs(os.path.join(folder, 'pipes'))
-        pipes = Pipes(os.path.join(folder, 'pipes'), cases)
-        count = sum(1 for case in cases if case.keeps)
-        in_turn = cases[:count] + [None] + cases[count:]
-        write_cases(os.path.join(folder, 'cases'), in_turn, pipes)
-        words = ['rt', 'try', '--seconds', str(SECONDS), '--cases', os.path.join(folder, 'cases')]
-        words += data_words(os.path.join(folder, 'data'), files)
-        answers = Answers(in_turn, pipes, tally)
-        with subprocess.Popen(words, cwd=os.path.join(TOP, 'crates/fws'), stdin=subprocess.DEVNULL,
-                              stdout=subprocess.PIPE, stderr=subprocess.PIPE) as tried:
-            errors = threading.Thread(target=answers.take_errors, args=(tried.stderr,))
-            errors.start()
-            answers.take_texts(tried.stdout)
-            errors.join()
-        if answers.ends:
-            answers.judge()
-            return True
-        print('the toolchain gives no answer:')
-        print('\n'.join('    ' + line for line in answers.told[-20:]))
-        tally.failed += len(cases)
+def is_program(path):
+    try:
+        with open(path, 'rb') as file:
+            return file.read(4) == b'\x7fELF'
+    except (OSError, ValueError):
         return False
+
+
+def started_with(words):
+    """The words ahead of these with which a program was started, if one runs."""
+    for found in processes():
+        command = found[:-len(words)]
+        if found[-len(words):] == words and command and is_program(command[-1]):
+            return command
+    return None
+
+
+def build_unproved(folder):
+    """The words that start the program, of which a copy lies in the folder; or None, and what the toolchain said.
+
+    The toolchain's try builds the program, runs it in a folder of its own, and throws both away. So it is let run on a named pipe
+    into which nobody writes: there it waits while it is copied.
+    """
+    pipe = os.path.join(folder, 'pipe')
+    os.mkfifo(pipe)
+    words = ['site2', pipe]
+    with open(os.path.join(folder, 'told'), 'w+b') as told:
+        with subprocess.Popen(['rt', 'try', '--seconds', str(BUILD_SECONDS), '--', *words], cwd=os.path.join(TOP, 'crates/fws'),
+                              stdin=subprocess.DEVNULL, stdout=told, stderr=told) as tried:
+            command = None
+            while command is None and tried.poll() is None:
+                time.sleep(0.2)
+                command = started_with(words)
+            if command:
+                copy = os.path.join(folder, 'program')
+                shutil.copy2(command[-1], copy)
+                command = [*command[:-1], copy]
+                os.close(os.open(pipe, os.O_WRONLY))
+            tried.wait()
+        told.seek(0)
+        return command, told.read().decode('utf-8', 'replace').splitlines()
+
+
+def run_unproved(cases, files, tally):
+    with tempfile.TemporaryDirectory(prefix='fws-cases-') as folder:
+        command, told = build_unproved(folder)
+        if command is None:
+            print('the toolchain gives no program:')
+            print('\n'.join('    ' + line for line in told[-20:]))
+            tally.failed += len(cases)
+            return
+        run_cases(command, cases, files, tally)
 
 
 def main(words):
@@ -447,15 +378,15 @@ def main(words):
         return WRONG
     tally = Tally()
     if program:
-        run_built(program, cases, files_of(cases, every), tally)
+        run_cases([program], cases, files_of(cases, every), tally)
     elif not shutil.which('rt'):
         print('no rt is found, with which the program could be built; `--program PATH` names one that is built', file=sys.stderr)
         return NO_TOOLCHAIN
     else:
         cases = [case for case in cases if not case.is_slow]
-        print('%d command lines: the toolchain builds the program without proofs, in one to two minutes,' % len(cases), 'and runs them',
+        print('%d command lines: the toolchain builds the program without proofs, in one to two minutes,' % len(cases), 'and they are run',
               file=sys.stderr)
-        run_tried(cases, files_of(cases, every), tally)
+        run_unproved(cases, files_of(cases, every), tally)
     print('cases: %d passed, %d failed' % (tally.passed, tally.failed))
     return DIFFERS if tally.failed else 0
 
