@@ -80,6 +80,32 @@ def crates_below(top):
 '''
 
 
+# Added to it, it tells with which words it calls the prover.
+PROVER = '''
+RATTLE = os.path.join(os.path.dirname(os.path.abspath(__file__)), 'rattle')
+Crate.words = lambda self, flags, keeps: ['--crate-name', self.name]
+'''
+
+# It notes of which functions it is asked, each with how many others are left open, and says of each what the file `wrong` has where its text is
+# an edited one, what the file `right` has else, or nothing where a text has a word that isn't Rattle.
+RATTLE = '''#!/usr/bin/env python3
+import glob, os, re, sys
+here = os.path.dirname(os.path.abspath(__file__))
+said = lambda name: open(os.path.join(here, name)).read().strip()
+crate = sys.argv[sys.argv.index('--crate-name') + 1]
+names = [sys.argv[k + 1] for k, word in enumerate(sys.argv) if word == '--only']
+text = open('src/lib.rt').read()
+with open(os.path.join(here, 'asked'), 'a') as file:
+    file.write('%s %d\\n' % (','.join(names), len(glob.glob('proofs/*/Proof.antt'))))
+if 'unread' in text:
+    sys.exit(1)
+for name in filter(None, names):
+    body = re.search(r'^(?:pub )?fn %s\\b.*?^}' % name, text, re.S | re.M)[0]
+    print('fn %s::%s: %s' % (crate, name, said('wrong' if '+ 2' in body else 'right')))
+print('only=%d' % len(names))
+'''
+
+
 class Tally:
     def __init__(self):
         self.right = self.wrong = 0
@@ -107,7 +133,7 @@ class Room:
             if name != 'side':
                 self.write('crates/%s/edits/%s-halves.edit' % (name, name), 'file: src/lib.rt\nold: + 1\nnew: + 2\n')
         os.makedirs(os.path.join(self.top, 'checks'))
-        for name in ('edits.sh', 'edits.py', 'statements.py'):
+        for name in ('edits.sh', 'edits.py', 'alone.py', 'statements.py'):
             shutil.copy(os.path.join(HERE, name), os.path.join(self.top, 'checks'))
         self.replace('checks/edits.py', 'GRACE = 120', 'GRACE = 1')
         self.say('version', 'toolchain 1\n')
@@ -162,13 +188,26 @@ class Room:
             os.remove(path)
         return found
 
+    def asked(self):
+        """Of which functions the prover was asked since this was asked last, and how many others were left open."""
+        path = os.path.join(self.tools, 'asked')
+        with open(path, encoding='utf-8') as file:
+            found = file.read().splitlines()
+        os.remove(path)
+        return found
+
     def records(self):
         return [name for name in CRATES if os.path.exists(self.path('crates/%s/edits/tried' % name))]
 
     def is_running(self):
         """Whether the stand-in still runs, that was called last."""
         with open(os.path.join(self.tools, 'number'), encoding='utf-8') as file:
-            return os.path.exists('/proc/' + file.read().strip())
+            number = file.read().strip()
+        try:
+            with open('/proc/%s/stat' % number, encoding='utf-8') as file:
+                return file.read().rpartition(')')[2].split()[0] != 'Z'
+        except OSError:
+            return False
 
     def left(self):
         return os.listdir(self.temporary)
@@ -335,6 +374,52 @@ def check_stops(tally, room):
     room.unsay('wait')
 
 
+NOT_PROVED = 'no proof: expected answers in ./proofs/double/Answers.antt; `search` did not prove `returns`'
+CALLED = 'no proof: it calls `low::half`, which is not proved'
+
+
+def check_alone(tally, room):
+    """What the prover says of the edited functions alone counts where it refuses them, and nothing else does."""
+    room.say('rtlib.py', RTLIB + PROVER)
+    room.say('rattle', RATTLE)
+    os.chmod(os.path.join(room.tools, 'rattle'), stat.S_IRWXU)
+    room.say('right', 'no holes')
+    room.say('wrong', NOT_PROVED)
+    room.write('crates/low/src/lib.rt', SOURCE)
+    room.calls()
+    tally.check('an edit is refused alone', (0, '1 edits refused, 0 not, 0 crates still due'), tell(room, 'low'))
+    tally.check('rt is called for the libraries alone', ['ci low'], room.calls())
+    tally.check('as it stands, and edited, with the other function left open', ['double 1', 'double 1'], room.asked())
+    room.write('crates/low/edits/other.edit', 'file: src/lib.rt\nold:     n\nnew:     n + 2\n')
+    room.write('crates/low/edits/second.edit', 'file: src/lib.rt\nold: half(n) + 1\nnew: half(n) + 2 + 1\n')
+    tally.check('three edits', (0, '3 edits refused, 0 not, 0 crates still due'), tell(room, 'low'))
+    tally.check('two of one function in two rounds', ['double,half 0', 'double,half 0', 'double 1'], room.asked())
+    room.calls()
+    room.say('wrong', CALLED)
+    tally.check('refused by rt', (0, '3 edits refused, 0 not, 0 crates still due'), tell(room, 'low'))
+    tally.check('where what is called is refused, rt is asked', ['ci low', 'ci low'], room.calls())
+    room.unsay('asked')
+    for name, text in (('wrong', 'no holes'), ('wrong', 'could not tell'), ('right', 'not proved')):
+        room.say(name, text)
+        room.say('low-halves.edit', 'NOT REFUSED: the crate is still proved with this edit')
+        tally.check('%s: %s' % (name, text), 1, room.run('low')[0])
+        tally.check('%s: %s: rt is asked' % (name, text), ['ci low', 'ci low'], room.calls())
+        room.unsay('low-halves.edit', 'asked')
+    tally.check('no record', False, 'low' in room.records())
+    room.say('right', 'no holes')
+    room.say('wrong', NOT_PROVED)
+    room.write('crates/low/edits/second.edit', 'file: src/lib.rt\nold: half(n) + 1\nnew: unread\n')
+    room.say('second.edit', 'BAD EDIT: the prover cannot read the edited text')
+    status, lines = room.run('low')
+    tally.check('a text that is not read', (1, True), (status, any('second.edit: BAD EDIT' in line for line in lines)))
+    tally.check('the others are refused beside it', 2, sum(': refused' in line for line in lines))
+    room.unsay('second.edit', 'asked')
+    room.write('crates/low/edits/second.edit', 'file: src/lib.rt\nold: /// Twice a number.\nnew: /// Two.\n')
+    room.calls()
+    tally.check('an edit of no function', 0, room.run('low')[0])
+    tally.check('an edit of no function is asked of rt', ['ci low', 'ci low'], room.calls())
+
+
 def main():
     signal.signal(signal.SIGINT, signal.default_int_handler)  # which a shell has its jobs ignore
     tally = Tally()
@@ -345,6 +430,7 @@ def main():
         check_changes(tally, room)
         check_answers(tally, room)
         check_surroundings(tally, room)
+        check_alone(tally, room)
         check_stops(tally, room)
         tally.check('nothing is left', [], room.left())
     finally:

@@ -239,7 +239,7 @@ class Try:
         os.chmod(self.room, 0o711)
         tried = Tree(self.copy, 'must-fail')
         self.sum, self.edits = tried.sums([name], toolchain)[name], list(tried.edits(name))
-        self.words = ['rt', 'ci']
+        self.words = [sys.executable, '-B', os.path.join(tree.top, 'checks', 'alone.py'), name]
         if tree.is_checked(name):
             try:
                 link_kept(tree, name, self.copy)
@@ -254,7 +254,7 @@ class Try:
         os.makedirs(around['TMPDIR'])
         if self.lanes:
             around['RT_JOBS'] = str(self.lanes)
-        say('%s: trying its edits (%d) by %s' % (self.name, len(self.edits), ' '.join(self.words)))
+        say('%s: trying its edits (%d)' % (self.name, len(self.edits)))
         with open(self.log, 'wb') as log:
             self.process = subprocess.Popen(self.words, cwd=self.copy, env=around, stdin=subprocess.DEVNULL, stdout=log,
                                             stderr=subprocess.STDOUT, start_new_session=True)
