@@ -70,9 +70,15 @@ impl Goal {
 }
 
 impl Moves for Goal {
-    ghost use Rattle.std.specs.Prelude.{ℕ, ◌≤◌};
+    ghost use Rattle.std.specs.Prelude.{ℕ, ◌≤◌, Unit, tt};
 
     ghost moves = { λ s value label next. next ≤ 4000 };
+
+    ghost later = { λ s t. Unit {0} };
+
+    ghost same = { λ s. tt };
+
+    ghost then = { λ s t u e f. tt };
 
     fn moved(&mut self, values: &mut Values, _value: u32, _label: u32) -> Result<u32, Memory> {
         Ok(self.value(values)?.min(LAST))

@@ -1,13 +1,13 @@
 //! The first point at which a tree is true.
 
-ghost use Rattle.std.specs.Prelude.{◌≡◌, false, All, IfOk, MatchOption};
-ghost use Rattle.fws_place.specs.Found.{IsTrueNowhere, IsTrueAt, IsTrueIn};
+ghost use Rattle.std.specs.Prelude.{◌≡◌, option_map, IfOk, MatchOption};
+ghost use Rattle.fws_place.specs.Found.{IsTrueNowhere, IsTrueAt};
 ghost use Rattle.fws_place.specs.Sides.{least_of, leasts};
 
 use fws_box::Point;
 use fws_iv::Ivs;
 use fws_num::Memory;
-use fws_tree::{Row, Tree};
+use fws_tree::Tree;
 use std::alloc::Global;
 
 // The least value of a set, 0 where there is none.
@@ -31,16 +31,14 @@ pub(crate) fn leasts(sides: &[Ivs; 12]) -> Point
     point
 }
 
-// The least point of the first row that is true.
-fn first_row(rows: &[Row<bool>]) -> Option<Point>
-    ensures { MatchOption result (All (λ row. row.leaf ≡ false) rows.now) (IsTrueIn rows.now) }
+// The least point of the sides, if there are some.
+fn least_point(sides: Option<[Ivs; 12]>) -> Option<Point>
+    ensures { result ≡ option_map leasts sides }
 {
-    for row in rows {
-        if row.leaf {
-            return Some(leasts(&row.sides));
-        }
+    match sides {
+        Some(sides) => Some(leasts(&sides)),
+        None => None,
     }
-    None
 }
 
 /// The least point of the first path of the tree that is true. An error is want of memory.
@@ -48,6 +46,6 @@ pub(crate) fn first_true(alloc: Global, tree: &Tree<bool>) -> Result<Option<Poin
     ensures { IfOk result (λ found. MatchOption found (IsTrueNowhere tree.now.0 tree.now.1) (IsTrueAt tree.now.0 tree.now.1)) }
 {
     let _tops = tree.tops();
-    let rows = tree.paths(alloc)?;
-    Ok(first_row(&rows))
+    let first = tree.first_true(alloc)?;
+    Ok(least_point(first))
 }

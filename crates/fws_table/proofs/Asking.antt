@@ -1,17 +1,14 @@
--- What a tree has that is relabelled and restricted to what is asked for, and the text of its rows.
+-- What a tree has that is relabelled and restricted to what is asked for, and its text.
 use Rattle.std.proofs.Common.{◌≡◌, ℕ, Bool, true, false, cond, Option, Some, None, List, sym, subst, ◌∙◌, ap}
-use Rattle.std.specs.Prelude.{codes, option_and_then}
+use Rattle.std.specs.Prelude.{option_and_then}
 use Rattle.fws_net.specs.declared.outcome.Outcome.{Outcome}
 use Rattle.fws_net.specs.declared.packet.State.{State}
 use Rattle.fws_net.specs.declared.site.Site.{Site}
 use Rattle.fws_net.specs.Points.{tops_of}
-use Rattle.fws_tree.specs.declared.row.Row.{Row}
 use Rattle.fws_tree.specs.Plain.{Plain, value, IsReduced}
 use Rattle.fws_box.specs.Sides.{IsWithin}
-use Rattle.fws_tree.specs.Rows.{paths_of}
 use Rattle.fws_table.specs.declared.ask.Ask.{Ask}
-use Rattle.fws_table.specs.QueryText.{asked_leaf, asked_value, held_rows, IsQuery}
-use Rattle.fws_table.specs.TableText.{rows_text}
+use Rattle.fws_table.specs.QueryText.{asked_leaf, asked_value, query_text, IsQuery}
 
 -- what a value becomes that is relabelled, and then kept within the sides alone
 pub changed : (inside : Bool) (verdict : Option Bool) (old : Option Outcome) (relabelled new : Option (Option Outcome))
@@ -20,14 +17,13 @@ pub changed : (inside : Bool) (verdict : Option Bool) (old : Option Outcome) (re
 changed false verdict old relabelled new one e = e
 changed true verdict old relabelled new one e = e ∙ one.2 ∙ sym (ap (λ o. Some (option_and_then (asked_leaf verdict) o)) one.1)
 
--- the text of the rows of the reduced changed tree that hold something
-pub text_of_changed : (site : Site) (state : State) (ask : Ask) (t : List ℕ × Plain Outcome) (u : List ℕ × Plain (Option Outcome))
-    (paths : List (Row (Option Outcome))) (held given : List (Row Outcome)) (text : List ℕ)
+-- the text of the reduced changed tree is that of the query
+pub text_of_changed : (site : Site) (state : State) (ask : Ask) (t : List ℕ × Plain Outcome) (u : List ℕ × Plain (Option Outcome)) (text : List ℕ)
     → t.0 ≡ tops_of site → u.0 ≡ t.0 → IsReduced u.0 u.1 → ((p : List ℕ) → IsWithin t.0 p → value u.1 p ≡ Some (asked_value ask p (value t.1 p)))
-    → paths ≡ paths_of u.0 u.1 → held ≡ held_rows paths → given ≡ held → text ≡ rows_text (codes "query") site state given → IsQuery site state t.1 ask text
-text_of_changed site state ask t u paths held given text over same reduced values all some read e = record {
+    → text ≡ query_text site state u.1 → IsQuery site state t.1 ask text
+text_of_changed site state ask t u text over same reduced values e = record {
   tree = u.1;
   reduced = subst (λ tops. IsReduced tops u.1) (same ∙ over) reduced;
   changed = λ p w. values p (subst (λ tops. IsWithin tops p) (sym over) w);
-  spelled = e ∙ ap (λ rows. rows_text (codes "query") site state rows) (read ∙ some ∙ ap (λ rows. held_rows rows) (all ∙ ap (λ tops. paths_of tops u.1) (same ∙ over)));
+  spelled = e;
 }

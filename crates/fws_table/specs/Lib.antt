@@ -1,2 +1,3 @@
+pub mod MoreLines
 pub mod QueryText
 pub mod TableText

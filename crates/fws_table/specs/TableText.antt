@@ -87,9 +87,13 @@ row_text site state row =
     join_with_byte 32 (take (shown_fields state) (side_texts site field_kinds (tops_of site) row.sides))
     ++ codes " : " ++ outcome_text row.leaf ++ 10 ∷ []
 
+-- the line that begins with the title and tells how many rows come behind it
+abbrev pub head_text : List ℕ → State → ℕ → List ℕ
+head_text title state count = title ++ 32 ∷ state_text state ++ 32 ∷ decimal count ++ 10 ∷ []
+
 -- the rows, behind a line that begins with the title and counts them
 abbrev pub rows_text : List ℕ → Site → State → List (Row Outcome) → List ℕ
-rows_text title site state rows = title ++ 32 ∷ state_text state ++ 32 ∷ decimal (length rows) ++ 10 ∷ flat_map (row_text site state) rows
+rows_text title site state rows = head_text title state (length rows) ++ flat_map (row_text site state) rows
 
 -- the text of the table of a tree
 abbrev pub table_text : Site → State → Plain Outcome → List ℕ

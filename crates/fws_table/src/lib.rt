@@ -3,6 +3,8 @@
 
 mod ask;
 mod field;
+mod held;
+mod lines;
 mod outcome_text;
 mod query_text;
 mod row_text;

@@ -1,16 +1,20 @@
 //! The text of a query.
 
-ghost use Rattle.std.specs.Prelude.{◌≡◌, ℕ, List, Some, IfOk};
+ghost use Rattle.std.specs.Prelude.{◌≡◌, ◌++◌, ℕ, List, Some, IfOk, length};
+ghost use Rattle.std.specs.List.{flat_map};
 ghost use Rattle.fws_net.specs.Points.{tops_of};
 ghost use Rattle.fws_tree.specs.Plain.{IsReduced, value};
 ghost use Rattle.fws_box.specs.Sides.{IsWithin};
-ghost use Rattle.fws_table.specs.QueryText.{is_verdict, asked_leaf, asked_value, held_rows, IsQuery};
+ghost use Rattle.fws_table.specs.QueryText.{is_verdict, asked_leaf, asked_value, held_rows, query_text, IsQuery};
+ghost use Rattle.fws_table.specs.TableText.{row_text};
+ghost use Rattle.fws_tree.specs.Rows.{paths_of};
 
 use crate::ask::Ask;
-use crate::row_text::rows_text;
+use crate::held::{Count, Held};
+use crate::lines::{Lines, head};
 use fws_net::{Outcome, Site, State};
 use fws_num::{Memory, Text};
-use fws_tree::{Relabelling, Row, Tree};
+use fws_tree::{Relabelling, Tree};
 use std::alloc::Global;
 
 // Whether the outcome is of the asked verdict.
@@ -66,25 +70,60 @@ fn changed_tree(
     asked.restrict(alloc, &ask.sides, None)
 }
 
-// The rows that hold something.
-fn held_rows(alloc: Global, rows: Vec<Row<Option<Outcome>>>) -> Result<Vec<Row<Outcome>>, Memory>
-    ensures { IfOk result (λ held. held.items ≡ held_rows rows.items) }
+// How many rows hold something.
+fn held_count(alloc: Global, changed: &Tree<Option<Outcome>>) -> Result<u64, Memory>
+    ensures { IfOk result (λ n. n ≡ length (held_rows (paths_of changed.now.0 changed.now.1))) }
 {
-    let mut held = Vec::new(alloc);
-    for row in rows {
-        if let Some(leaf) = row.leaf {
-            held.push(Row {
-                sides: row.sides,
-                leaf,
-            })?;
-        }
-    }
-    Ok(held)
+    let mut held = Held {
+        by: Count { count: 0 },
+    };
+    changed.each_row(alloc, &mut held)?;
+    Ok(held.by.count)
+}
+
+// The lines of the rows that hold something, behind the text.
+fn put_held(
+    alloc: Global,
+    out: Text,
+    site: &Site,
+    state: State,
+    changed: &Tree<Option<Outcome>>,
+) -> Result<Text, Memory>
+    requires { changed.now.0 ≡ tops_of site.now }
+    ensures { IfOk result (λ text. text ≡ out ++ flat_map (row_text site.now state) (held_rows (paths_of (tops_of site.now) changed.now.1))) }
+{
+    let tops = changed.tops();
+    let mut held = Held {
+        by: Lines {
+            out,
+            site,
+            state,
+            tops,
+        },
+    };
+    changed.each_row(alloc, &mut held)?;
+    Ok(held.by.out)
+}
+
+// The text of a query of which this is the changed tree.
+fn query_text(
+    alloc: Global,
+    site: &Site,
+    state: State,
+    changed: &Tree<Option<Outcome>>,
+) -> Result<Text, Memory>
+    requires { changed.now.0 ≡ tops_of site.now }
+    ensures { IfOk result (λ text. text ≡ query_text site.now state changed.now.1) }
+{
+    let count = held_count(alloc, changed)?;
+    let out = head(alloc, b"query", state, count)?;
+    put_held(alloc, out, site, state, changed)
 }
 
 /// The text of a query over the points of the site: a line that counts the rows, then a line for each path of the reduced
 /// tree that has the outcomes of the given one within the asked sides and of the asked verdict. Paths without an outcome
-/// aren't written; the lines are those of a table. An error is want of memory.
+/// aren't written; the lines are those of a table. The rows are counted, and then put one by one. An error is want of
+/// memory.
 pub fn query(
     alloc: Global,
     site: &Site,
@@ -96,7 +135,5 @@ pub fn query(
     ensures { IfOk result (IsQuery site.now state t.now.1 ask.now) }
 {
     let changed = changed_tree(alloc, t, ask)?;
-    let paths = changed.paths(alloc)?;
-    let held = held_rows(alloc, paths)?;
-    rows_text(alloc, b"query", site, state, t.tops(), held.as_slice())
+    query_text(alloc, site, state, &changed)
 }

@@ -1,19 +1,16 @@
 //! The lines of a table.
 
-ghost use Rattle.std.specs.Prelude.{◌≡◌, ◌≤◌, [], ◌∷◌, ◌++◌, OnOk, IfOk, take, length};
-ghost use Rattle.std.specs.List.{flat_map, join_with_byte};
+ghost use Rattle.std.specs.Prelude.{◌≡◌, ◌≤◌, [], ◌∷◌, ◌++◌, OnOk, take};
+ghost use Rattle.std.specs.List.{join_with_byte};
 ghost use Rattle.fws_net.specs.Points.{tops_of};
-ghost use Rattle.fws_net.specs.Routes.{IsSound};
-ghost use Rattle.fws_table.specs.TableText.{field_kinds, side_texts, shown_fields, state_text, row_text, rows_text};
+ghost use Rattle.fws_table.specs.TableText.{field_kinds, side_texts, shown_fields, state_text, row_text};
 
 use crate::field::kind_of;
 use crate::outcome_text::put_outcome;
 use crate::side_text::put_side;
 use fws_iv::Ivs;
 use fws_net::{Outcome, Site, State};
-use fws_num::{Memory, Text, put_dec};
-use fws_tree::Row;
-use std::alloc::Global;
+use fws_num::{Memory, Text};
 
 /// How many fields a row shows: 8 for a new packet, 12 for an established one.
 fn shown_fields(state: State) -> usize
@@ -25,7 +22,8 @@ fn shown_fields(state: State) -> usize
     }
 }
 
-fn put_state(out: &mut Text, state: State) -> Result<(), Memory>
+/// Appends the word for new or established packets.
+pub(crate) fn put_state(out: &mut Text, state: State) -> Result<(), Memory>
     ensures { OnOk result (out.new ≡ out.old ++ state_text state) }
 {
     match state {
@@ -54,44 +52,19 @@ fn put_sides(
     Ok(())
 }
 
-/// Appends the line of a row.
-fn put_row(
+/// Appends the line of the row with these sides and this outcome. It is that of a table where the tops are the site's.
+pub(crate) fn put_row(
     out: &mut Text,
     site: &Site,
     state: State,
     tops: &[u32; 12],
-    row: &Row<Outcome>,
+    sides: &[Ivs; 12],
+    leaf: &Outcome,
 ) -> Result<(), Memory>
-    requires { tops.now ≡ tops_of site.now }
-    ensures { OnOk result (out.new ≡ out.old ++ row_text site.now state row.now) }
+    ensures { OnOk result (tops.now ≡ tops_of site.now → out.new ≡ out.old ++ row_text site.now state (record { sides = sides.now; leaf = leaf.now })) }
 {
-    put_sides(out, site, shown_fields(state), tops, &row.sides)?;
+    put_sides(out, site, shown_fields(state), tops, sides)?;
     out.put(b" : ")?;
-    put_outcome(out, &row.leaf)?;
+    put_outcome(out, leaf)?;
     out.put(b"\n")
-}
-
-/// The lines of the rows, behind a line that begins with the title and counts them.
-pub(crate) fn rows_text(
-    alloc: Global,
-    title: &[u8],
-    site: &Site,
-    state: State,
-    tops: &[u32; 12],
-    rows: &[Row<Outcome>],
-) -> Result<Text, Memory>
-    requires { tops.now ≡ tops_of site.now }
-    ensures { IfOk result (λ text. text ≡ rows_text title.now site.now state rows.now) }
-{
-    let mut out = Text::new(alloc);
-    out.put(title)?;
-    out.put(b" ")?;
-    put_state(&mut out, state)?;
-    out.put(b" ")?;
-    put_dec(&mut out, rows.len() as u64)?;
-    out.put(b"\n")?;
-    for row in rows {
-        put_row(&mut out, site, state, tops, row)?;
-    }
-    Ok(out)
 }

@@ -89,13 +89,12 @@ fn held_count(alloc: Global, site: &Site, tables: &Tables) -> Result<u64, Memory
     Ok(one_if(iptables) + one_if(ipfw) + one_if(pf) + one_if(ios))
 }
 
-/// The number of a table's rows.
+/// The number of a table's rows, which are counted along the tree's nodes and not listed.
 fn row_count(alloc: Global, site: &Site, tree: &Tree<Outcome>) -> Result<u64, Memory>
     requires { tree.now.0 ≡ tops_of site.now }
     ensures { IfOk result (λ n. n ≡ row_count site.now tree.now.1) }
 {
-    let rows = tree.paths(alloc)?;
-    Ok(rows.len() as u64)
+    tree.row_count(alloc)
 }
 
 /// The line that says so of a policy of so many rules.

@@ -1,5 +1,5 @@
 -- What a memo knows, and what may be skipped.
-use Rattle.std.proofs.Common.{◌≡◌, ℕ, ◌<◌, List, [], length, nat_eq, Some, None, inl, inr, refl, sym, ◌∙◌, subst, arith}
+use Rattle.std.proofs.Common.{◌≡◌, ℕ, ◌<◌, List, [], length, nat_eq, Option, Some, None, inl, inr, refl, sym, ◌∙◌, subst, arith}
 use Rattle.std.proofs.lemmas.Bool.{cases_Bool, and_parts, eqb-true, cond-true, cond-false}
 use Rattle.std.specs.HashMap.{get, Updates}
 use Rattle.fws_tree.specs.declared.memo.Memo.{Memo}
@@ -7,6 +7,7 @@ use Rattle.fws_tree.specs.declared.store.Cell.{Cell}
 use Rattle.fws_tree.specs.Building.{Extends}
 use Rattle.fws_tree.specs.Held.{held_at, pair_eq}
 use Rattle.fws_tree.specs.Merged.{IsMerged, AreKnown, IsSkipped, CanSkip}
+use Rattle.fws_tree.specs.Parts.{CanStay}
 use Rattle.fws_tree.proofs.Cells.{held-extends, length-extends}
 use Rattle.fws_tree.proofs.Merging.{GivesMore, given-same}
 
@@ -70,3 +71,16 @@ skipped gives cells masks wanted a b skip h p = (skip a h).1 p (held_at cells b 
 
 pub skip-none : (gives : ℕ → ℕ → ℕ → Type 0) (cells : List Cell) (wanted : ℕ) → CanSkip gives cells [] wanted
 skip-none gives cells wanted at h = let l = h.0 in absurd (omega arith)
+
+-- where all stays, all stays later
+pub stay-extends : (r s : ℕ → ℕ → ℕ → Type 0) (old new : List Cell) (stay : Option ℕ) → GivesMore r s → Extends old new → CanStay r old stay → CanStay s new stay
+stay-extends r s old new stay more e can k is =
+    let h = can k is in
+    let inside = h.0 in
+    let l = length-extends old new e in (
+      omega arith,
+      λ p x. given-same s x (held_at old k p) x x (held_at new k p) x refl (sym (held-extends old new k p e inside)) refl (more x (held_at old k p) x (h.1 p x)),
+    )
+
+pub stay-none : (gives : ℕ → ℕ → ℕ → Type 0) (cells : List Cell) → CanStay gives cells None
+stay-none gives cells k is = let e : None ≡ Some k = is in absurd (cc)

@@ -1,7 +1,9 @@
+pub mod Asking
 pub mod Cells
 pub mod Copying
 pub mod Counted
 pub mod Covering
+pub mod FirstPath
 pub mod Gathering
 pub mod Growing
 pub mod Joining
@@ -15,6 +17,7 @@ pub mod Merging
 pub mod MetPairs
 pub mod Numbered
 pub mod Parting
+pub mod PathCounting
 pub mod PathPoints
 pub mod PathRows
 pub mod Pieces

@@ -1,11 +1,12 @@
 -- Recoloured cells.
-use Rattle.std.proofs.Common.{◌≡◌, ◌≤◌, ◌<◌, ℕ, List, length, take, refl, sym, ◌∙◌, ap, subst, arith, bit_and, Result, Ok, Err, OnErr}
+use Rattle.std.proofs.Common.{◌≡◌, ◌≤◌, ◌<◌, ℕ, List, length, take, refl, sym, ◌∙◌, ap, subst, arith, bit_and, Option, Some, Result, Ok, Err, OnErr}
 use Rattle.std.proofs.lemmas.List.{take_all}
 use Rattle.fws_tree.specs.declared.store.Cell.{Cell}
 use Rattle.fws_tree.specs.Bits.{bits_in, AreMasks}
 use Rattle.fws_tree.specs.Held.{held_at}
 use Rattle.fws_tree.specs.Merged.{CanSkip}
 use Rattle.fws_tree.specs.Building.{Extends}
+use Rattle.fws_tree.specs.Parts.{CanStay}
 use Rattle.fws_tree.specs.Recoloured.{IsRecoloured}
 use Rattle.fws_tree.proofs.Cells.{held-extends}
 
@@ -22,6 +23,11 @@ skip_masked moves values cells masks wanted known e are at skipped =
             absurd (want (ap (λ vs. bit_and (bits_in vs (held_at cells at p)) wanted) (take_all known values (let l : length values ≤ known = omega arith in l)) ∙ h.1 p wanted skipped.1)),
       ),
     )
+
+-- at a cell without a label all stays
+pub stay_unlabelled : (moves : ℕ → ℕ → ℕ → Type 0) (values : List ℕ) (cells : List Cell) (wanted : ℕ) (stay : Option ℕ) → ((k : ℕ) → stay ≡ Some k → (k < length cells) × ((p : List ℕ) → held_at cells k p ≡ 0))
+    → CanStay (λ x l z. IsRecoloured moves values wanted x l z) cells stay
+stay_unlabelled moves values cells wanted stay none k is = let h = none k is in (h.0, λ p x. (λ off. refl, λ unwanted. refl, λ on want. absurd (on (h.1 p))))
 
 -- by the values that there were
 pub recoloured_before : (moves now : ℕ → ℕ → ℕ → Type 0) (values later : List ℕ) (wanted same known after : ℕ) (x l z : ℕ) → known ≡ length values → take known values ≡ take after later → wanted ≡ same

@@ -1,12 +1,12 @@
 -- Steps one behind the other.
-use Rattle.std.proofs.Common.{◌≡◌, Bool, true, false, cond, ℕ, zero, suc, ◌+◌, ◌<◌, ◌≤◌, List, [], ◌∷◌, ◌++◌, length, get_or, set, take, nat_le, inl, inr, refl, sym, ◌∙◌, ap, subst, arith, All, Some, slice_get, ◌⊎◌, ◌≢◌, nat_eq}
+use Rattle.std.proofs.Common.{◌≡◌, Bool, true, false, cond, ℕ, zero, suc, ◌+◌, ◌<◌, ◌≤◌, List, [], ◌∷◌, ◌++◌, length, get_or, set, take, nat_le, inl, inr, refl, sym, ◌∙◌, ap, subst, arith, All, Some, slice_get, ◌≢◌, nat_eq}
 use Rattle.std.proofs.lemmas.Bool.{cases_Bool, cond-false, ne_eqb, le-leb, leb-true}
 use Rattle.fws_tree.specs.declared.store.Step.{Step}
 use Rattle.fws_tree.specs.declared.store.Cell.{Cell}
 use Rattle.fws_tree.specs.declared.store.Cell.TheVariants.{Leaf, Cut}
 use Rattle.fws_tree.specs.declared.together.Both.{Both}
 use Rattle.fws_tree.specs.Held.{child_at, held_at, AreOrderedFrom, IsCellBelow, pick, over_leaf}
-use Rattle.fws_tree.specs.Merged.{left_at, right_at, AreMet}
+use Rattle.fws_tree.specs.Merged.{left_at, right_at}
 use Rattle.fws_tree.proofs.Cells.{held_cell, cell_below}
 
 pub left_at-push : (bs : List Both) (b : Both) (z x : ℕ) → left_at (bs ++ b ∷ []) z x ≡ left_at bs (cond (nat_le x b.hi) b.left z) x
@@ -81,29 +81,6 @@ pick_left-push v (t ∷ ss) s z x = ap (λ r. cond (nat_le x t.hi) (v t.left) r)
 pub pick_right-push : (v : ℕ → ℕ) (ss : List Both) (s : Both) (z x : ℕ) → pick_right v (ss ++ s ∷ []) z x ≡ pick_right v ss (cond (nat_le x s.hi) (v s.right) z) x
 pick_right-push v [] s z x = refl
 pick_right-push v (t ∷ ss) s z x = ap (λ r. cond (nat_le x t.hi) (v t.right) r) (pick_right-push v ss s z x)
-
-both_below : (ss : List Both) (a b n m k : ℕ) → a ≤ k → b ≤ k → a < k → b < k → (n ≤ a + 1) → (m ≤ b + 1) → (n + m ≤ a + b + 1) → All (λ s. (s.left < n) × (s.right < m)) ss
-    → All (λ s. (s.left < k) × (s.right < k) × (s.left + s.right < a + b)) ss
-both_below ss a b n m k _ _ la lb ha hb hs all i d lt =
-    let l = (all i d lt).0 in let r = (all i d lt).1 in
-    (omega arith, omega arith, omega arith)
-
-pub met : (cs : List Cell) (a b f l r : ℕ) (ss : List Both) (xs ys : List Step) → ((p : List ℕ) → held_at cs a p ≡ held_at cs (child_at xs l (get_or p f 0)) p) → ((p : List ℕ) → held_at cs b p ≡ held_at cs (child_at ys r (get_or p f 0)) p)
-    → ((x : ℕ) → left_at ss l x ≡ child_at xs l x) → ((x : ℕ) → right_at ss r x ≡ child_at ys r x)
-    → ((n m : ℕ) → All (λ s. s.node < n) xs → l < n → All (λ s. s.node < m) ys → r < m → All (λ s. (s.left < n) × (s.right < m)) ss)
-    → a < length cs → b < length cs → All (λ s. s.node < a + 1) xs → l < a + 1 → All (λ s. s.node < b + 1) ys → r < b + 1
-    → (All (λ s. s.node < a) xs × (l < a)) ⊎ (All (λ s. s.node < b) ys × (r < b)) → AreMet cs a b f ss l r
-met cs a b f l r ss xs ys hl hr left right below la lb ax al ay ar strict =
-    let parts : All (λ s. (s.left < length cs) × (s.right < length cs) × (s.left + s.right < a + b)) ss × (l + r < a + b) = elim strict [
-      | inl s ↦ (let t = s.1 in both_below ss a b a (b + 1) (length cs) (omega arith) (omega arith) la lb (omega arith) (omega arith) (omega arith) (below a (b + 1) s.0 s.1 ay ar), omega arith)
-      | inr s ↦ (let t = s.1 in both_below ss a b (a + 1) b (length cs) (omega arith) (omega arith) la lb (omega arith) (omega arith) (omega arith) (below (a + 1) b ax al s.0 s.1), omega arith)
-    ] in
-    record {
-      held_left = λ p. meet_held cs a _ _ p (hl p) (left (get_or p f 0));
-      held_right = λ p. meet_held cs b _ _ p (hr p) (right (get_or p f 0));
-      below = parts.0;
-      last = (omega arith, omega arith, parts.1);
-    }
 
 -- One cell over another.
 

@@ -3,6 +3,7 @@ pub mod Building
 pub mod CellEquality
 pub mod Changed
 pub mod Copied
+pub mod Digest
 pub mod Exactly
 pub mod Held
 pub mod LeafEquality
@@ -14,6 +15,8 @@ pub mod OrderedCells
 pub mod OutcomeEquality
 pub mod Painted
 pub mod Paired
+pub mod Parts
+pub mod PathCounts
 pub mod Plain
 pub mod PlainCode
 pub mod Projected
@@ -21,6 +24,7 @@ pub mod Recoloured
 pub mod RecolouringLaws
 pub mod Regular
 pub mod RegularLists
+pub mod RowLists
 pub mod Rows
 pub mod Settled
 pub mod Shared

@@ -1,5 +1,5 @@
 -- Two cells merged into one by a rule.
-use Rattle.std.specs.Prelude.{◌≡◌, ℕ, ◌+◌, ◌<◌, nat_le, if◌then◌else◌, Some, None, List, [], ◌∷◌, slice_index, slice_get, length, All, bit_and}
+use Rattle.std.specs.Prelude.{◌≡◌, ℕ, ◌<◌, nat_le, if◌then◌else◌, Some, None, List, [], ◌∷◌, slice_index, slice_get, length, bit_and}
 use Rattle.std.specs.HashMap.{get}
 use Rattle.fws_tree.specs.declared.memo.Memo.{Memo}
 use Rattle.fws_tree.specs.declared.store.Cell.{Cell}
@@ -15,13 +15,6 @@ left_at (s ∷ ss) last x = if nat_le x s.hi then s.left else left_at ss last x
 abbrev pub right_at : List Both → ℕ → ℕ → ℕ
 right_at [] last x = last
 right_at (s ∷ ss) last x = if nat_le x s.hi then s.right else right_at ss last x
-
--- steps over cells a and b, and their last cells: what they lead to holds what a and b hold
-pub record AreMet (cells : List Cell) (a b f : ℕ) (ss : List Both) (left right : ℕ) : Type 0 where
-  pub held_left : (p : List ℕ) → held_at cells a p ≡ held_at cells (left_at ss left (slice_index p f)) p
-  pub held_right : (p : List ℕ) → held_at cells b p ≡ held_at cells (right_at ss right (slice_index p f)) p
-  pub below : All (λ s. (s.left < length cells) × (s.right < length cells) × (s.left + s.right < a + b)) ss
-  pub last : (left < length cells) × (right < length cells) × (left + right < a + b)
 
 -- one of two cells, or both, is a cut
 abbrev pub HaveCut : List Cell → ℕ → ℕ → Type 0

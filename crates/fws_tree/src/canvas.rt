@@ -138,6 +138,7 @@ impl Canvas {
         ensures tops { tops_of self.new ≡ tops_of self.old }
         ensures values { Extends (values_of self.old) (values_of self.new) }
         ensures kept { StaysMoved (M.moves by.old) (M.moves by.new) }
+        ensures later { M.later by.old by.new }
     {
         self.collect_grown(alloc)?;
         catch_up(&mut self.masks, &self.store, &self.values)?;
@@ -145,6 +146,7 @@ impl Canvas {
         let skips = Skips {
             masks: self.masks.as_slice(),
             wanted,
+            stay: None,
         };
         let root = recoloured(
             alloc,

@@ -1,13 +1,15 @@
 //! Two cells merged into one by a rule.
 
-ghost use Rattle.std.specs.Prelude.{◌≡◌, ℕ, ◌<◌, List, true, length, slice_index, if◌then◌else◌, IfOk, OnOk, MatchOption, All};
+ghost use Rattle.std.specs.Prelude.{◌≡◌, ℕ, ◌<◌, List, Some, true, length, slice_index, if◌then◌else◌, IfOk, OnOk, MatchOption, All};
 ghost use Rattle.fws_tree.specs.Building.{Extends};
 ghost use Rattle.fws_tree.specs.Held.{AreOrderedFrom, child_at, held_at};
 ghost use Rattle.fws_tree.specs.Merged.{HaveCut, IsMerged, AreKnown, IsSkipped, CanSkip};
+ghost use Rattle.fws_tree.specs.Parts.{CanStay};
 
 use crate::memo::Memo;
+use crate::narrow::{add_run, parted};
 use crate::store::{Step, Store, add_step};
-use crate::together::{cut_field, lesser, meet_cells};
+use crate::together::{cut_field, lesser};
 use fws_num::Memory;
 use std::alloc::Global;
 
@@ -47,22 +49,35 @@ pub(crate) trait Merging {
     ghost kept: { (s t : Self) → later s t → (x y z : ℕ) → gives s x y z → gives t x y z };
 }
 
-/// Masks of cells, and bits that are wanted: a cell whose mask has none of them is left as it is.
+/// Masks of cells, and bits that are wanted: a cell whose mask has none of them is left as it is. And a
+/// second cell at which each first one is left as it is.
 #[derive(Clone, Copy)]
 pub(crate) struct Skips<'a> {
     /// The masks of the first cells.
     pub(crate) masks: &'a [u64],
     /// The bits that are wanted.
     pub(crate) wanted: u64,
+    /// The second cell at which all stays, if there is one.
+    pub(crate) stay: Option<u32>,
 }
 
 impl Skips<'_> {
-    // Whether the cell is left as it is.
-    fn has(&self, at: u32) -> bool
+    /// Whether the cell is left as it is.
+    pub(crate) fn has(&self, at: u32) -> bool
         ensures { result ≡ true → IsSkipped self.now.masks.now self.now.wanted at }
     {
         let at = at as usize;
         at < self.masks.len() && self.masks[at] & self.wanted == 0
+    }
+
+    /// Whether each first cell stays at this second one.
+    pub(crate) fn keeps(&self, right: u32) -> bool
+        ensures { result ≡ true → self.now.stay ≡ Some right }
+    {
+        match self.stay {
+            Some(stay) => stay == right,
+            None => false,
+        }
     }
 }
 
@@ -131,8 +146,8 @@ fn cut_or_same(
     store.cut(field, steps, last)
 }
 
-/// The two cells merged. The memo has what was merged before. Where no cell changed, the first one is
-/// handed on as it is.
+/// The two cells merged. The memo has what was merged before. What stays at a field is asked for nothing and
+/// copied in runs. Where no cell changed, the first one is handed on as it is.
 fn merge_known<M: Merging>(
     alloc: Global,
     by: &mut M,
@@ -144,6 +159,7 @@ fn merge_known<M: Merging>(
 ) -> Result<u32, Memory>
     requires sound { M.sound by.old }
     requires skips { CanSkip (M.gives by.old) store.old skips.masks.now skips.wanted }
+    requires stays { CanStay (M.gives by.old) store.old skips.stay }
     requires ordered { AreOrderedFrom 0 store.old }
     requires a { a < length store.old }
     requires b { b < length store.old }
@@ -162,14 +178,16 @@ fn merge_known<M: Merging>(
     let Some(field) = lesser(cut_field(store, a), cut_field(store, b)) else {
         unreachable!();
     };
-    let met = meet_cells(alloc, store, a, b, field)?;
+    let met = parted(alloc, store, skips, a, b, field)?;
     let mut steps = Vec::new(alloc);
     let mut same = true;
-    for s in &met.steps {
-        let node = merge_known(alloc, by, skips, store, memo, s.left, s.right)?;
-        add_step(&mut steps, s.hi, node)?;
-        same = stays(same, node, s.left);
+    for part in &met.parts {
+        add_run(&mut steps, store, a, field, part.from, part.to)?;
+        let node = merge_known(alloc, by, skips, store, memo, part.left, part.right)?;
+        add_step(&mut steps, part.hi, node)?;
+        same = stays(same, node, part.left);
     }
+    add_run(&mut steps, store, a, field, met.from, met.to)?;
     let last = merge_known(alloc, by, skips, store, memo, met.left, met.right)?;
     let same = stays(same, last, met.left);
     let whole = cut_or_same(store, field, steps, last, same, a)?;
@@ -199,6 +217,7 @@ pub(crate) fn merge<M: Merging>(
     let skips = Skips {
         masks: &[],
         wanted: 0,
+        stay: None,
     };
     merge_where(alloc, by, skips, store, a, b)
 }
@@ -214,6 +233,7 @@ pub(crate) fn merge_where<M: Merging>(
 ) -> Result<u32, Memory>
     requires sound { M.sound by.old }
     requires skips { CanSkip (M.gives by.old) store.old skips.masks.now skips.wanted }
+    requires stays { CanStay (M.gives by.old) store.old skips.stay }
     requires ordered { AreOrderedFrom 0 store.old }
     requires a { a < length store.old }
     requires b { b < length store.old }

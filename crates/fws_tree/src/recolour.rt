@@ -1,6 +1,6 @@
 //! A cell recoloured where another has labels.
 
-ghost use Rattle.std.specs.Prelude.{◌≡◌, ◌<◌, ◌≤◌, ◌^◌, ℕ, List, take, nat_eq, length, IfOk, OnOk, MatchOption, All, bit_and};
+ghost use Rattle.std.specs.Prelude.{◌≡◌, ◌<◌, ◌≤◌, ◌^◌, ℕ, List, Some, take, nat_eq, length, IfOk, OnOk, MatchOption, All, bit_and};
 ghost use Rattle.fws_tree.specs.Bits.{bits_in, AreMasks};
 ghost use Rattle.fws_tree.specs.Building.{Extends};
 ghost use Rattle.fws_tree.specs.Held.{AreOrderedFrom, held_at};
@@ -47,6 +47,7 @@ impl<M: Moves> Recolouring<'_, M> {
         ensures asked { OnOk result (AreAsked (M.moves self.new.by.now) self.new.asked.now) }
         ensures moved { IfOk result (λ r. M.moves self.new.by.now value label r) }
         ensures kept { StaysMoved (M.moves self.old.by.now) (M.moves self.new.by.now) }
+        ensures later { M.later self.old.by.now self.new.by.now }
         ensures values { Extends self.old.values.now self.new.values.now }
         ensures known { self.new.known ≡ self.old.known }
         ensures wanted { self.new.wanted ≡ self.old.wanted }
@@ -73,7 +74,7 @@ impl<M: Moves> Merging for Recolouring<'_, M> {
 
     ghost sound = { λ s. (s.known ≤ length s.values.now) × AreAsked (M.moves s.by.now) s.asked.now };
 
-    ghost later = { λ s t. (take s.known s.values.now ≡ take t.known t.values.now) × (s.wanted ≡ t.wanted) × Extends s.values.now t.values.now × StaysMoved (M.moves s.by.now) (M.moves t.by.now) × (s.by.ghost_name ≡ t.by.ghost_name) × (s.values.ghost_name ≡ t.values.ghost_name) };
+    ghost later = { λ s t. (take s.known s.values.now ≡ take t.known t.values.now) × (s.wanted ≡ t.wanted) × Extends s.values.now t.values.now × StaysMoved (M.moves s.by.now) (M.moves t.by.now) × M.later s.by.now t.by.now × (s.by.ghost_name ≡ t.by.ghost_name) × (s.values.ghost_name ≡ t.values.ghost_name) };
 
     fn early(&mut self, store: &mut Store, a: u32, b: u32) -> Result<Option<u32>, Memory> {
         let label = held_by(store, b);
@@ -94,11 +95,49 @@ impl<M: Moves> Merging for Recolouring<'_, M> {
         Ok(Some(r))
     }
 
-    ghost same = { λ s. (refl, refl, extends-same s.values.now, (λ x l z m. m), refl, refl) };
+    ghost same = { λ s. (refl, refl, extends-same s.values.now, (λ x l z m. m), M.same s.by.now, refl, refl) };
 
-    ghost then = { λ s t u e f. (e.0 ∙ f.0, e.1 ∙ f.1, extends-then s.values.now t.values.now u.values.now e.2 f.2, (λ x l z m. f.3 x l z (e.3 x l z m)), e.4 ∙ f.4, e.5 ∙ f.5) };
+    ghost then = { λ s t u e f. (e.0 ∙ f.0, e.1 ∙ f.1, extends-then s.values.now t.values.now u.values.now e.2 f.2, (λ x l z m. f.3 x l z (e.3 x l z m)), M.then s.by.now t.by.now u.by.now e.4 f.4, e.5 ∙ f.5, e.6 ∙ f.6) };
 
     ghost kept = { λ s t e x y z g. recoloured-kept (M.moves s.by.now) (M.moves t.by.now) (take s.known s.values.now) (take t.known t.values.now) s.wanted t.wanted x y z e.3 e.0 e.1 g };
+}
+
+// The cell `root` with each value moved that has a wanted bit, where cell `marked` has a label. What stays may be a cell
+// without a label.
+fn recoloured_but<M: Moves>(
+    alloc: Global,
+    store: &mut Store,
+    values: &mut Values,
+    skips: Skips<'_>,
+    root: u32,
+    marked: u32,
+    by: &mut M,
+) -> Result<u32, Memory>
+    requires ordered { AreOrderedFrom 0 store.old }
+    requires root { root < length store.old }
+    requires marked { marked < length store.old }
+    requires masks { AreMasks values.old store.old skips.masks.now }
+    requires stay { (k : ℕ) → skips.stay ≡ Some k → (k < length store.old) × ((p : List ℕ) → held_at store.old k p ≡ 0) }
+    ensures ordered { AreOrderedFrom 0 store.new }
+    ensures extends { Extends store.old store.new }
+    ensures masks { AreMasks values.new store.new skips.entry.masks.now }
+    ensures values { Extends values.old values.new }
+    ensures kept { StaysMoved (M.moves by.old) (M.moves by.new) }
+    ensures later { M.later by.old by.new }
+    ensures inside { IfOk result (λ r. r < length store.new) }
+    ensures recoloured { IfOk result (λ r. (p : List ℕ) → IsRecoloured (M.moves by.new) values.old skips.entry.wanted (held_at store.old root p) (held_at store.old marked p) (held_at store.new r p)) }
+{
+    let mut asked = Memo::new(alloc);
+    let mut rule = Recolouring {
+        by,
+        known: values.len(),
+        values,
+        wanted: skips.wanted,
+        asked: &mut asked,
+    };
+    let outcome = merge_where(alloc, &mut rule, skips, store, root, marked);
+    rule.values.told();
+    outcome
 }
 
 /// The cell `root` with each value moved that has a wanted bit, where cell `marked` has a label.
@@ -120,18 +159,14 @@ pub(crate) fn recoloured<M: Moves>(
     ensures masks { AreMasks values.new store.new skips.entry.masks.now }
     ensures values { Extends values.old values.new }
     ensures kept { StaysMoved (M.moves by.old) (M.moves by.new) }
+    ensures later { M.later by.old by.new }
     ensures inside { IfOk result (λ r. r < length store.new) }
     ensures recoloured { IfOk result (λ r. (p : List ℕ) → IsRecoloured (M.moves by.new) values.old skips.entry.wanted (held_at store.old root p) (held_at store.old marked p) (held_at store.new r p)) }
 {
-    let mut asked = Memo::new(alloc);
-    let mut rule = Recolouring {
-        by,
-        known: values.len(),
-        values,
-        wanted: skips.wanted,
-        asked: &mut asked,
+    let stay = store.intern(Cell::Leaf(0))?;
+    let skips = Skips {
+        stay: Some(stay),
+        ..skips
     };
-    let outcome = merge_where(alloc, &mut rule, skips, store, root, marked);
-    rule.values.told();
-    outcome
+    recoloured_but(alloc, store, values, skips, root, marked, by)
 }

@@ -3,13 +3,15 @@
 ghost use Rattle.std.specs.Prelude.{◌≡◌, ◌⊎◌, ◌<◌, ◌≤◌, ◌++◌, [], ◌∷◌, ℕ, List, Some, length, slice_get, slice_index, if◌then◌else◌, IfOk, OnOk, OnErr, All};
 
 use crate::arena::{Exact, place_of};
+use crate::digest::digest;
 use fws_num::{Items, Memory};
 use indexmap::IndexSet;
 use std::alloc::Global;
+use std::hash::{Hash, Hasher};
 use std::marker::Model;
 
 /// The values of a field up to `hi`, behind the step before, and the cell for them.
-#[derive(Clone, Copy, PartialEq, Eq, Hash)]
+#[derive(Clone, Copy, PartialEq, Eq)]
 pub struct Step {
     /// The greatest value.
     pub hi: u32,
@@ -18,12 +20,28 @@ pub struct Step {
 }
 
 /// A cell: it names earlier cells alone.
-#[derive(PartialEq, Eq, Hash, Drop)]
+#[derive(PartialEq, Eq, Drop)]
 pub enum Cell {
     /// A leaf, by its number.
     Leaf(u32),
     /// A cut of a field: steps, and the cell for the values past them.
     Cut(u8, Items<Step>, u32),
+}
+
+impl Hash for Cell {
+    ghost use Rattle.std.specs.Hash as fed;
+    ghost use Rattle.std.proofs.Common.{ap};
+    ghost use Rattle.fws_tree.specs.CellEquality.{leaf_exact, cut_exact, never};
+    ghost use Rattle.fws_tree.specs.Digest.{digest};
+    ghost use Rattle.fws_tree.specs.declared.store.Cell.TheVariants.{Leaf, Cut};
+
+    ghost hash_input = { λ c. fed.u64 (digest c) };
+
+    ghost respects_eq = { elim [ Leaf m ↦ elim [ Leaf n ↦ λ h. ap (λ c. fed.u64 (digest c)) (leaf_exact m n h) | Cut f ss l ↦ λ h. ap (λ c. fed.u64 (digest c)) (never (Leaf m) (Cut f ss l) h) ] | Cut f ss l ↦ elim [ Leaf m ↦ λ h. ap (λ c. fed.u64 (digest c)) (never (Cut f ss l) (Leaf m) h) | Cut g ts k ↦ λ h. ap (λ c. fed.u64 (digest c)) (cut_exact f g ss ts l k h) ] ] };
+
+    fn hash<H: Hasher>(&self, state: &mut H) {
+        state.write_u64(digest(self));
+    }
 }
 
 impl Exact for Cell {

@@ -3,7 +3,8 @@
 ghost use Rattle.std.specs.Prelude.{◌≡◌, ◌⊎◌, ℕ, ◌+◌, ◌<◌, ◌≤◌, List, [], Some, None, drop, length, slice_get, slice_index, nat_le, if◌then◌else◌, IfOk, IfSome, MatchOption, All};
 ghost use Rattle.fws_tree.specs.declared.store.Cell.{Cell};
 ghost use Rattle.fws_tree.specs.Held.{AreOrderedFrom, held_at, child_at, field_of};
-ghost use Rattle.fws_tree.specs.Merged.{left_at, right_at, AreMet, IsCutCell};
+ghost use Rattle.fws_tree.specs.Merged.{left_at, right_at, IsCutCell};
+ghost use Rattle.fws_tree.specs.Parts.{own_steps};
 
 use crate::store::{Cell, Step, Store};
 use fws_num::Memory;
@@ -99,6 +100,7 @@ pub(crate) fn view(store: &Store, at: u32, field: u8) -> (&[Step], u32)
     ensures held { (p : List ℕ) → held_at store.now at p ≡ held_at store.now (child_at result.0.now result.1 (slice_index p field)) p }
     ensures below { All (λ s. s.node < at + 1) result.0.now }
     ensures last { result.1 < at + 1 }
+    ensures own { result.0.now ≡ own_steps field (slice_get store.now at) }
     ensures strict { (c : Cell) → slice_get store.now at ≡ Some c → field_of c ≡ Some field → All (λ s. s.node < at) result.0.now × (result.1 < at) }
 {
     match store.cell(at) {
@@ -109,17 +111,6 @@ pub(crate) fn view(store: &Store, at: u32, field: u8) -> (&[Step], u32)
         },
         Cell::Leaf(_) => (&[], at),
     }
-}
-
-/// Two cells together at a field.
-#[derive(Drop)]
-pub(crate) struct Met {
-    /// The steps over both.
-    pub(crate) steps: Vec<Both>,
-    /// The first cell past the steps.
-    pub(crate) left: u32,
-    /// The second cell past the steps.
-    pub(crate) right: u32,
 }
 
 // The field that the cell cuts, if it is not a leaf.
@@ -154,24 +145,4 @@ pub(crate) fn lesser(f: Option<u8>, g: Option<u8>) -> Option<u8>
         (Some(f), None) => Some(f),
         (None, g) => g,
     }
-}
-
-// The two cells together at a field that one of them cuts.
-pub(crate) fn meet_cells(
-    alloc: Global,
-    store: &Store,
-    a: u32,
-    b: u32,
-    field: u8,
-) -> Result<Met, Memory>
-    requires ordered { AreOrderedFrom 0 store.now }
-    requires a { a < length store.now }
-    requires b { b < length store.now }
-    requires cut { (c d : Cell) → slice_get store.now a ≡ Some c → slice_get store.now b ≡ Some d → (field_of c ≡ Some field) ⊎ (field_of d ≡ Some field) }
-    ensures { IfOk result (λ m. AreMet store.now a b field m.steps.items m.left m.right) }
-{
-    let (xs, left) = view(store, a, field);
-    let (ys, right) = view(store, b, field);
-    let steps = meet_steps(alloc, xs, left, ys, right)?;
-    Ok(Met { steps, left, right })
 }

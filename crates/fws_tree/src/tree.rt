@@ -1,19 +1,21 @@
 //! Trees, seen by contracts as the tops of the fields and the plain tree.
 
-ghost use Rattle.std.specs.Prelude.{◌≡◌, ℕ, ◌-◌, List, length, Some, All, IfOk, IsTrue};
+ghost use Rattle.std.specs.Prelude.{◌≡◌, ℕ, ◌-◌, List, true, false, length, Some, All, Contains, IfOk, IsTrue, MatchOption};
 ghost use Rattle.fws_tree.specs.Plain.{Plain, IsReduced, value};
 ghost use Rattle.fws_box.specs.Sides.{IsWithin, sides_have};
 ghost use Rattle.fws_tree.specs.Rows.{row_hits, paths_of};
 ghost use Rattle.fws_tree.specs.Shared.{IsShared, subtree_of};
 ghost use Rattle.fws_tree.specs.Subtrees.{AreSubtrees};
 
+use crate::first_path::first_below;
 use crate::leaf::Leaf;
 use crate::node::Node;
-use crate::paths::add_paths;
+use crate::paths::Listing;
 use crate::row::Row;
 use crate::shared::Shared;
 use crate::walk::place_at;
 use fws_box::whole_sides;
+use fws_iv::Ivs;
 use fws_num::{Items, Memory};
 use std::alloc::Global;
 use std::marker::Model;
@@ -72,17 +74,14 @@ impl<L: Leaf> Tree<L> {
         ensures once { IfOk result (λ rows. (p : List ℕ) → IsWithin self.now.0 p → row_hits rows.items p ≡ 1) }
         ensures right { IfOk result (λ rows. (p : List ℕ) → IsWithin self.now.0 p → All (λ row. IsTrue (sides_have row.sides p) → value self.now.1 p ≡ Some row.leaf) rows.items) }
     {
-        let mut rows = Vec::new(alloc);
-        let sides = whole_sides(alloc, &self.tops)?;
-        add_paths(
+        // The tree is reduced, as its tops say.
+        let _tops = self.tops();
+        let mut listing = Listing {
             alloc,
-            self.leaves.as_slice(),
-            self.nodes.as_slice(),
-            self.nodes.len() - 1,
-            sides,
-            &mut rows,
-        )?;
-        Ok(rows)
+            rows: Vec::new(alloc),
+        };
+        self.each_row(alloc, &mut listing)?;
+        Ok(listing.rows)
     }
 
     /// How many different subtrees the tree has, itself and its leaves included. It allocates nothing.
@@ -112,5 +111,26 @@ pub(crate) fn from_nodes<L: Leaf>(tops: &[u32; 12], leaves: Items<L>, nodes: Ite
         tops: *tops,
         leaves,
         nodes,
+    }
+}
+
+impl Tree<bool> {
+    /// The sides of the first path of the tree that is true, if there is one. It goes down to that leaf alone, since in a
+    /// reduced tree all nodes but the leaf that is false have one below them that is true: so the time doesn't grow with the
+    /// paths. An error is want of memory.
+    pub fn first_true(&self, alloc: Global) -> Result<Option<[Ivs; 12]>, Memory>
+        ensures first { IfOk result (λ found. MatchOption found (All (λ row. row.leaf ≡ false) (paths_of self.now.0 self.now.1)) (λ sides. Contains (paths_of self.now.0 self.now.1) (record { sides = sides; leaf = true }))) }
+        ensures once { IfOk result (λ found. (p : List ℕ) → IsWithin self.now.0 p → row_hits (paths_of self.now.0 self.now.1) p ≡ 1) }
+        ensures right { IfOk result (λ found. (p : List ℕ) → IsWithin self.now.0 p → All (λ row. IsTrue (sides_have row.sides p) → value self.now.1 p ≡ Some row.leaf) (paths_of self.now.0 self.now.1)) }
+    {
+        let sides = whole_sides(alloc, &self.tops)?;
+        let found = first_below(
+            alloc,
+            self.leaves.as_slice(),
+            self.nodes.as_slice(),
+            self.nodes.len() - 1,
+            &sides,
+        )?;
+        Ok(found)
     }
 }

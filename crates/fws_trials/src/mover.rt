@@ -69,9 +69,15 @@ impl Mover {
 }
 
 impl Moves for Mover {
-    ghost use Rattle.std.specs.Prelude.{ℕ, ◌<◌};
+    ghost use Rattle.std.specs.Prelude.{ℕ, ◌<◌, Unit, tt};
 
     ghost moves = { λ s value label next. next < 16 };
+
+    ghost later = { λ s t. Unit {0} };
+
+    ghost same = { λ s. tt };
+
+    ghost then = { λ s t u e f. tt };
 
     fn moved(&mut self, values: &mut Values, value: u32, label: u32) -> Result<u32, Memory> {
         let next = self.next_value(values)?;
