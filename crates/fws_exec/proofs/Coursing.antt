@@ -154,6 +154,12 @@ part_within code part at ok lt =
     let le : part.past ≤ length code = leb-true part.past (length code) (and_parts (nat_le part.first part.past) (nat_le part.past (length code)) parts.0).1 in
     omega arith
 
+pub part_long : (code : List Ins) (part : Part) → part_ok code part ≡ true → (past : ℕ) → past ≤ part.past → past ≤ length code
+part_long code part ok past le =
+    let parts = and_parts (nat_le part.first part.past && nat_le part.past (length code)) (code_ok part.past part.first (part_code code part)) ok in
+    let long : part.past ≤ length code = leb-true part.past (length code) (and_parts (nat_le part.first part.past) (nat_le part.past (length code)) parts.0).1 in
+    omega arith
+
 -- the code of a part says what becomes of packets at each instruction of a run in it
 pub run_obeys : (e : Errand) (next : Stage → Transit → Outcome) (p : List ℕ) (n place past : ℕ) → part_ok e.code.now e.part ≡ true → past ≡ place + n → e.part.first ≤ place → past ≤ e.part.past
     → AllObey e next p place (run_of e.code.now place past)

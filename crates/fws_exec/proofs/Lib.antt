@@ -1,11 +1,17 @@
+pub mod Alike
 pub mod Coursing
 pub mod Dividing
 pub mod Entering
+pub mod Listing
 pub mod Marking
 pub mod Meaning
 pub mod Merging
+pub mod Moved
 pub mod Nexts
+pub mod Passed
 pub mod Putting
 pub mod Recoloured
+pub mod Routed
 pub mod Running
+pub mod Sent
 pub mod Turning

@@ -11,7 +11,8 @@ use Rattle.fws_flat.specs.declared.code.Ins.{Ins}
 use Rattle.fws_tree.specs.declared.mark.Mark.{Mark}
 use Rattle.fws_tree.specs.Marks.{mark_at}
 use Rattle.fws_tree.specs.Marks as marks
-use Rattle.fws_exec.specs.Moving.{boxed, picked}
+use Rattle.fws_exec.specs.Goings.{label_of}
+use Rattle.fws_exec.specs.Runs.{boxed, picked}
 
 -- a mark behind others
 pub mark_behind : (ms : List Mark) (m : Mark) (rest : ℕ) (p : List ℕ) → mark_at (ms ++ m ∷ []) rest p ≡ mark_at ms (cond (sides_have (marks.sides_of m) p) m.label rest) p
@@ -45,12 +46,11 @@ boxed_by boxes label rest p h e = ap (λ n. cond (nat_eq n 0) rest label) e ∙ 
     by false = refl
 
 -- one more instruction, the first of those that are left, where an area has the point
-pub picked_step : (b : Bool) (v : View) (ins : Ins) (number : ℕ) (code left : List Ins) (numbers left_numbers : List ℕ) (rest : ℕ) → left ≡ ins ∷ code → left_numbers ≡ number ∷ numbers
-    → cond (b && holds ins.cond v) (number + 1) (cond b (picked v code numbers rest) rest) ≡ cond b (picked v left left_numbers rest) rest
-picked_step b v ins number code left numbers left_numbers rest e f =
-    inside b (holds ins.cond v) ∙ sym (ap (λ k. cond b k rest) (ap (λ xs. picked v xs left_numbers rest) e ∙ ap (λ ns. picked v (ins ∷ code) ns rest) f))
+pub picked_step : (b : Bool) (place : ℕ) (v : View) (ins : Ins) (code left : List Ins) → left ≡ ins ∷ code
+    → cond (b && holds ins.cond v) (label_of place ins.act) (cond b (picked place v code) 0) ≡ cond b (picked place v left) 0
+picked_step b place v ins code left e = inside b (holds ins.cond v) ∙ sym (ap (λ xs. cond b (picked place v xs) 0) e)
   where
-    inside : (b h : Bool) → cond (b && h) (number + 1) (cond b (picked v code numbers rest) rest) ≡ cond b (cond h (number + 1) (picked v code numbers rest)) rest
+    inside : (b h : Bool) → cond (b && h) (label_of place ins.act) (cond b (picked place v code) 0) ≡ cond b (cond h (label_of place ins.act) (picked place v code)) 0
     inside true true = refl
     inside true false = refl
     inside false true = refl
@@ -64,3 +64,8 @@ label_inside false k rest e = absurd (false≢true e)
 pub same_both : (b : Bool) (k : ℕ) → cond b k k ≡ k
 same_both true k = refl
 same_both false k = refl
+
+-- no label where the condition fails
+pub never_label : (a h : Bool) (k rest : ℕ) → h ≡ false → cond (a && h) k rest ≡ rest
+never_label true h k rest e = ap (λ b. cond b k rest) e
+never_label false h k rest e = refl

@@ -36,7 +36,3 @@ next_end cs k least le h n = elim (cases_Bool (nat_lt n k)) [
   | inr past ↦ (let far : k ≤ n = not_below n k past in
       ap (λ (o : Option Class). option_map_or (λ c. is_before least c.spot) o false) (slice_get_past cs n (omega arith)))
 ]
-
--- behind the last class none stands
-pub stands_past : (test : Spot → Bool) (cs : List Class) (n : ℕ) → length cs ≤ n → stands test cs n ≡ false
-stands_past test cs n le = ap (λ (o : Option Class). option_map_or (λ c. test c.spot) o false) (slice_get_past cs n le)

@@ -53,15 +53,3 @@ put_set xs n c lt =
             slice_get_past (set xs n c) m (omega arith) ∙ sym (slice_get_past xs m past))
       ],
     )
-
-pub put_added : (xs : List Class) (c : Class) → IsPut (length xs) c xs (xs ++ c ∷ [])
-put_added xs c =
-    let long : length (xs ++ c ∷ []) ≡ length xs + 1 = length-append xs (c ∷ []) in (
-      slice_get-get_or (xs ++ c ∷ []) (length xs) c (omega arith) ∙ ap Some (get_or-append_seam xs c [] c),
-      λ m d. elim (cases_Bool (nat_lt m (length xs))) [
-        | inl t ↦ (let within : m < length xs = ltb-true m (length xs) t in
-            slice_get-get_or (xs ++ c ∷ []) m c (omega arith) ∙ ap Some (get_or-append xs (c ∷ []) c m within) ∙ sym (slice_get-get_or xs m c within))
-        | inr f ↦ (let past : length xs ≤ m = not_below m (length xs) f in
-            slice_get_past (xs ++ c ∷ []) m (omega arith) ∙ sym (slice_get_past xs m past))
-      ],
-    )

@@ -1,5 +1,5 @@
 -- How classes enter a part and leave it.
-use Rattle.std.proofs.Common.{◌≡◌, ◌≢◌, ℕ, ◌-◌, ◌<◌, ◌≤◌, Bool, true, false, cond, nat_lt, Option, Some, None, option_map, List, take, drop, length, slice_get, refl, sym, ◌∙◌, ap, subst, arith}
+use Rattle.std.proofs.Common.{◌≡◌, ℕ, ◌-◌, ◌≤◌, Bool, true, false, cond, nat_lt, Option, Some, None, option_map, List, take, drop, slice_get, refl, sym, ◌∙◌, ap, subst, arith}
 use Rattle.std.specs.Option.{option_map_or}
 use Rattle.std.proofs.lemmas.Bool.{false≢true}
 use Rattle.std.proofs.lemmas.Bool.Decides.{nat_tests}
@@ -22,10 +22,10 @@ use Rattle.fws_flat.specs.declared.code.Part.{Part}
 use Rattle.fws_exec.specs.Classes.{kind_of, meant, transit_of, future, same_stage, is_at_stage, is_inside, is_before, is_unused}
 use Rattle.fws_exec.specs.Courses.{left, course}
 use Rattle.fws_box.specs.Sides.{IsWithin}
-use Rattle.fws_tree.specs.Bits.{bits_in}
+use Rattle.fws_tree.specs.declared.canvas.Canvas.{Canvas}
 use Rattle.fws_tree.specs.Painted as painted
 use Rattle.fws_exec.specs.declared.sheet.Sheet.{Sheet}
-use Rattle.fws_exec.specs.Sheets.{tops_in, class_at, IsSheet, stands}
+use Rattle.fws_exec.specs.Sheets.{class_at, IsSheet, IsUsed, stands}
 use Rattle.fws_exec.specs.Stages.{turned, nowhere, through_part, through_routing}
 
 pub same_stages : (a b : Stage) → same_stage a b ≡ true → b ≡ a
@@ -139,24 +139,6 @@ leave_stands stage old new n step = ap (λ (o : Option Class). option_map_or (λ
     by None = refl
     by (Some c) = leave_inside stage c.spot c.progress
 
--- without classes before routing, it is the same behind
-pub none_arriving : (site : Site) (next : Stage → Transit → Outcome) (p : List ℕ) (cs : List Class) (n : ℕ) → stands (is_at_stage Arrive) cs n ≡ false → future nowhere next cs n p ≡ future nowhere (through_routing site next p) cs n p
-none_arriving site next p cs n h = by (slice_get cs n) h
-  where
-    spot : (s : Spot) (t : Transit) → is_at_stage Arrive s ≡ false → meant nowhere next s t ≡ meant nowhere (through_routing site next p) s t
-    spot Unused t h = refl
-    spot Dropped t h = refl
-    spot (At place) t h = refl
-    spot (Before Arrive) t h = absurd (false≢true (sym h))
-    spot (Before Deliver) t h = refl
-    spot (Before Forward) t h = refl
-    spot (Before Send) t h = refl
-
-    by : (o : Option Class) → option_map_or (λ c. is_at_stage Arrive c.spot) o false ≡ false
-        → option_map_or (λ c. meant nowhere next c.spot (transit_of c.progress p)) o outcomes.Drop ≡ option_map_or (λ c. meant nowhere (through_routing site next p) c.spot (transit_of c.progress p)) o outcomes.Drop
-    by None h = refl
-    by (Some c) h = spot c.spot (transit_of c.progress p) h
-
 -- a class that enters or leaves is unused only if it was
 enter_unused : (part : Part) (stage : Stage) (s : Spot) (g : Progress) → is_unused (turned (Enter part stage) (record { spot = s; progress = g })).spot ≡ is_unused s
 enter_unused part stage Unused g = refl
@@ -182,29 +164,11 @@ turn_unused : (turn : Turn) (c : Class) → is_unused (turned turn c).spot ≡ i
 turn_unused (Enter part stage) c = enter_unused part stage c.spot c.progress
 turn_unused (Leave stage) c = leave_unused stage c.spot c.progress
 
-pub turned_unused : (turn : Turn) (old new : List Class) (n : ℕ) → slice_get new n ≡ option_map (turned turn) (slice_get old n) → stands is_unused new n ≡ stands is_unused old n
-turned_unused turn old new n step = ap (λ (o : Option Class). option_map_or (λ c. is_unused c.spot) o false) step ∙ by (slice_get old n)
-  where
-    by : (o : Option Class) → option_map_or (λ c. is_unused c.spot) (option_map (turned turn) o) false ≡ option_map_or (λ c. is_unused c.spot) o false
-    by None = refl
-    by (Some c) = turn_unused turn c
-
 -- a sheet whose classes enter or leave is one
-pub turned_sheet : (turn : Turn) (old new : Sheet) → IsSheet old → new.canvas ≡ old.canvas → length new.classes.items ≡ length old.classes.items
-    → ((n : ℕ) → slice_get new.classes.items n ≡ option_map (turned turn) (slice_get old.classes.items n)) → IsSheet new
-turned_sheet turn old new is canvas count step = record {
-  placed = λ p w. (
-      let e : class_at new p ≡ class_at old p = ap (λ k. painted.value_at k p) canvas in
-      let h : class_at old p < length old.classes.items = is.placed p (within p w) in
-      omega arith);
-  counted = (
-      let e : length (painted.values_of new.canvas) ≡ length (painted.values_of old.canvas) = ap (λ k. length (painted.values_of k)) canvas in
-      let h = is.counted in
-      omega arith);
-  bits = λ n lt. subst (λ k. bits_in (painted.values_of k) n ≢ 0) (sym canvas) (is.bits n (subst (λ k. n ≤ k) count lt));
-  small = (let h = is.small in omega arith);
-  unused = λ n u p w e. is.unused n (sym (turned_unused turn old.classes.items new.classes.items n (step n)) ∙ u) p (within p w) (sym (ap (λ k. painted.value_at k p) canvas) ∙ e);
-}
-  where
-    within : (p : List ℕ) → IsWithin (tops_in new) p → IsWithin (tops_in old) p
-    within p w = subst (λ k. IsWithin (painted.tops_of k) p) canvas w
+pub turned_sheet : (turn : Turn) (old new : Sheet) → IsSheet old → new.canvas ≡ old.canvas
+    → ((n : ℕ) → slice_get new.roll.classes.items n ≡ option_map (turned turn) (slice_get old.roll.classes.items n)) → IsSheet new
+turned_sheet turn old new sheet canvas step p w =
+    let same : class_at new p ≡ class_at old p = ap (λ k. painted.value_at k p) canvas in
+    let before = sheet p (subst (λ (k : Canvas). IsWithin (painted.tops_of k) p) canvas w) in
+    let got : slice_get new.roll.classes.items (class_at old p) ≡ Some (turned turn before.0) = step (class_at old p) ∙ ap (option_map (turned turn)) before.1.0 in
+    (turned turn before.0, subst (λ n. IsUsed new.roll.classes.items n (turned turn before.0)) (sym same) (got, turn_unused turn before.0 ∙ before.1.1))

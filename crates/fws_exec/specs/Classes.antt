@@ -105,3 +105,19 @@ is_unused _ = false
 abbrev pub is_inside : Spot → Bool
 is_inside (At place) = true
 is_inside _ = false
+
+-- the spot of packets that are dropped
+abbrev pub is_dropped : Spot → Bool
+is_dropped Dropped = true
+is_dropped _ = false
+
+-- a spot at the instruction with a place
+abbrev pub is_at : ℕ → Spot → Bool
+is_at place (At n) = nat_eq place n
+is_at place _ = false
+
+abbrev pub same_spot : Spot → Spot → Bool
+same_spot Unused other = is_unused other
+same_spot Dropped other = is_dropped other
+same_spot (At place) other = is_at place other
+same_spot (Before stage) other = is_at_stage stage other

@@ -13,7 +13,6 @@ use Rattle.fws_exec.specs.declared.errand.Errand.{Errand}
 use Rattle.fws_exec.specs.declared.sheet.Sheet.{Sheet}
 use Rattle.fws_exec.specs.declared.spot.Stage.{Stage}
 use Rattle.fws_exec.specs.Classes.{kind_of, future, meant_behind}
-use Rattle.fws_exec.specs.Runs.{run_of}
 use Rattle.fws_exec.specs.Sheets.{class_at}
 
 -- what becomes of a packet that left a part: it is dropped, or goes on
@@ -38,22 +37,12 @@ Obeys e next p place ins = (t : Transit) → course e next p place t ≡
     then meant_behind (course e next p) next e.stage place (step_of (packet_of p) (kind_of e.ground.state p) ins.act t)
     else course e next p (place + 1) t)
 
--- what becomes of each packet stays, if it is so at this instruction
-abbrev pub KeepsAt : Errand → ℕ → Ins → Sheet → Sheet → Type 0
-KeepsAt e place ins old new = (next : Stage → Transit → Outcome) (p : List ℕ) → IsWithin (tops_of e.ground.site.now) p → Obeys e next p place ins
-    → future (course e next p) next new.classes.items (class_at new p) p ≡ future (course e next p) next old.classes.items (class_at old p) p
-
 -- so it is at all of these instructions, of which the first has the place
 abbrev pub AllObey : Errand → (Stage → Transit → Outcome) → List ℕ → ℕ → List Ins → Type 0
 AllObey e next p place [] = Unit {0}
 AllObey e next p place (ins ∷ code) = Obeys e next p place ins × AllObey e next p (place + 1) code
 
--- what becomes of each packet stays, if it is so at the instructions of a run
-abbrev pub KeepsRun : Errand → ℕ → ℕ → Sheet → Sheet → Type 0
-KeepsRun e place past old new = (next : Stage → Transit → Outcome) (p : List ℕ) → IsWithin (tops_of e.ground.site.now) p → AllObey e next p place (run_of e.code.now place past)
-    → future (course e next p) next new.classes.items (class_at new p) p ≡ future (course e next p) next old.classes.items (class_at old p) p
-
 -- what becomes of each packet stays
 abbrev pub Keeps : Errand → Sheet → Sheet → Type 0
 Keeps e old new = (next : Stage → Transit → Outcome) (p : List ℕ) → IsWithin (tops_of e.ground.site.now) p
-    → future (course e next p) next new.classes.items (class_at new p) p ≡ future (course e next p) next old.classes.items (class_at old p) p
+    → future (course e next p) next new.roll.classes.items (class_at new p) p ≡ future (course e next p) next old.roll.classes.items (class_at old p) p

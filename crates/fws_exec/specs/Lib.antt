@@ -1,8 +1,13 @@
 pub mod Classes
 pub mod Courses
+pub mod Divided
+pub mod Goings
 pub mod Grounds
+pub mod Joined
 pub mod Moving
+pub mod MovingLaws
+pub mod Passing
 pub mod Runs
 pub mod Sheets
-pub mod Splits
 pub mod Stages
+pub mod Views

@@ -1,21 +1,27 @@
--- How the packets of one class become those of others.
-use Rattle.std.specs.Prelude.{◌≡◌, ◌≢◌, ℕ, ◌+◌, ◌-◌, ◌^◌, Bool, true, nat_eq, nat_lt, MatchBool, List, ◌∷◌, if◌then◌else◌}
-use Rattle.fws_box.specs.declared.pbox.PBox.{PBox}
-use Rattle.fws_box.specs.Boxes.{box_hits}
-use Rattle.fws_flat.specs.declared.code.Ins.{Ins}
-use Rattle.fws_net.specs.declared.view.View.{View}
-use Rattle.fws_net.specs.Conditions.{holds}
+-- How the packets of called classes become those of others, and how classes are added then.
+use Rattle.std.specs.Prelude.{◌≡◌, ℕ, ◌≤◌, Bool, false, MatchBool, List, length}
+use Rattle.fws_exec.specs.declared.going.Going.{Going}
+use Rattle.fws_exec.specs.declared.spot.Class.{Class}
+use Rattle.fws_exec.specs.declared.spot.Spot.{Spot}
+use Rattle.fws_exec.specs.Goings.{lands, IsGone}
+use Rattle.fws_exec.specs.Sheets.{IsUsed, Grows, NoneComes}
 
--- class x becomes z at a label: the one class becomes that which the label names, and was met then, and each other class
--- stays. At a label past all that there are, it says which class the one is
-abbrev pub IsMoved : ℕ → Bool → ℕ → ℕ → ℕ → Type 0
-IsMoved one met x l z = MatchBool (nat_lt l (2 ^ 32)) ((x ≡ one → (z ≡ l - 1) × (met ≡ true)) × (x ≢ one → z ≡ x)) (x ≡ one)
+-- packets of class x, to which rules did what they did to that class, go to class z at a label; both are used
+abbrev pub GoesTo : Going → List Class → ℕ → ℕ → ℕ → Type 0
+GoesTo going classes x label z = (c : Class) × IsUsed classes x c × IsGone going label c.progress classes z
 
--- a label where one of the boxes has the point, else the rest
-abbrev pub boxed : List PBox → ℕ → ℕ → List ℕ → ℕ
-boxed boxes label rest p = if nat_eq (box_hits boxes p) 0 then rest else label
+-- class x becomes z at a label: one whose number passes the test goes, and each other one stays
+abbrev pub IsMoved : Going → (ℕ → Bool) → List Class → ℕ → ℕ → ℕ → Type 0
+IsMoved going called classes x label z = MatchBool (called x) (GoesTo going classes x label z) (z ≡ x)
 
--- the label of the class to which the first instruction sends a packet whose condition holds, else the rest
-abbrev pub picked : View → List Ins → List ℕ → ℕ → ℕ
-picked v (ins ∷ code) (number ∷ numbers) rest = if holds ins.cond v then number + 1 else picked v code numbers rest
-picked v _ _ rest = rest
+-- classes are added at the spot alone, and those that are used stay
+pub record AddsAt (spot : Spot) (old new : List Class) : Type 0 where
+  pub grows : Grows old new
+  pub count : length old ≤ length new
+  pub comes : (test : Spot → Bool) → test spot ≡ false → NoneComes test old new
+
+-- classes are added where packets land alone, and those that are used stay
+pub record IsGrown (going : Going) (old new : List Class) : Type 0 where
+  pub grows : Grows old new
+  pub count : length old ≤ length new
+  pub comes : (test : Spot → Bool) → ((label : ℕ) → test (lands going label) ≡ false) → NoneComes test old new

@@ -1,14 +1,13 @@
 -- Runs: instructions in a row that all send the packets out of the run for which their conditions hold.
-use Rattle.std.specs.Prelude.{ℕ, ◌-◌, Bool, true, false, nat_le, List, [], ◌∷◌, take, drop}
+use Rattle.std.specs.Prelude.{ℕ, ◌-◌, Bool, true, false, nat_eq, nat_le, List, [], ◌∷◌, take, drop, if◌then◌else◌}
+use Rattle.fws_box.specs.Boxes.{box_hits}
+use Rattle.fws_box.specs.declared.pbox.PBox.{PBox}
 use Rattle.fws_flat.specs.declared.code.FlatAct.{FlatAct}
 use Rattle.fws_flat.specs.declared.code.FlatAct.TheVariants.{Accept, Drop, Jump}
 use Rattle.fws_flat.specs.declared.code.Ins.{Ins}
-use Rattle.fws_exec.specs.declared.progress.Progress.{Progress}
-use Rattle.fws_exec.specs.declared.spot.Stage.{Stage}
-use Rattle.fws_exec.specs.declared.spot.Spot.{Spot}
-use Rattle.fws_exec.specs.declared.spot.Spot.TheVariants.{Dropped, At, Before}
-use Rattle.fws_exec.specs.declared.spot.Class.{Class}
-use Rattle.fws_exec.specs.Sheets.{IsUsed}
+use Rattle.fws_net.specs.declared.view.View.{View}
+use Rattle.fws_net.specs.Conditions.{holds}
+use Rattle.fws_exec.specs.Goings.{label_of}
 
 -- the instructions from a place on, before another
 abbrev pub run_of : List Ins → ℕ → ℕ → List Ins
@@ -21,15 +20,11 @@ leaves past Drop = true
 leaves past (Jump to) = nat_le past to
 leaves past _ = false
 
--- where packets go on behind such an act
-abbrev pub spot_behind : Stage → FlatAct → Spot
-spot_behind stage Accept = Before stage
-spot_behind stage (Jump to) = At to
-spot_behind stage _ = Dropped
+-- a label where one of the boxes has the point, else the rest
+abbrev pub boxed : List PBox → ℕ → ℕ → List ℕ → ℕ
+boxed boxes label rest p = if nat_eq (box_hits boxes p) 0 then rest else label
 
--- for each instruction, the number of the class of packets to which rules did this, at the spot behind its act
-abbrev pub AreLanded : Stage → Progress → List Class → List Ins → List ℕ → Type 0
-AreLanded stage g classes [] [] = Unit {0}
-AreLanded stage g classes (ins ∷ code) (number ∷ numbers) =
-    IsUsed classes number (record { spot = spot_behind stage ins.act; progress = g }) × AreLanded stage g classes code numbers
-AreLanded stage g classes _ _ = ⊥
+-- the label of the first instruction whose condition holds, in a run that begins at a place; 0 if there is none
+abbrev pub picked : ℕ → View → List Ins → ℕ
+picked place v [] = 0
+picked place v (ins ∷ code) = if holds ins.cond v then label_of place ins.act else picked place v code

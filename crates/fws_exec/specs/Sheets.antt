@@ -1,11 +1,12 @@
 -- Sheets: classes by number, and the class of each point.
-use Rattle.std.specs.Prelude.{◌≡◌, ◌≢◌, ℕ, ◌<◌, ◌≤◌, ◌^◌, Bool, true, false, Some, List, length, slice_get}
+use Rattle.std.specs.Prelude.{◌≡◌, ◌≢◌, ℕ, nat_eq, Bool, true, false, Some, List, slice_get, option_map, if◌then◌else◌}
+use Rattle.std.specs.List.{list_any}
 use Rattle.std.specs.Option.{option_map_or}
 use Rattle.fws_box.specs.Sides.{IsWithin}
-use Rattle.fws_tree.specs.Bits.{bits_in}
-use Rattle.fws_tree.specs.Painted.{tops_of, value_at, values_of}
+use Rattle.fws_tree.specs.Painted.{tops_of, value_at}
 use Rattle.fws_net.specs.declared.outcome.Outcome.{Outcome}
 use Rattle.fws_net.specs.declared.transit.Transit.{Transit}
+use Rattle.fws_exec.specs.declared.progress.Progress.{Progress}
 use Rattle.fws_exec.specs.declared.spot.Spot.{Spot}
 use Rattle.fws_exec.specs.declared.spot.Stage.{Stage}
 use Rattle.fws_exec.specs.declared.spot.Class.{Class}
@@ -20,30 +21,25 @@ tops_in s = tops_of s.canvas
 abbrev pub class_at : Sheet → List ℕ → ℕ
 class_at s p = value_at s.canvas p
 
--- no point has the class with this number
-abbrev pub IsFree : Sheet → ℕ → Type 0
-IsFree s n = (p : List ℕ) → IsWithin (tops_in s) p → class_at s p ≢ n
-
 -- there is a class with the number, and its spot passes the test
 abbrev pub stands : (Spot → Bool) → List Class → ℕ → Bool
 stands test classes n = option_map_or (λ c. test c.spot) (slice_get classes n) false
 
--- each point has a class, the number of each class is a value of the canvas with a bit and so is the next number, and no
--- point has an unused class
-pub record IsSheet (s : Sheet) : Type 0 where
-  pub placed : (p : List ℕ) → IsWithin (tops_in s) p → class_at s p < length s.classes.items
-  pub counted : length s.classes.items < length (values_of s.canvas)
-  pub bits : (n : ℕ) → n ≤ length s.classes.items → bits_in (values_of s.canvas) n ≢ 0
-  pub small : length s.classes.items < 2 ^ 32
-  pub unused : (n : ℕ) → stands is_unused s.classes.items n ≡ true → IsFree s n
+-- the class with a number is this one, and it isn't unused
+abbrev pub IsUsed : List Class → ℕ → Class → Type 0
+IsUsed classes n c = (slice_get classes n ≡ Some c) × (is_unused c.spot ≡ false)
+
+-- each point has a class that is used
+abbrev pub IsSheet : Sheet → Type 0
+IsSheet s = (p : List ℕ) → IsWithin (tops_in s) p → (c : Class) × IsUsed s.roll.classes.items (class_at s p) c
+
+-- no point has the class with this number
+abbrev pub IsFree : Sheet → ℕ → Type 0
+IsFree s n = (p : List ℕ) → IsWithin (tops_in s) p → class_at s p ≢ n
 
 -- one class is put in the place of another, or added; all others stay
 abbrev pub IsPut : ℕ → Class → List Class → List Class → Type 0
 IsPut n c old new = (slice_get new n ≡ Some c) × ((m : ℕ) → m ≢ n → slice_get new m ≡ slice_get old m)
-
--- the class with a number is this one, and it isn't unused
-abbrev pub IsUsed : List Class → ℕ → Class → Type 0
-IsUsed classes n c = (slice_get classes n ≡ Some c) × (is_unused c.spot ≡ false)
 
 -- each class that is used stays
 abbrev pub Grows : List Class → List Class → Type 0
@@ -56,4 +52,22 @@ NoneComes test old new = (n : ℕ) → stands test old n ≡ false → stands te
 -- what becomes of each packet stays, whatever becomes of packets at instructions and before stages
 abbrev pub KeepsFutures : Sheet → Sheet → Type 0
 KeepsFutures old new = (at : ℕ → Transit → Outcome) (next : Stage → Transit → Outcome) (p : List ℕ) → IsWithin (tops_in old) p
-    → future at next new.classes.items (class_at new p) p ≡ future at next old.classes.items (class_at old p) p
+    → future at next new.roll.classes.items (class_at new p) p ≡ future at next old.roll.classes.items (class_at old p) p
+
+-- Numbers of classes
+
+-- a number is one of these
+abbrev pub among : List ℕ → ℕ → Bool
+among numbers n = list_any (nat_eq n) numbers
+
+-- the class with a number stands at the spot
+abbrev pub StandsAt : Spot → List Class → ℕ → Type 0
+StandsAt spot classes n = (g : Progress) × (slice_get classes n ≡ Some (record { spot = spot; progress = g }))
+
+-- the classes whose numbers pass the test stand at the spot
+abbrev pub AllAt : Spot → List Class → (ℕ → Bool) → Type 0
+AllAt spot classes test = (n : ℕ) → test n ≡ true → StandsAt spot classes n
+
+-- the classes whose numbers pass the test go to the spot, and all others stay
+abbrev pub AreSent : Spot → (ℕ → Bool) → List Class → List Class → Type 0
+AreSent spot test old new = (n : ℕ) → slice_get new n ≡ (if test n then option_map {T = Class} (λ c. record c { spot = spot }) (slice_get old n) else slice_get old n)

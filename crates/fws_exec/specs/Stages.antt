@@ -1,5 +1,5 @@
 -- What becomes of packets between the parts.
-use Rattle.std.specs.Prelude.{◌≡◌, ℕ, Bool, true, false, Some, List, if◌then◌else◌}
+use Rattle.std.specs.Prelude.{◌≡◌, ℕ, Bool, true, false, Some, List, [], ◌∷◌, if◌then◌else◌}
 use Rattle.fws_box.specs.Sides.{IsWithin}
 use Rattle.fws_net.specs.declared.outcome.Outcome.{Outcome}
 use Rattle.fws_net.specs.declared.outcome.Outcome.TheVariants as outcomes
@@ -10,10 +10,11 @@ use Rattle.fws_net.specs.declared.site.Site.{Site}
 use Rattle.fws_net.specs.declared.transit.Transit.{Transit}
 use Rattle.fws_net.specs.Points.{packet_of, tops_of}
 use Rattle.fws_net.specs.Routes.{is_local}
-use Rattle.fws_net.specs.Transits.{outcome_of, nothing_written}
+use Rattle.fws_net.specs.Transits.{entered, outcome_of, nothing_written}
 use Rattle.fws_flat.specs.declared.code.Ins.{Ins}
 use Rattle.fws_flat.specs.declared.code.Part.{Part}
 use Rattle.fws_flat.specs.Walk.{part_walk, parts_walk}
+use Rattle.fws_exec.specs.declared.progress.Progress.{Progress}
 use Rattle.fws_exec.specs.declared.sheet.Sheet.{Sheet}
 use Rattle.fws_exec.specs.declared.spot.Class.{Class}
 use Rattle.fws_exec.specs.declared.spot.Spot.{Spot}
@@ -22,7 +23,7 @@ use Rattle.fws_exec.specs.declared.spot.Stage.{Stage}
 use Rattle.fws_exec.specs.declared.spot.Stage.TheVariants.{Arrive, Deliver, Forward}
 use Rattle.fws_exec.specs.declared.turn.Turn.{Turn}
 use Rattle.fws_exec.specs.declared.turn.Turn.TheVariants.{Enter, Leave}
-use Rattle.fws_exec.specs.Classes.{kind_of, future, same_stage, is_at_stage}
+use Rattle.fws_exec.specs.Classes.{kind_of, transit_of, future, same_stage, is_at_stage}
 use Rattle.fws_exec.specs.Courses.{left}
 use Rattle.fws_exec.specs.Sheets.{class_at}
 
@@ -36,6 +37,10 @@ abbrev pub turned : Turn → Class → Class
 turned (Enter part stage) c = if is_at_stage stage c.spot then record { spot = At part.first; progress = record c.progress { verdict = part.end } } else c
 turned (Leave stage) c = class_behind stage c c.spot
 
+-- the only class is that of all packets, before they arrive, to which no rule did anything
+abbrev pub IsWhole : List Class → Type 0
+IsWhole classes = (g : Progress) × (classes ≡ record { spot = Before Arrive; progress = g } ∷ []) × ((p : List ℕ) → transit_of g p ≡ entered (packet_of p))
+
 -- between parts no packet stands at an instruction
 abbrev pub nowhere : ℕ → Transit → Outcome
 nowhere place t = outcomes.Drop
@@ -43,7 +48,7 @@ nowhere place t = outcomes.Drop
 -- what becomes of each packet in the first sheet by the first rule is what becomes of it in the second sheet by the second
 abbrev pub Becomes : Site → Sheet → Sheet → ((Stage → Transit → Outcome) → List ℕ → Stage → Transit → Outcome) → Type 0
 Becomes site old new before = (next : Stage → Transit → Outcome) (p : List ℕ) → IsWithin (tops_of site) p
-    → future nowhere next new.classes.items (class_at new p) p ≡ future nowhere (before next p) old.classes.items (class_at old p) p
+    → future nowhere next new.roll.classes.items (class_at new p) p ≡ future nowhere (before next p) old.roll.classes.items (class_at old p) p
 
 -- what becomes of a packet before a part of a stage, by what becomes of it behind
 abbrev pub through_part : List Ins → Site → State → Stage → Part → (Stage → Transit → Outcome) → List ℕ → Stage → Transit → Outcome

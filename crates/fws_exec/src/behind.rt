@@ -7,6 +7,7 @@ ghost use Rattle.fws_net.specs.Points.{packet_of};
 ghost use Rattle.fws_flat.specs.declared.code.FlatAct.TheVariants as acts;
 ghost use Rattle.fws_flat.specs.Walk.{step_of};
 ghost use Rattle.fws_exec.specs.declared.spot.Stage.{Stage as AnyStage};
+ghost use Rattle.fws_exec.specs.Goings.{act_spot};
 ghost use Rattle.fws_exec.specs.Classes.{kind_of, transit_of, meant, meant_behind, is_before, is_unused};
 
 use crate::progress::Progress;
@@ -40,6 +41,7 @@ impl Progress {
         requires room { place + 1 < 2 ^ 32 }
         requires forward { (to : ℕ) → act ≡ acts.Jump to → place < to }
         ensures meant { IfOk result (λ c. (at : ℕ → Transit → Outcome) (next : AnyStage → Transit → Outcome) (p : List ℕ) → meant at next c.spot (transit_of c.progress p) ≡ meant_behind at next stage place (step_of (packet_of p) (kind_of state p) act (transit_of self p))) }
+        ensures spot { IfOk result (λ c. c.spot ≡ act_spot stage place act) }
         ensures behind { IfOk result (λ c. is_before (place + 1) c.spot ≡ false) }
         ensures used { IfOk result (λ c. is_unused c.spot ≡ false) }
     {

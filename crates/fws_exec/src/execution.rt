@@ -41,10 +41,10 @@ impl Class {
 impl Sheet {
     /// The outcome of each class, by number.
     fn outcomes(&self, alloc: Global, state: State) -> Result<Vec<Outcome>, Memory>
-        ensures { IfOk result (λ all. all.items ≡ map (class_outcome state) self.now.classes.items) }
+        ensures { IfOk result (λ all. all.items ≡ map (class_outcome state) self.now.roll.classes.items) }
     {
         let mut all = Vec::new(alloc);
-        for class in self.classes.as_slice() {
+        for class in self.roll.classes.as_slice() {
             all.push(class.outcome(state))?;
         }
         Ok(all)
@@ -65,7 +65,7 @@ fn executed(
     requires ok { flat_ok (record { code = purpose.now.code.now; arrive = arrive.now; deliver = deliver.now; forward = forward.now; send = send.now }) ≡ true }
     ensures sheet { IfOk result (λ s. IsSheet s) }
     ensures tops { IfOk result (λ s. tops_in s ≡ tops_of purpose.now.site.now) }
-    ensures meant { IfOk result (λ s. (p : List ℕ) → IsWithin (tops_of purpose.now.site.now) p → future nowhere (passed purpose.now.state p) s.classes.items (class_at s p) p ≡ means (record { code = purpose.now.code.now; arrive = arrive.now; deliver = deliver.now; forward = forward.now; send = send.now }) purpose.now.site.now (packet_of p) (kind_of purpose.now.state p)) }
+    ensures meant { IfOk result (λ s. (p : List ℕ) → IsWithin (tops_of purpose.now.site.now) p → future nowhere (passed purpose.now.state p) s.roll.classes.items (class_at s p) p ≡ means (record { code = purpose.now.code.now; arrive = arrive.now; deliver = deliver.now; forward = forward.now; send = send.now }) purpose.now.site.now (packet_of p) (kind_of purpose.now.state p)) }
 {
     let bump = Bump::new(alloc);
     let arena = &bump;

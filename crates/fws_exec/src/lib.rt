@@ -2,22 +2,30 @@
 #![tactic(auto)]
 
 mod behind;
+mod called;
+mod divide;
 mod errand;
 mod execution;
+mod going;
+mod groups;
+mod joining;
+mod key;
 mod marks;
 mod merge;
 mod moving;
 mod pass;
 mod progress;
 mod region;
+mod roll;
 mod routing;
 mod rows;
 mod run;
 mod sheet;
-mod split;
 mod spot;
 mod stages;
+mod through;
 mod turn;
+mod views;
 mod walk;
 
 pub use execution::execute_tree;

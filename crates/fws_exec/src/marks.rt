@@ -1,30 +1,33 @@
 //! Marks for the points where conditions hold.
 
-ghost use Rattle.std.specs.Prelude.{◌≡◌, ◌≤◌, ◌+◌, ◌&&◌, ℕ, List, if◌then◌else◌, length, IfOk, OnOk};
+ghost use Rattle.std.specs.Prelude.{◌≡◌, ◌≤◌, ◌&&◌, ℕ, List, if◌then◌else◌, IfOk, OnOk};
 ghost use Rattle.fws_box.specs.Boxes.{sides_of};
 ghost use Rattle.fws_box.specs.Sides.{IsWithin, sides_have};
+ghost use Rattle.fws_flat.specs.declared.code.Part.{Part as AnyPart};
+ghost use Rattle.fws_net.specs.declared.site.Site.{Site};
 ghost use Rattle.fws_net.specs.Conditions.{holds};
 ghost use Rattle.fws_net.specs.Points.{tops_of};
 ghost use Rattle.fws_scene.specs.Areas.{IsOfSite};
 ghost use Rattle.fws_scene.specs.Scenes.{view_of};
 ghost use Rattle.fws_tree.specs.Marks.{mark_at};
+ghost use Rattle.fws_exec.specs.Divided.{held, seen_at};
+ghost use Rattle.fws_exec.specs.Goings.{label_of};
 ghost use Rattle.fws_exec.specs.Grounds.{IsGround};
-ghost use Rattle.fws_exec.specs.Moving.{boxed, picked};
+ghost use Rattle.fws_exec.specs.Runs.{boxed, picked};
 
 use crate::errand::Ground;
+use crate::going::label_of;
+use crate::progress::Progress;
 use fws_box::PBox;
-use fws_flat::Ins;
+use fws_flat::{Ins, Part};
+use fws_net::Cond;
 use fws_num::Memory;
 use fws_scene::{Scene, where_holds};
 use fws_tree::Mark;
 use std::alloc::Global;
 
 /// Puts the label behind the marks, for the points of the boxes.
-pub(crate) fn put_boxes<'b>(
-    marks: &mut Vec<Mark<'b>>,
-    boxes: &[PBox<'b>],
-    label: u32,
-) -> Result<(), Memory>
+fn put_boxes<'b>(marks: &mut Vec<Mark<'b>>, boxes: &[PBox<'b>], label: u32) -> Result<(), Memory>
     requires { 1 ≤ label }
     ensures { OnOk result ((rest : ℕ) (p : List ℕ) → mark_at marks.new.items rest p ≡ mark_at marks.old.items (boxed boxes.now label rest p) p) }
 {
@@ -34,55 +37,99 @@ pub(crate) fn put_boxes<'b>(
     Ok(())
 }
 
-/// Puts marks behind the others for the points of the area where an instruction's condition holds, as rules see them
-/// in the scene, with the label of the class with this number.
-fn put_ins<'b>(
+/// Puts marks behind the others for the points of the area where the condition holds, as rules see them in the scene, with
+/// the label.
+fn put_cond<'b>(
     alloc: Global,
     ground: &Ground<'_, 'b>,
     area: &PBox<'b>,
     scene: &Scene,
-    ins: &Ins,
-    number: u32,
+    cond: &Cond,
+    label: u32,
     marks: &mut Vec<Mark<'b>>,
 ) -> Result<(), Memory>
     requires ground { IsGround ground.now }
     requires area { IsOfSite ground.now.site.now (sides_of area.now) }
-    ensures { OnOk result ((rest : ℕ) (p : List ℕ) → IsWithin (tops_of ground.now.site.now) p → mark_at marks.new.items rest p ≡ mark_at marks.old.items (if sides_have (sides_of area.now) p && holds ins.now.cond (view_of ground.now.site.now scene.now p) then number + 1 else rest) p) }
+    requires label { 1 ≤ label }
+    ensures { OnOk result ((rest : ℕ) (p : List ℕ) → IsWithin (tops_of ground.now.site.now) p → mark_at marks.new.items rest p ≡ mark_at marks.old.items (if sides_have (sides_of area.now) p && holds cond.now (view_of ground.now.site.now scene.now p) then label else rest) p) }
 {
-    let Some(label) = number.checked_add(1) else {
-        return Err(Memory);
-    };
     let boxes = where_holds(
         alloc,
         ground.bump,
         ground.site,
         ground.ways,
         scene,
-        &ins.cond,
+        cond,
         area,
     )?;
     put_boxes(marks, boxes.as_slice(), label)?;
     Ok(())
 }
 
-/// Marks with the labels of the classes with these numbers, for the points of the area that the instructions send there.
-pub(crate) fn marks_of<'b>(
+/// Marks with label 1 for the points of the area where the condition holds, for a class to which rules did this.
+pub(crate) fn cond_marks<'b>(
+    alloc: Global,
+    ground: &Ground<'_, 'b>,
+    area: &PBox<'b>,
+    part: Part,
+    progress: &Progress,
+    cond: &Cond,
+) -> Result<Vec<Mark<'b>>, Memory>
+    requires ground { IsGround ground.now }
+    requires area { IsOfSite ground.now.site.now (sides_of area.now) }
+    ensures { IfOk result (λ marks. (p : List ℕ) → IsWithin (tops_of ground.now.site.now) p → mark_at marks.items 0 p ≡ (if sides_have (sides_of area.now) p then held ground.now.site.now ground.now.state part cond.now progress.now p else 0)) }
+{
+    let scene = progress.scene(alloc, part, ground.state)?;
+    let mut marks = Vec::new(alloc);
+    put_cond(alloc, ground, area, &scene, cond, 1, &mut marks)?;
+    Ok(marks)
+}
+
+/// Puts marks behind the others for the points of the area where the condition of an instruction holds, for a class to which
+/// rules did this, with the label of where it sends them in a run that begins at the place.
+fn put_ins<'b>(
     alloc: Global,
     ground: &Ground<'_, 'b>,
     area: &PBox<'b>,
     scene: &Scene,
+    progress: &Progress,
+    ins: &Ins,
+    place: u32,
+    marks: &mut Vec<Mark<'b>>,
+) -> Result<(), Memory>
+    requires ground { IsGround ground.now }
+    requires area { IsOfSite ground.now.site.now (sides_of area.now) }
+    ensures { OnOk result ((part : AnyPart) → ((site : Site) (p : List ℕ) → view_of site scene.now p ≡ seen_at site ground.now.state part progress.now p) → (rest : ℕ) (p : List ℕ) → IsWithin (tops_of ground.now.site.now) p → mark_at marks.new.items rest p ≡ mark_at marks.old.items (if sides_have (sides_of area.now) p && holds ins.now.cond (seen_at ground.now.site.now ground.now.state part progress.now p) then label_of place ins.now.act else rest) p) }
+{
+    if progress.fails(&ins.cond) {
+        return Ok(());
+    }
+    let label = label_of(place, ins.act)?;
+    put_cond(alloc, ground, area, scene, &ins.cond, label, marks)?;
+    Ok(())
+}
+
+/// Marks for the points of the area, for a class to which rules did this, with the labels of where the instructions of a run
+/// send them that begins at the place.
+pub(crate) fn run_marks<'b>(
+    alloc: Global,
+    ground: &Ground<'_, 'b>,
+    area: &PBox<'b>,
+    part: Part,
+    progress: &Progress,
     code: &[Ins],
-    numbers: &[u32],
+    place: u32,
 ) -> Result<Vec<Mark<'b>>, Memory>
     requires ground { IsGround ground.now }
     requires area { IsOfSite ground.now.site.now (sides_of area.now) }
-    requires long { length numbers.now ≡ length code.now }
-    ensures { IfOk result (λ marks. (rest : ℕ) (p : List ℕ) → IsWithin (tops_of ground.now.site.now) p → mark_at marks.items rest p ≡ (if sides_have (sides_of area.now) p then picked (view_of ground.now.site.now scene.now p) code.now numbers.now rest else rest)) }
+    ensures { IfOk result (λ marks. (p : List ℕ) → IsWithin (tops_of ground.now.site.now) p → mark_at marks.items 0 p ≡ (if sides_have (sides_of area.now) p then picked place (seen_at ground.now.site.now ground.now.state part progress.now p) code.now else 0)) }
 {
+    let scene = progress.scene(alloc, part, ground.state)?;
     let mut marks = Vec::new(alloc);
-    for k in 0..code.len() {
-        let number = numbers[k];
-        put_ins(alloc, ground, area, scene, &code[k], number, &mut marks)?;
+    for ins in code {
+        put_ins(
+            alloc, ground, area, &scene, progress, ins, place, &mut marks,
+        )?;
     }
     Ok(marks)
 }

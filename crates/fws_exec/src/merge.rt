@@ -1,131 +1,145 @@
 //! How equal classes become one.
 
-ghost use Rattle.std.specs.Prelude.{◌≡◌, ◌≢◌, ◌<◌, ◌≤◌, nat_eq, ℕ, Bool, List, true, false, Some, if◌then◌else◌, length, slice_get, OnOk};
-ghost use Rattle.fws_box.specs.Sides.{IsWithin};
-ghost use Rattle.fws_exec.specs.declared.spot.Class.{Class as AnyClass};
+ghost use Rattle.std.specs.Prelude.{◌≡◌, ℕ, Bool, true, false, OnOk};
 ghost use Rattle.fws_exec.specs.declared.spot.Spot.{Spot as AnySpot};
 ghost use Rattle.fws_exec.specs.declared.spot.Spot.TheVariants.{Unused};
-ghost use Rattle.fws_exec.specs.Sheets.{tops_in, class_at, IsSheet, IsUsed, KeepsFutures, NoneComes};
+ghost use Rattle.fws_exec.specs.Joined.{is_joined, AreReleased};
+ghost use Rattle.fws_exec.specs.Sheets.{tops_in, IsFree, IsSheet, KeepsFutures, NoneComes};
 
-use crate::progress::Progress;
+use crate::called::{bits_of, have_bits};
+use crate::joining::{Joining, has_twin};
+use crate::key::Key;
+use crate::roll::Roll;
 use crate::sheet::Sheet;
 use crate::spot::Spot;
-use fws_net::Rewrite;
 use fws_num::Memory;
 use std::alloc::Global;
 use std::collections::HashMap;
 
-/// What equal progresses have in common, and others mostly not.
-#[derive(Clone, Copy, PartialEq, Eq, Hash)]
-struct Key {
-    wrote: Rewrite,
-    src_tracked: bool,
-    dst_tracked: bool,
-    verdict: bool,
-    tags: u64,
-}
-
-/// A number that is the same for equal tags, and mostly another for others.
-fn digest(tags: &[u32]) -> u64 {
-    let mut sum: u64 = 0;
-    for tag in tags {
-        sum = (sum.rotate_left(5) ^ u64::from(*tag)).wrapping_mul(0x517c_c1b7_2722_0a95);
+/// For each of so many classes its own number, as long as it has no twin.
+fn own_numbers(alloc: Global, count: u32) -> Result<Vec<u32>, Memory> {
+    let mut twins = Vec::new(alloc);
+    for number in 0..count {
+        twins.push(number)?;
     }
-    sum
+    Ok(twins)
 }
 
-impl Key {
-    fn of(progress: &Progress) -> Key {
-        Key {
-            wrote: progress.wrote,
-            src_tracked: progress.src_tracked,
-            dst_tracked: progress.dst_tracked,
-            verdict: progress.verdict,
-            tags: digest(progress.tags.as_slice()),
+/// Notes that the class with this number has a twin.
+fn note(twins: &mut Vec<u32>, number: u32, twin: u32) {
+    if (number as usize) < twins.len() {
+        twins[number as usize] = twin;
+    }
+}
+
+impl Roll {
+    /// Puts the class with this number behind those that have a twin, if an earlier one has the same key. Else it is found by
+    /// its key from now on.
+    fn note_class(
+        &self,
+        number: u32,
+        first: &mut HashMap<Key, u32>,
+        twins: &mut Vec<u32>,
+        joined: &mut Vec<u32>,
+    ) -> Result<(), Memory> {
+        let class = self.used(number)?;
+        let key = Key::of(class.spot, &class.progress);
+        if let Some(twin) = first.get(&key) {
+            let twin = *twin;
+            if self.are_twins(twin, number) {
+                note(twins, number, twin);
+                joined.push(number)?;
+            }
+            return Ok(());
         }
+        first.insert(key, number)?;
+        Ok(())
+    }
+
+    /// Notes the twins of these classes, and which of them have one.
+    fn note_classes(
+        &self,
+        alloc: Global,
+        numbers: &[u32],
+        twins: &mut Vec<u32>,
+        joined: &mut Vec<u32>,
+    ) -> Result<(), Memory> {
+        let mut first = HashMap::new(alloc);
+        for number in numbers {
+            self.note_class(*number, &mut first, twins, joined)?;
+        }
+        Ok(())
+    }
+
+    /// Lets the numbers be given again of those classes that have become their twins. An error is want of memory, and a class
+    /// that has none.
+    fn release_all(&mut self, alloc: Global, twins: &[u32], joined: &[u32]) -> Result<(), Memory>
+        ensures released { OnOk result (AreReleased (is_joined twins.now joined.now) self.old.classes.items self.new.classes.items) }
+    {
+        for number in joined {
+            if !has_twin(twins, *number) || (*number as usize) >= self.classes.len() {
+                return Err(Memory);
+            }
+            self.release(alloc, *number)?;
+        }
+        Ok(())
     }
 }
 
 impl Sheet {
-    /// All points of one class become those of another, which is used.
-    fn move_all(&mut self, alloc: Global, from: u32, to: u32) -> Result<(), Memory>
-        requires sheet { IsSheet self.old }
-        requires to { (c : AnyClass) × IsUsed self.old.classes.items to c }
+    /// The classes that have a twin become it. An error is want of memory, and a twin that isn't one.
+    fn join_all(&mut self, alloc: Global, twins: &[u32], joined: &[u32]) -> Result<(), Memory>
+        requires { IsSheet self.old }
         ensures sheet { OnOk result (IsSheet self.new) }
-        ensures moved { OnOk result ((p : List ℕ) → IsWithin (tops_in self.old) p → class_at self.new p ≡ (if nat_eq (class_at self.old p) from then to else class_at self.old p)) }
+        ensures kept { OnOk result (KeepsFutures self.old self.new) }
+        ensures free { OnOk result ((n : ℕ) → is_joined twins.now joined.now n ≡ true → IsFree self.new n) }
+        ensures roll { self.new.roll ≡ self.old.roll }
         ensures tops { tops_in self.new ≡ tops_in self.old }
-        ensures classes { self.new.classes ≡ self.old.classes }
     {
-        let Some(label) = to.checked_add(1) else {
+        let wanted = bits_of(self.canvas.values(), joined);
+        if !have_bits(self.canvas.values(), joined, wanted) {
             return Err(Memory);
+        }
+        let mut joining = Joining {
+            roll: &self.roll,
+            twins,
         };
-        self.move_by(alloc, from, &[], label)?;
+        self.canvas.recolour(alloc, &[], 1, wanted, &mut joining)?;
         Ok(())
     }
 
-    /// Whether the class with the first number is used, is another than that with the second one, and equal to it.
-    fn is_twin(&self, twin: u32, number: u32) -> bool
-        requires { number < length self.now.classes.items }
-        ensures other { result ≡ true → twin ≢ number }
-        ensures equal { result ≡ true → slice_get self.now.classes.items twin ≡ slice_get self.now.classes.items number }
-        ensures used { result ≡ true → (c : AnyClass) × IsUsed self.now.classes.items twin c }
-    {
-        let class = &self.classes[number as usize];
-        if class.spot.is_unused() || twin == number {
-            return false;
-        }
-        match self.classes.get(twin as usize) {
-            Some(twin) => twin.is(class.spot, &class.progress),
-            None => false,
-        }
-    }
-
-    /// The class with this number becomes its twin, if that is one.
-    fn join(&mut self, alloc: Global, number: u32, twin: u32) -> Result<(), Memory>
-        requires sheet { IsSheet self.old }
-        requires number { number < length self.old.classes.items }
+    /// The classes that have a twin become it, and their numbers may be given again.
+    fn join(&mut self, alloc: Global, twins: &[u32], joined: &[u32]) -> Result<(), Memory>
+        requires { IsSheet self.old }
         ensures sheet { OnOk result (IsSheet self.new) }
         ensures kept { OnOk result (KeepsFutures self.old self.new) }
-        ensures spots { OnOk result ((test : AnySpot → Bool) → test Unused ≡ false → NoneComes test self.old.classes.items self.new.classes.items) }
+        ensures spots { OnOk result ((test : AnySpot → Bool) → test Unused ≡ false → NoneComes test self.old.roll.classes.items self.new.roll.classes.items) }
         ensures tops { tops_in self.new ≡ tops_in self.old }
-        ensures count { length self.new.classes.items ≡ length self.old.classes.items }
     {
-        if !self.is_twin(twin, number) {
+        if joined.is_empty() {
             return Ok(());
         }
-        self.move_all(alloc, number, twin)?;
-        self.release(alloc, number)?;
+        self.join_all(alloc, twins, joined)?;
+        self.roll.release_all(alloc, twins, joined)?;
         Ok(())
     }
 
-    /// The class with this number, if it stands at the spot, becomes one that stands there with the same key; else it
-    /// is found by its key from now on.
-    fn merge_class(
-        &mut self,
-        alloc: Global,
-        number: u32,
-        spot: Spot,
-        found: &mut HashMap<Key, u32>,
-    ) -> Result<(), Memory>
-        requires sheet { IsSheet self.old }
-        requires number { number < length self.old.classes.items }
+    /// Equal ones of the classes with these numbers become one.
+    pub(crate) fn merge_these(&mut self, alloc: Global, numbers: &[u32]) -> Result<(), Memory>
+        requires { IsSheet self.old }
         ensures sheet { OnOk result (IsSheet self.new) }
         ensures kept { OnOk result (KeepsFutures self.old self.new) }
-        ensures spots { OnOk result ((test : AnySpot → Bool) → test Unused ≡ false → NoneComes test self.old.classes.items self.new.classes.items) }
+        ensures spots { OnOk result ((test : AnySpot → Bool) → test Unused ≡ false → NoneComes test self.old.roll.classes.items self.new.roll.classes.items) }
         ensures tops { tops_in self.new ≡ tops_in self.old }
-        ensures count { length self.new.classes.items ≡ length self.old.classes.items }
     {
-        let class = &self.classes[number as usize];
-        if !class.spot.same(spot) {
+        if numbers.len() < 2 {
             return Ok(());
         }
-        let key = Key::of(&class.progress);
-        if let Some(twin) = found.get(&key) {
-            let twin = *twin;
-            self.join(alloc, number, twin)?;
-            return Ok(());
-        }
-        found.insert(key, number)?;
+        let mut twins = own_numbers(alloc, self.roll.count()?)?;
+        let mut joined = Vec::new(alloc);
+        self.roll
+            .note_classes(alloc, numbers, &mut twins, &mut joined)?;
+        self.join(alloc, twins.as_slice(), joined.as_slice())?;
         Ok(())
     }
 
@@ -134,17 +148,11 @@ impl Sheet {
         requires { IsSheet self.old }
         ensures sheet { OnOk result (IsSheet self.new) }
         ensures kept { OnOk result (KeepsFutures self.old self.new) }
-        ensures spots { OnOk result ((test : AnySpot → Bool) → test Unused ≡ false → NoneComes test self.old.classes.items self.new.classes.items) }
+        ensures spots { OnOk result ((test : AnySpot → Bool) → test Unused ≡ false → NoneComes test self.old.roll.classes.items self.new.roll.classes.items) }
         ensures tops { tops_in self.new ≡ tops_in self.old }
-        ensures count { length self.new.classes.items ≡ length self.old.classes.items }
     {
-        let Ok(count) = u32::try_from(self.classes.len()) else {
-            return Err(Memory);
-        };
-        let mut found = HashMap::new(alloc);
-        for number in 0..count {
-            self.merge_class(alloc, number, spot, &mut found)?;
-        }
+        let here = self.roll.all_at(alloc, spot)?;
+        self.merge_these(alloc, here.as_slice())?;
         Ok(())
     }
 }

@@ -1,31 +1,50 @@
-//! How the packets of one class become those of others.
+//! How the packets of called classes become those of others.
 
 ghost use Rattle.std.specs.Prelude.{IfOk};
 ghost use Rattle.fws_tree.specs.Building.{Extends};
 
+use crate::going::Going;
+use crate::roll::Roll;
 use fws_num::Memory;
 use fws_tree::{Moves, Values};
+use std::alloc::Global;
+use std::collections::HashSet;
 
-/// The packets of one class become those of the classes that labels name: label 1 names the class with
-/// number 0, and so on.
-#[derive(Clone, Copy)]
-pub(crate) struct Moving {
-    /// The class whose packets move.
-    pub from: u32,
-    /// Whether a point of the class was met.
-    pub met: bool,
+/// The packets of called classes go to those that stand where their labels lead. Such a class is added when it is
+/// needed.
+#[derive(Drop)]
+pub(crate) struct Moving<'a> {
+    /// Memory.
+    pub alloc: Global,
+    /// The classes.
+    pub roll: &'a mut Roll,
+    /// Where packets go.
+    pub going: Going,
+    /// The numbers of the called classes.
+    pub called: &'a HashSet<u32>,
 }
 
-impl Moves for Moving {
-    ghost use Rattle.fws_exec.specs.Moving.{IsMoved};
+impl Moves for Moving<'_> {
+    ghost use Rattle.std.specs.Prelude.{◌≡◌, nat_eq};
+    ghost use Rattle.std.specs.HashSet.{contains};
+    ghost use Rattle.std.proofs.Common.{refl, sym, ◌∙◌, subst};
+    ghost use Rattle.fws_exec.specs.Moving.{IsMoved, IsGrown};
+    ghost use Rattle.fws_exec.specs.MovingLaws.{grown-same, grown-then};
 
-    ghost moves = { λ s x l z. IsMoved s.from s.met x l z };
+    ghost moves = { λ s x l z. IsMoved s.going (contains nat_eq s.called.now) s.roll.now.classes.items x l z };
 
-    fn moved(&mut self, _values: &mut Values, value: u32, label: u32) -> Result<u32, Memory> {
-        if value != self.from {
+    ghost later = { λ s t. (s.going ≡ t.going) × (s.called.now ≡ t.called.now) × IsGrown s.going s.roll.now.classes.items t.roll.now.classes.items × (s.roll.ghost_name ≡ t.roll.ghost_name) };
+
+    fn moved(&mut self, values: &mut Values, value: u32, label: u32) -> Result<u32, Memory> {
+        if !self.called.contains(&value) {
             return Ok(value);
         }
-        self.met = true;
-        Ok(label.saturating_sub(1))
+        let class = self.roll.gone(self.alloc, self.going, value, label)?;
+        let number = self.roll.target(values, class)?;
+        Ok(number)
     }
+
+    ghost same = { λ s. (refl, refl, grown-same s.going s.roll.now.classes.items, refl) };
+
+    ghost then = { λ s t u e f. (e.0 ∙ f.0, e.1 ∙ f.1, grown-then s.going s.roll.now.classes.items t.roll.now.classes.items u.roll.now.classes.items e.2 (subst (λ g. IsGrown g t.roll.now.classes.items u.roll.now.classes.items) (sym e.0) f.2), e.3 ∙ f.3) };
 }

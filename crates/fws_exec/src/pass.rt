@@ -1,21 +1,23 @@
-//! How a class passes instructions of a part.
+//! How classes pass instructions of a part.
 
-ghost use Rattle.std.specs.Prelude.{◌≡◌, ◌≢◌, ◌<◌, ◌≤◌, ◌+◌, ◌^◌, ℕ, true, false, None, Some, [], length, slice_get, IfOk, IfSome, OnOk};
+ghost use Rattle.std.specs.Prelude.{◌≡◌, ◌<◌, ◌≤◌, ◌+◌, ◌^◌, ℕ, true, false, [], length, slice_get, Some, OnOk};
 ghost use Rattle.std.specs.List.{list_all};
-ghost use Rattle.fws_flat.specs.declared.code.FlatAct.TheVariants as acts;
 ghost use Rattle.fws_flat.specs.Soundness.{part_ok};
 ghost use Rattle.fws_net.specs.Points.{tops_of};
-ghost use Rattle.fws_exec.specs.declared.spot.Class.{Class};
+ghost use Rattle.fws_flat.specs.declared.code.Ins.{Ins as AnyIns};
+ghost use Rattle.fws_exec.specs.declared.spot.Spot.TheVariants.{At};
 ghost use Rattle.fws_exec.specs.Classes.{is_before};
-ghost use Rattle.fws_exec.specs.Courses.{Keeps, KeepsAt};
+ghost use Rattle.fws_exec.specs.Courses.{Keeps};
 ghost use Rattle.fws_exec.specs.Grounds.{IsGround};
+ghost use Rattle.fws_exec.specs.Passing.{Passed, IsOnward};
 ghost use Rattle.fws_exec.specs.Runs.{leaves, run_of};
-ghost use Rattle.fws_exec.specs.Sheets.{tops_in, IsSheet, stands, NoneComes};
+ghost use Rattle.fws_exec.specs.Sheets.{among, tops_in, AllAt, IsPut, IsSheet, NoneComes, StandsAt, stands};
+ghost use Rattle.fws_exec.specs.Views.{is_tagless};
 
 use crate::errand::Errand;
-use crate::progress::Progress;
+use crate::going::Going;
 use crate::sheet::Sheet;
-use crate::spot::Spot;
+use crate::spot::{Class, Spot};
 use fws_flat::Ins;
 use fws_net::Cond;
 use fws_num::Memory;
@@ -28,101 +30,153 @@ fn is_always(cond: &Cond) -> bool
     cond.lits().is_empty()
 }
 
-impl Progress {
-    /// Whether rules wrote no end.
-    fn is_unwritten(&self) -> bool {
-        self.wrote.src.is_none() && self.wrote.dst.is_none()
-    }
-
-    /// Whether packets to which rules did this, at a place that may be crowded, pass the whole run that ends before
-    /// the place past: it has more instructions than one.
-    fn takes_run(&self, place: u32, past: u32, crowded: bool) -> bool
-        ensures { result ≡ true → place < past }
+impl Errand<'_, '_> {
+    /// Where packets go behind the instruction at the place.
+    fn going(&self, place: u32, ins: &Ins) -> Going
+        ensures { result ≡ Going.Behind self.now.ground.state self.now.stage place ins.now.act }
     {
-        if crowded && !self.is_unwritten() {
-            return false;
-        }
-        past.saturating_sub(place) > 1
+        Going::Behind(self.ground.state, self.stage, place, ins.act)
     }
 }
 
 impl Sheet {
-    /// What rules did to the class with this number, if it stands at this spot.
-    pub(crate) fn standing_at(
-        &self,
-        alloc: Global,
-        number: u32,
-        spot: Spot,
-    ) -> Result<Option<Progress>, Memory>
-        requires { number < length self.now.classes.items }
-        ensures there { IfOk result (λ o. IfSome o (λ g. slice_get self.now.classes.items number ≡ Some (record { spot = spot; progress = g }))) }
-        ensures elsewhere { IfOk result (λ o. o ≡ None → (c : Class) → slice_get self.now.classes.items number ≡ Some c → c.spot ≢ spot) }
-    {
-        let class = &self.classes[number as usize];
-        if !class.spot.same(spot) {
-            return Ok(None);
-        }
-        Ok(Some(class.progress.copy(alloc)?))
-    }
-
-    /// The class with this number, which stands at this place and to which rules did this, passes the instruction
-    /// there.
-    fn pass_one(
+    /// The classes with these numbers, which stand at one place, meet the instruction at this place of the part, which isn't
+    /// before that: their points go where it acts, and the others stay.
+    pub(crate) fn meet_ins(
         &mut self,
         alloc: Global,
         errand: &Errand<'_, '_>,
-        number: u32,
-        progress: Progress,
-        place: u32,
-        ins: &Ins,
+        numbers: &[u32],
+        at: u32,
     ) -> Result<(), Memory>
         requires sheet { IsSheet self.old }
         requires ground { IsGround errand.now.ground }
         requires tops { tops_in self.old ≡ tops_of errand.now.ground.site.now }
-        requires there { slice_get self.old.classes.items number ≡ Some (record { spot = Spot.At place; progress = progress }) }
-        requires room { place + 1 < 2 ^ 32 }
-        requires forward { (to : ℕ) → ins.now.act ≡ acts.Jump to → place < to }
+        requires part { part_ok errand.now.code.now errand.now.part ≡ true }
+        requires low { errand.now.part.first ≤ at }
+        requires high { at < errand.now.part.past }
+        requires here { (place : ℕ) × (place ≤ at) × AllAt (At place) self.old.roll.classes.items (among numbers.now) }
         ensures sheet { OnOk result (IsSheet self.new) }
-        ensures kept { OnOk result (KeepsAt errand.now place ins.now self.old self.new) }
-        ensures passed { OnOk result (stands (is_before (place + 1)) self.new.classes.items number ≡ false) }
-        ensures spots { OnOk result ((q : ℕ) → q ≤ place + 1 → NoneComes (is_before q) self.old.classes.items self.new.classes.items) }
+        ensures passed { OnOk result (Passed errand.now (among numbers.now) at (at + 1) self.old self.new) }
+        ensures onward { OnOk result (IsOnward at self.old.roll.classes.items self.new.roll.classes.items) }
         ensures tops { tops_in self.new ≡ tops_in self.old }
-        ensures count { OnOk result (length self.old.classes.items ≤ length self.new.classes.items) }
     {
-        let state = errand.ground.state;
-        let hit = progress
-            .copy(alloc)?
-            .behind(alloc, state, errand.stage, place, ins.act)?;
-        if is_always(&ins.cond) {
-            self.arrive(hit.spot);
-            self.put(number, hit);
-            return Ok(());
-        }
-        let scene = progress.scene(alloc, errand.part, state)?;
-        let missed = progress.standing(Spot::At(place + 1));
-        self.split(
+        let ins = &errand.code[at as usize];
+        let going = errand.going(at, ins);
+        self.divide_all(
             alloc,
             &errand.ground,
-            &scene,
+            errand.part,
             &ins.cond,
-            number,
-            hit,
-            missed,
+            numbers,
+            going,
         )?;
         Ok(())
     }
 
-    /// The class with this number, if it stands at this place, passes the instruction there, or the whole run that
-    /// ends before the place past. In a crowd, classes with written ends pass one instruction alone: most conditions
-    /// are decided for them.
-    pub(crate) fn pass(
+    /// The classes with these numbers, which stand at the place, pass the instruction there.
+    fn pass_ins(
+        &mut self,
+        alloc: Global,
+        errand: &Errand<'_, '_>,
+        numbers: &[u32],
+        place: u32,
+    ) -> Result<(), Memory>
+        requires sheet { IsSheet self.old }
+        requires ground { IsGround errand.now.ground }
+        requires tops { tops_in self.old ≡ tops_of errand.now.ground.site.now }
+        requires part { part_ok errand.now.code.now errand.now.part ≡ true }
+        requires low { errand.now.part.first ≤ place }
+        requires high { place < errand.now.part.past }
+        requires room { place + 1 < 2 ^ 32 }
+        requires here { AllAt (At place) self.old.roll.classes.items (among numbers.now) }
+        requires all { (n : ℕ) → StandsAt (At place) self.old.roll.classes.items n → among numbers.now n ≡ true }
+        requires at { (n : ℕ) → stands (is_before place) self.old.roll.classes.items n ≡ false }
+        ensures sheet { OnOk result (IsSheet self.new) }
+        ensures kept { OnOk result (Keeps errand.now self.old self.new) }
+        ensures passed { OnOk result ((n : ℕ) → stands (is_before (place + 1)) self.new.roll.classes.items n ≡ false) }
+        ensures tops { tops_in self.new ≡ tops_in self.old }
+    {
+        self.meet_ins(alloc, errand, numbers, place)?;
+        self.roll.send_all(numbers, Spot::At(place + 1));
+        Ok(())
+    }
+
+    /// The class goes to the place of the one with this number.
+    fn put(&mut self, number: u32, class: Class)
+        requires { number < length self.old.roll.classes.items }
+        ensures put { IsPut number class self.old.roll.classes.items self.new.roll.classes.items }
+        ensures same { self.new.canvas ≡ self.old.canvas }
+    {
+        self.roll.arrive(class.spot);
+        self.roll.classes[number as usize] = class;
+    }
+
+    /// The class with this number, if it stands at the place, passes the instruction there as a whole.
+    fn pass_whole(
         &mut self,
         alloc: Global,
         errand: &Errand<'_, '_>,
         number: u32,
         place: u32,
+    ) -> Result<(), Memory>
+        requires sheet { IsSheet self.old }
+        requires part { part_ok errand.now.code.now errand.now.part ≡ true }
+        requires tops { tops_in self.old ≡ tops_of errand.now.ground.site.now }
+        requires low { errand.now.part.first ≤ place }
+        requires high { place < errand.now.part.past }
+        requires always { (ins : AnyIns) → slice_get errand.now.code.now place ≡ Some ins → ins.cond ≡ [] }
+        ensures sheet { OnOk result (IsSheet self.new) }
+        ensures kept { OnOk result (Keeps errand.now self.old self.new) }
+        ensures passed { OnOk result (stands (is_before place) self.old.roll.classes.items number ≡ false → stands (is_before (place + 1)) self.new.roll.classes.items number ≡ false) }
+        ensures spots { OnOk result ((q : ℕ) → q ≤ place + 1 → NoneComes (is_before q) self.old.roll.classes.items self.new.roll.classes.items) }
+        ensures tops { tops_in self.new ≡ tops_in self.old }
+    {
+        if !self.roll.stands(number, Spot::At(place)) {
+            return Ok(());
+        }
+        let ins = &errand.code[place as usize];
+        let class = self.roll.gone(alloc, errand.going(place, ins), number, 1)?;
+        self.put(number, class);
+        Ok(())
+    }
+
+    /// The classes with these numbers, which stand at the place, pass the instruction there as a whole.
+    fn pass_always(
+        &mut self,
+        alloc: Global,
+        errand: &Errand<'_, '_>,
+        numbers: &[u32],
+        place: u32,
+    ) -> Result<(), Memory>
+        requires sheet { IsSheet self.old }
+        requires part { part_ok errand.now.code.now errand.now.part ≡ true }
+        requires tops { tops_in self.old ≡ tops_of errand.now.ground.site.now }
+        requires low { errand.now.part.first ≤ place }
+        requires high { place < errand.now.part.past }
+        requires always { (ins : AnyIns) → slice_get errand.now.code.now place ≡ Some ins → ins.cond ≡ [] }
+        requires all { (n : ℕ) → StandsAt (At place) self.old.roll.classes.items n → among numbers.now n ≡ true }
+        requires at { (n : ℕ) → stands (is_before place) self.old.roll.classes.items n ≡ false }
+        ensures sheet { OnOk result (IsSheet self.new) }
+        ensures kept { OnOk result (Keeps errand.now self.old self.new) }
+        ensures passed { OnOk result ((n : ℕ) → stands (is_before (place + 1)) self.new.roll.classes.items n ≡ false) }
+        ensures tops { tops_in self.new ≡ tops_in self.old }
+    {
+        for number in numbers {
+            self.pass_whole(alloc, errand, *number, place)?;
+        }
+        Ok(())
+    }
+
+    /// The classes with these numbers, which are those that stand at the place, pass the instruction there, or the run that
+    /// ends before the place past.
+    pub(crate) fn pass(
+        &mut self,
+        alloc: Global,
+        errand: &Errand<'_, '_>,
+        numbers: &[u32],
+        place: u32,
         past: u32,
-        crowded: bool,
     ) -> Result<(), Memory>
         requires sheet { IsSheet self.old }
         requires ground { IsGround errand.now.ground }
@@ -132,24 +186,25 @@ impl Sheet {
         requires high { place < errand.now.part.past }
         requires within { past ≤ errand.now.part.past }
         requires leaves { list_all (λ ins. leaves past ins.act) (run_of errand.now.code.now place past) ≡ true }
+        requires tagless { list_all (λ ins. is_tagless ins.cond) (run_of errand.now.code.now place past) ≡ true }
         requires room { place + 1 < 2 ^ 32 }
-        requires number { number < length self.old.classes.items }
+        requires here { AllAt (At place) self.old.roll.classes.items (among numbers.now) }
+        requires all { (n : ℕ) → StandsAt (At place) self.old.roll.classes.items n → among numbers.now n ≡ true }
+        requires at { (n : ℕ) → stands (is_before place) self.old.roll.classes.items n ≡ false }
         ensures sheet { OnOk result (IsSheet self.new) }
         ensures kept { OnOk result (Keeps errand.now self.old self.new) }
-        ensures passed { OnOk result (stands (is_before place) self.old.classes.items number ≡ false → stands (is_before (place + 1)) self.new.classes.items number ≡ false) }
-        ensures spots { OnOk result ((q : ℕ) → q ≤ place + 1 → NoneComes (is_before q) self.old.classes.items self.new.classes.items) }
+        ensures passed { OnOk result ((n : ℕ) → stands (is_before (place + 1)) self.new.roll.classes.items n ≡ false) }
         ensures tops { tops_in self.new ≡ tops_in self.old }
-        ensures count { OnOk result (length self.old.classes.items ≤ length self.new.classes.items) }
     {
-        let Some(progress) = self.standing_at(alloc, number, Spot::At(place))? else {
-            return Ok(());
-        };
-        if progress.takes_run(place, past, crowded) {
-            self.pass_run(alloc, errand, number, progress, place, past)?;
+        if is_always(&errand.code[place as usize].cond) {
+            self.pass_always(alloc, errand, numbers, place)?;
             return Ok(());
         }
-        let ins = &errand.code[place as usize];
-        self.pass_one(alloc, errand, number, progress, place, ins)?;
+        if past.saturating_sub(place) > 1 {
+            self.pass_run(alloc, errand, numbers, place, past)?;
+            return Ok(());
+        }
+        self.pass_ins(alloc, errand, numbers, place)?;
         Ok(())
     }
 }

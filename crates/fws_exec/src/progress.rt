@@ -1,6 +1,6 @@
 //! What rules did to the packets of a class.
 
-ghost use Rattle.std.specs.Prelude.{◌≡◌, ℕ, List, true, false, None, Some, [], not, nat_eq, IfOk};
+ghost use Rattle.std.specs.Prelude.{◌≡◌, ℕ, List, true, false, None, Some, not, nat_eq, IfOk};
 ghost use Rattle.std.specs.List.{filter, list_any};
 ghost use Rattle.fws_net.specs.declared.site.Site.{Site};
 ghost use Rattle.fws_net.specs.Points.{packet_of};
@@ -83,6 +83,13 @@ impl Progress {
             tags: Items::new(alloc),
             verdict: true,
         }
+    }
+
+    /// Whether the packets have the tag.
+    pub(crate) fn has_tag(&self, tag: u32) -> bool
+        ensures { result ≡ list_any (nat_eq tag) self.now.tags }
+    {
+        has_tag(self.tags.as_slice(), tag)
     }
 
     /// An equal value.

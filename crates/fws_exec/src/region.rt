@@ -1,6 +1,6 @@
 //! Where the points of a class lie.
 
-ghost use Rattle.std.specs.Prelude.{◌≡◌, ◌<◌, ℕ, List, true, length, IfOk};
+ghost use Rattle.std.specs.Prelude.{◌≡◌, ℕ, List, true, length, IfOk};
 ghost use Rattle.fws_iv.specs.Ivs.{has};
 ghost use Rattle.fws_box.specs.Boxes.{sides_of};
 ghost use Rattle.fws_box.specs.Fields.{value_of};
@@ -12,21 +12,13 @@ ghost use Rattle.fws_exec.specs.Sheets.{tops_in, class_at, IsSheet};
 
 use crate::errand::Ground;
 use crate::sheet::Sheet;
+use crate::views::is_of_network;
 use bumpalo::Bump;
 use fws_box::{Field, PBox, narrow};
 use fws_iv::{Ivs, one};
-use fws_net::End;
+use fws_net::{End, Rewrite};
 use fws_num::Memory;
 use std::alloc::Global;
-
-/// Whether the end is that of a network: its later bits are kept, so that a set of addresses under it is one of each
-/// network of its length.
-fn is_of_network(end: Option<End>) -> bool {
-    match end {
-        Some(end) => end.len < 32,
-        None => false,
-    }
-}
 
 /// The part of the area in which the field has values of the set; where there is none, one in which it has the value 0.
 fn part_of<'b>(
@@ -66,7 +58,7 @@ impl Sheet {
         ensures covers { IfOk result (λ part. (p : List ℕ) → length p ≡ 12 → IsWithin (tops_in self.old) p → class_at self.old p ≡ number → sides_have (sides_of area.now) p ≡ true → sides_have (sides_of part) p ≡ true) }
         ensures tops { tops_in self.new ≡ tops_in self.old }
         ensures same { (p : List ℕ) → class_at self.new p ≡ class_at self.old p }
-        ensures classes { self.new.classes ≡ self.old.classes }
+        ensures roll { self.new.roll ≡ self.old.roll }
     {
         if !is_of_network(end) {
             return Ok(*area);
@@ -76,26 +68,25 @@ impl Sheet {
         Ok(part)
     }
 
-    /// An area with the points of the class with this number, in which sets of addresses under the ends that rules wrote
-    /// have few parts.
+    /// An area with the points of the class with this number, over which these ends are written: sets of addresses under the
+    /// ends of networks have few parts in it.
     pub(crate) fn region<'b>(
         &mut self,
         alloc: Global,
         ground: &Ground<'_, 'b>,
         number: u32,
+        wrote: Rewrite,
     ) -> Result<PBox<'b>, Memory>
         requires sheet { IsSheet self.old }
         requires ground { IsGround ground.now }
         requires tops { tops_in self.old ≡ tops_of ground.now.site.now }
-        requires number { number < length self.old.classes.items }
         ensures sheet { IsSheet self.new }
         ensures within { IfOk result (λ area. IsOfSite ground.now.site.now (sides_of area)) }
         ensures covers { IfOk result (λ area. (p : List ℕ) → IsWithin (tops_of ground.now.site.now) p → class_at self.old p ≡ number → sides_have (sides_of area) p ≡ true) }
         ensures tops { tops_in self.new ≡ tops_in self.old }
         ensures same { (p : List ℕ) → class_at self.new p ≡ class_at self.old p }
-        ensures classes { self.new.classes ≡ self.old.classes }
+        ensures roll { self.new.roll ≡ self.old.roll }
     {
-        let wrote = self.classes[number as usize].progress.wrote;
         let area = self.narrowed(
             alloc,
             ground.bump,

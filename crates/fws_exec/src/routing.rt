@@ -1,6 +1,6 @@
 //! How packets come in and are routed.
 
-ghost use Rattle.std.specs.Prelude.{◌≡◌, ◌≢◌, ◌<◌, ◌≤◌, ◌^◌, nat_eq, ℕ, List, [], ◌∷◌, true, false, None, if◌then◌else◌, length, MatchOption, IfOk, OnOk};
+ghost use Rattle.std.specs.Prelude.{◌≡◌, ◌<◌, ◌^◌, nat_eq, ℕ, List, true, false, if◌then◌else◌, MatchOption, IfOk, OnOk};
 ghost use Rattle.fws_box.specs.Sides.{IsWithin};
 ghost use Rattle.fws_net.specs.declared.transit.Transit.{Transit};
 ghost use Rattle.fws_net.specs.declared.outcome.Outcome.{Outcome};
@@ -11,19 +11,19 @@ ghost use Rattle.fws_net.specs.Points.{packet_of, tops_of};
 ghost use Rattle.fws_net.specs.Routes.{IsSound, is_local};
 ghost use Rattle.fws_net.specs.Transits.{entered};
 ghost use Rattle.fws_scene.specs.Ways.{AreWaysOf};
-ghost use Rattle.fws_exec.specs.declared.spot.Class.{Class as AnyClass};
 ghost use Rattle.fws_exec.specs.declared.spot.Stage.{Stage as AnyStage};
 ghost use Rattle.fws_exec.specs.declared.spot.Stage.TheVariants.{Arrive, Send};
-ghost use Rattle.fws_exec.specs.declared.spot.Spot.{Spot as AnySpot};
 ghost use Rattle.fws_exec.specs.declared.spot.Spot.TheVariants.{Before};
-ghost use Rattle.fws_exec.specs.Classes.{transit_of, future, is_inside, is_at_stage};
+ghost use Rattle.fws_exec.specs.Classes.{future, is_inside};
 ghost use Rattle.fws_exec.specs.Grounds.{IsGround};
-ghost use Rattle.fws_exec.specs.Sheets.{tops_in, class_at, IsSheet, stands, NoneComes};
-ghost use Rattle.fws_exec.specs.Stages.{nowhere, Becomes, through_routing, onward_spot};
+ghost use Rattle.fws_exec.specs.Sheets.{tops_in, class_at, IsSheet, stands};
+ghost use Rattle.fws_exec.specs.Stages.{nowhere, Becomes, IsWhole, through_routing, onward_spot};
 
 use crate::errand::Ground;
+use crate::going::Going;
 use crate::progress::Progress;
-use crate::sheet::{Sheet, bit_of};
+use crate::roll::{Roll, bit_of};
+use crate::sheet::Sheet;
 use crate::spot::{Spot, Stage};
 use fws_flat::Part;
 use fws_iv::one;
@@ -74,34 +74,20 @@ fn onward_spot(forwarding: bool) -> Spot
     }
 }
 
-/// No arrivals at so many places.
-fn no_arrivals(alloc: Global, places: usize) -> Result<Vec<bool>, Memory> {
-    let mut arrivals = Vec::new(alloc);
-    for _ in 0..places {
-        arrivals.push(false)?;
-    }
-    Ok(arrivals)
-}
-
 impl Sheet {
     /// All points of the site in one class, which stands before arrival, with code of so many places.
     fn whole(alloc: Global, site: &Site, places: usize) -> Result<Sheet, Memory>
         requires { IsSound site.now }
         ensures sheet { IfOk result (λ s. IsSheet s) }
         ensures tops { IfOk result (λ s. tops_in s ≡ tops_of site.now) }
-        ensures class { IfOk result (λ s. (c : AnyClass) × (s.classes.items ≡ c ∷ []) × (c.spot ≡ Before Arrive)) }
+        ensures class { IfOk result (λ s. IsWhole s.roll.classes.items) }
         ensures value { IfOk result (λ s. (p : List ℕ) → class_at s p ≡ 0) }
     {
         let mut canvas = Canvas::new(alloc, &tops(site), bit_of(0))?;
         let _next = canvas.add_value(bit_of(1))?;
-        let mut classes = Vec::new(alloc);
-        classes.push(Progress::entered(alloc).standing(Spot::Before(Stage::Arrive)))?;
-        Ok(Sheet {
-            canvas,
-            classes,
-            spares: Vec::new(alloc),
-            arrivals: no_arrivals(alloc, places)?,
-        })
+        let class = Progress::entered(alloc).standing(Spot::Before(Stage::Arrive));
+        let roll = Roll::of_one(alloc, class, places)?;
+        Ok(Sheet { canvas, roll })
     }
 
     /// The points of the one class become those of two, where their packets come in: those of the host stand before they
@@ -110,18 +96,16 @@ impl Sheet {
         requires sheet { IsSheet self.old }
         requires ground { IsGround ground.now }
         requires tops { tops_in self.old ≡ tops_of ground.now.site.now }
-        requires class { (c : AnyClass) × (self.old.classes.items ≡ c ∷ []) × (c.spot ≡ Before Arrive) }
+        requires class { IsWhole self.old.roll.classes.items }
         requires value { (p : List ℕ) → class_at self.old p ≡ 0 }
         ensures sheet { OnOk result (IsSheet self.new) }
         ensures tops { tops_in self.new ≡ tops_in self.old }
-        ensures between { OnOk result ((n : ℕ) → stands is_inside self.new.classes.items n ≡ false) }
-        ensures meant { OnOk result ((next : AnyStage → Transit → Outcome) (p : List ℕ) → IsWithin (tops_of ground.now.site.now) p → future nowhere next self.new.classes.items (class_at self.new p) p ≡ (if nat_eq (packet_of p).entry 0 then next Send (entered (packet_of p)) else next Arrive (entered (packet_of p)))) }
+        ensures between { OnOk result ((n : ℕ) → stands is_inside self.new.roll.classes.items n ≡ false) }
+        ensures meant { OnOk result ((next : AnyStage → Transit → Outcome) (p : List ℕ) → IsWithin (tops_of ground.now.site.now) p → future nowhere next self.new.roll.classes.items (class_at self.new p) p ≡ (if nat_eq (packet_of p).entry 0 then next Send (entered (packet_of p)) else next Arrive (entered (packet_of p)))) }
     {
-        let scene = Progress::entered(alloc).scene(alloc, BETWEEN, ground.state)?;
         let cond = from_none(alloc)?;
-        let sent = Progress::entered(alloc).standing(Spot::Before(Stage::Send));
-        let arriving = Progress::entered(alloc).standing(Spot::Before(Stage::Arrive));
-        self.split(alloc, ground, &scene, &cond, 0, sent, arriving)?;
+        let going = Going::To(Spot::Before(Stage::Send));
+        self.divide_all(alloc, ground, BETWEEN, &cond, &[0], going)?;
         Ok(())
     }
 
@@ -135,45 +119,12 @@ impl Sheet {
         requires { IsGround ground.now }
         ensures sheet { IfOk result (λ s. IsSheet s) }
         ensures tops { IfOk result (λ s. tops_in s ≡ tops_of ground.now.site.now) }
-        ensures between { IfOk result (λ s. (n : ℕ) → stands is_inside s.classes.items n ≡ false) }
-        ensures meant { IfOk result (λ s. (next : AnyStage → Transit → Outcome) (p : List ℕ) → IsWithin (tops_of ground.now.site.now) p → future nowhere next s.classes.items (class_at s p) p ≡ (if nat_eq (packet_of p).entry 0 then next Send (entered (packet_of p)) else next Arrive (entered (packet_of p)))) }
+        ensures between { IfOk result (λ s. (n : ℕ) → stands is_inside s.roll.classes.items n ≡ false) }
+        ensures meant { IfOk result (λ s. (next : AnyStage → Transit → Outcome) (p : List ℕ) → IsWithin (tops_of ground.now.site.now) p → future nowhere next s.roll.classes.items (class_at s p) p ≡ (if nat_eq (packet_of p).entry 0 then next Send (entered (packet_of p)) else next Arrive (entered (packet_of p)))) }
     {
         let mut sheet = Sheet::whole(alloc, ground.site, places)?;
         sheet.divide_entered(alloc, ground)?;
         Ok(sheet)
-    }
-
-    /// The class with this number is routed, if it stands before routing: local destinations are those of
-    /// the condition.
-    fn route_class(
-        &mut self,
-        alloc: Global,
-        ground: &Ground<'_, '_>,
-        cond: &Cond,
-        number: u32,
-    ) -> Result<(), Memory>
-        requires sheet { IsSheet self.old }
-        requires ground { IsGround ground.now }
-        requires tops { tops_in self.old ≡ tops_of ground.now.site.now }
-        requires number { number < length self.old.classes.items }
-        requires cond { (v : View) → holds cond.now v ≡ is_local ground.now.site.now v.packet.dst }
-        ensures sheet { OnOk result (IsSheet self.new) }
-        ensures meant { OnOk result ((next : AnyStage → Transit → Outcome) (p : List ℕ) → IsWithin (tops_of ground.now.site.now) p → future nowhere (through_routing ground.now.site.now next p) self.new.classes.items (class_at self.new p) p ≡ future nowhere (through_routing ground.now.site.now next p) self.old.classes.items (class_at self.old p) p) }
-        ensures routed { OnOk result (stands (is_at_stage Arrive) self.new.classes.items number ≡ false) }
-        ensures arriving { OnOk result (NoneComes (is_at_stage Arrive) self.old.classes.items self.new.classes.items) }
-        ensures between { OnOk result (NoneComes is_inside self.old.classes.items self.new.classes.items) }
-        ensures tops { tops_in self.new ≡ tops_in self.old }
-        ensures count { OnOk result (length self.old.classes.items ≤ length self.new.classes.items) }
-    {
-        let spot = Spot::Before(Stage::Arrive);
-        let Some(progress) = self.standing_at(alloc, number, spot)? else {
-            return Ok(());
-        };
-        let scene = progress.scene(alloc, BETWEEN, ground.state)?;
-        let delivered = progress.copy(alloc)?.standing(Spot::Before(Stage::Deliver));
-        let others = progress.standing(onward_spot(ground.site.forwarding));
-        self.split(alloc, ground, &scene, cond, number, delivered, others)?;
-        Ok(())
     }
 
     /// All classes before routing are routed by their destinations as they stand: local ones are
@@ -182,19 +133,19 @@ impl Sheet {
         requires sheet { IsSheet self.old }
         requires ground { IsGround ground.now }
         requires tops { tops_in self.old ≡ tops_of ground.now.site.now }
-        requires between { (n : ℕ) → stands is_inside self.old.classes.items n ≡ false }
+        requires between { (n : ℕ) → stands is_inside self.old.roll.classes.items n ≡ false }
         ensures sheet { OnOk result (IsSheet self.new) }
         ensures tops { tops_in self.new ≡ tops_in self.old }
-        ensures between { OnOk result ((n : ℕ) → stands is_inside self.new.classes.items n ≡ false) }
+        ensures between { OnOk result ((n : ℕ) → stands is_inside self.new.roll.classes.items n ≡ false) }
         ensures meant { OnOk result (Becomes ground.now.site.now self.old self.new (through_routing ground.now.site.now)) }
     {
         let cond = to_local(alloc, ground.ways)?;
-        let Ok(count) = u32::try_from(self.classes.len()) else {
-            return Err(Memory);
-        };
-        for number in 0..count {
-            self.route_class(alloc, ground, &cond, number)?;
-        }
+        let spot = Spot::Before(Stage::Arrive);
+        let numbers = self.roll.all_at(alloc, spot)?;
+        let going = Going::To(Spot::Before(Stage::Deliver));
+        self.divide_all(alloc, ground, BETWEEN, &cond, numbers.as_slice(), going)?;
+        let onward = onward_spot(ground.site.forwarding);
+        self.roll.send_all(numbers.as_slice(), onward);
         Ok(())
     }
 }

@@ -1,16 +1,14 @@
 //! Where packets stand on their way.
 
-ghost use Rattle.std.specs.Prelude.{◌≡◌, ◌↔◌, true, IsTrue, IfOk};
-ghost use Rattle.fws_exec.specs.Classes.{same_stage, is_at_stage, is_unused};
+ghost use Rattle.std.specs.Prelude.{◌≡◌, ◌↔◌, ◌≤◌, true, false, IsTrue};
+ghost use Rattle.fws_exec.specs.Classes.{same_stage, same_spot, is_at, is_at_stage, is_before, is_dropped, is_unused};
 
 use crate::progress::Progress;
 use fws_net::Outcome;
-use fws_num::Memory;
 use fws_tree::Leaf;
-use std::alloc::Global;
 
 /// A stage of the way. It ends where the next one begins, or the way does.
-#[derive(Clone, Copy, Debug, PartialEq, Eq)]
+#[derive(Clone, Copy, Debug, PartialEq, Eq, Hash)]
 pub(crate) enum Stage {
     /// What an arriving packet meets before it is routed.
     Arrive,
@@ -23,7 +21,7 @@ pub(crate) enum Stage {
 }
 
 /// Where the packets of a class stand.
-#[derive(Clone, Copy, Debug, PartialEq, Eq)]
+#[derive(Clone, Copy, Debug, PartialEq, Eq, Hash)]
 pub(crate) enum Spot {
     /// There are none: the number of the class can be given again.
     Unused,
@@ -77,6 +75,50 @@ impl Spot {
     {
         self == other
     }
+
+    /// Whether packets of the class are dropped.
+    fn is_dropped(self) -> bool
+        ensures { result ≡ is_dropped self }
+    {
+        match self {
+            Spot::Dropped => true,
+            _ => false,
+        }
+    }
+
+    /// Whether the spot is before the instruction with the place.
+    fn is_at(self, place: u32) -> bool
+        ensures { result ≡ is_at place self }
+    {
+        match self {
+            Spot::At(at) => place == at,
+            _ => false,
+        }
+    }
+
+    /// Whether the other one is this spot.
+    pub(crate) fn is_spot(self, other: Spot) -> bool
+        ensures { result ≡ same_spot self other }
+    {
+        match self {
+            Spot::Unused => other.is_unused(),
+            Spot::Dropped => other.is_dropped(),
+            Spot::At(place) => other.is_at(place),
+            Spot::Before(stage) => other.is_at_stage(stage),
+        }
+    }
+
+    /// The lesser of two places: the one at which it is, if that isn't before this one, and the least so far.
+    pub(crate) fn lesser(self, place: u32, least: u32) -> u32
+        ensures low { place ≤ least → place ≤ result }
+        ensures high { result ≤ least }
+        ensures none { is_before place self ≡ false → is_before result self ≡ false }
+    {
+        match self {
+            Spot::At(at) => { if at < place { least } else { at.min(least) } }
+            _ => least,
+        }
+    }
 }
 
 /// Packets that stand at one spot, and to which rules did the same so far.
@@ -96,7 +138,7 @@ fn same_tags(a: &[u32], b: &[u32]) -> bool
 }
 
 /// Whether the outcomes are the same.
-fn same_outcome(a: Outcome, b: Outcome) -> bool
+pub(crate) fn same_outcome(a: Outcome, b: Outcome) -> bool
     ensures { result ≡ true → a ≡ b }
 {
     a.same(&b)
@@ -129,15 +171,5 @@ impl Class {
             return false;
         }
         self.progress.same(progress)
-    }
-
-    /// An equal class.
-    pub(crate) fn copy(&self, alloc: Global) -> Result<Class, Memory>
-        ensures { IfOk result (λ c. c ≡ self.now) }
-    {
-        Ok(Class {
-            spot: self.spot,
-            progress: self.progress.copy(alloc)?,
-        })
     }
 }

@@ -1,6 +1,6 @@
 //! How stages are executed, part by part.
 
-ghost use Rattle.std.specs.Prelude.{◌≡◌, ◌<◌, ℕ, true, false, length, OnOk};
+ghost use Rattle.std.specs.Prelude.{◌≡◌, ◌<◌, ℕ, true, false, OnOk};
 ghost use Rattle.std.specs.List.{list_all};
 ghost use Rattle.fws_flat.specs.Soundness.{part_ok};
 ghost use Rattle.fws_net.specs.Points.{tops_of};
@@ -42,10 +42,10 @@ impl Sheet {
         requires ground { IsGround errand.now.ground }
         requires tops { tops_in self.old ≡ tops_of errand.now.ground.site.now }
         requires part { part_ok errand.now.code.now errand.now.part ≡ true }
-        requires between { (n : ℕ) → stands is_inside self.old.classes.items n ≡ false }
+        requires between { (n : ℕ) → stands is_inside self.old.roll.classes.items n ≡ false }
         ensures sheet { OnOk result (IsSheet self.new) }
         ensures tops { tops_in self.new ≡ tops_in self.old }
-        ensures between { OnOk result ((n : ℕ) → stands is_inside self.new.classes.items n ≡ false) }
+        ensures between { OnOk result ((n : ℕ) → stands is_inside self.new.roll.classes.items n ≡ false) }
         ensures meant { OnOk result (Becomes errand.now.ground.site.now self.old self.new (through_part errand.now.code.now errand.now.ground.site.now errand.now.ground.state errand.now.stage errand.now.part)) }
     {
         self.turn(Turn::Enter(errand.part, errand.stage));
@@ -69,10 +69,10 @@ impl Sheet {
         requires ways { AreWaysOf purpose.now.site.now purpose.now.ways.now }
         requires tops { tops_in self.old ≡ tops_of purpose.now.site.now }
         requires part { part_ok purpose.now.code.now part ≡ true }
-        requires between { (n : ℕ) → stands is_inside self.old.classes.items n ≡ false }
+        requires between { (n : ℕ) → stands is_inside self.old.roll.classes.items n ≡ false }
         ensures sheet { OnOk result (IsSheet self.new) }
         ensures tops { tops_in self.new ≡ tops_in self.old }
-        ensures between { OnOk result ((n : ℕ) → stands is_inside self.new.classes.items n ≡ false) }
+        ensures between { OnOk result ((n : ℕ) → stands is_inside self.new.roll.classes.items n ≡ false) }
         ensures meant { OnOk result (Becomes purpose.now.site.now self.old self.new (through_part purpose.now.code.now purpose.now.site.now purpose.now.state stage part)) }
     {
         let area = whole_site(arena, purpose.site)?;
@@ -106,10 +106,10 @@ impl Sheet {
         requires ways { AreWaysOf purpose.now.site.now purpose.now.ways.now }
         requires tops { tops_in self.old ≡ tops_of purpose.now.site.now }
         requires part { part_ok purpose.now.code.now part ≡ true }
-        requires between { (n : ℕ) → stands is_inside self.old.classes.items n ≡ false }
+        requires between { (n : ℕ) → stands is_inside self.old.roll.classes.items n ≡ false }
         ensures sheet { OnOk result (IsSheet self.new) }
         ensures tops { tops_in self.new ≡ tops_in self.old }
-        ensures between { OnOk result ((n : ℕ) → stands is_inside self.new.classes.items n ≡ false) }
+        ensures between { OnOk result ((n : ℕ) → stands is_inside self.new.roll.classes.items n ≡ false) }
         ensures meant { OnOk result (Becomes purpose.now.site.now self.old self.new (through_part purpose.now.code.now purpose.now.site.now purpose.now.state stage part)) }
     {
         let bump = Bump::new(alloc);
@@ -130,10 +130,10 @@ impl Sheet {
         requires ways { AreWaysOf purpose.now.site.now purpose.now.ways.now }
         requires tops { tops_in self.old ≡ tops_of purpose.now.site.now }
         requires parts { list_all (part_ok purpose.now.code.now) parts.now ≡ true }
-        requires between { (n : ℕ) → stands is_inside self.old.classes.items n ≡ false }
+        requires between { (n : ℕ) → stands is_inside self.old.roll.classes.items n ≡ false }
         ensures sheet { OnOk result (IsSheet self.new) }
         ensures tops { tops_in self.new ≡ tops_in self.old }
-        ensures between { OnOk result ((n : ℕ) → stands is_inside self.new.classes.items n ≡ false) }
+        ensures between { OnOk result ((n : ℕ) → stands is_inside self.new.roll.classes.items n ≡ false) }
         ensures meant { OnOk result (Becomes purpose.now.site.now self.old self.new (through_parts purpose.now.code.now purpose.now.site.now purpose.now.state stage parts.now)) }
     {
         for part in parts {

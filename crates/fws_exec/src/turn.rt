@@ -1,6 +1,6 @@
 //! How classes enter parts and leave them.
 
-ghost use Rattle.std.specs.Prelude.{◌≡◌, ℕ, length, slice_get, option_map};
+ghost use Rattle.std.specs.Prelude.{◌≡◌, ℕ, slice_get, option_map};
 ghost use Rattle.fws_exec.specs.Sheets.{IsSheet};
 ghost use Rattle.fws_exec.specs.Stages.{turned};
 
@@ -57,11 +57,11 @@ impl Sheet {
     pub(crate) fn turn(&mut self, turn: Turn)
         requires { IsSheet self.old }
         ensures sheet { IsSheet self.new }
-        ensures turned { (n : ℕ) → slice_get self.new.classes.items n ≡ option_map (turned turn) (slice_get self.old.classes.items n) }
+        ensures turned { (n : ℕ) → slice_get self.new.roll.classes.items n ≡ option_map (turned turn) (slice_get self.old.roll.classes.items n) }
         ensures same { self.new.canvas ≡ self.old.canvas }
     {
-        for number in 0..self.classes.len() {
-            self.classes[number].turn(turn);
+        for number in 0..self.roll.classes.len() {
+            self.roll.classes[number].turn(turn);
         }
     }
 }

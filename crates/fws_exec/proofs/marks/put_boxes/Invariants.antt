@@ -1,6 +1,6 @@
 use Rattle.std.proofs.Common.{◌≡◌, ℕ, List, drop}
 use Rattle.fws_tree.specs.Marks.{mark_at}
-use Rattle.fws_exec.specs.Moving.{boxed}
+use Rattle.fws_exec.specs.Runs.{boxed}
 use Rattle.fws_exec.proofs.marks.put_boxes.Given as goal
 
 abbrev pub invariant-loop-area : goal.invariant-loop-area

@@ -1,20 +1,15 @@
-use Rattle.std.proofs.Common.{◌≡◌, ◌+◌, cond, ◌&&◌, length, ◌∙◌, ap}
-use Rattle.fws_box.specs.Boxes.{box_hits, sides_of}
+use Rattle.std.proofs.Common.{sym, ap}
+use Rattle.fws_box.specs.Boxes.{sides_of}
 use Rattle.fws_box.specs.Sides.{sides_have}
 use Rattle.fws_net.specs.Conditions.{holds}
-use Rattle.fws_net.specs.Points.{tops_of}
-use Rattle.fws_scene.specs.Scenes.{view_of}
 use Rattle.fws_tree.specs.Marks.{mark_at}
-use Rattle.fws_exec.proofs.Dividing.{within_length}
-use Rattle.fws_exec.proofs.Marking.{boxed_by}
+use Rattle.fws_exec.specs.Classes.{kind_of}
+use Rattle.fws_exec.specs.Divided.{seen_at}
+use Rattle.fws_exec.specs.Goings.{label_of}
+use Rattle.fws_exec.proofs.Marking.{never_label}
 use Rattle.fws_exec.proofs.marks.put_ins.Goals as goal
 
-pub returns : goal.returns
-returns c rest p w =
-    let twelve : length p ≡ 12 = within_length (tops_of c.args.ground.now.site.now) p w in
-    let hits : box_hits c.as_slice.result.now p ≡ cond (sides_have (sides_of c.args.area.now) p && holds c.args.ins.now.cond (view_of c.args.ground.now.site.now c.args.scene.now p)) 1 0 =
-    ap (λ bs. box_hits bs p) c.as_slice.ensures.value ∙ c.in_ok-boxes.ensures p twelve in
-    let label : c.in-Some.label ≡ c.args.number + 1 = c.in-Some.ensures.1 in
-    c.in_ok-put_boxes.ensures rest p
-    ∙ ap (λ k. mark_at c.args.marks.now.items k p) (boxed_by c.as_slice.result.now c.in-Some.label rest p (sides_have (sides_of c.args.area.now) p && holds c.args.ins.now.cond (view_of c.args.ground.now.site.now c.args.scene.now p)) hits
-    ∙ ap (λ k. cond (sides_have (sides_of c.args.area.now) p && holds c.args.ins.now.cond (view_of c.args.ground.now.site.now c.args.scene.now p)) k rest) label)
+pub returns-then-fails : goal.returns-then-fails
+returns-then-fails c part seen rest p w =
+    ap (λ k. mark_at c.args.marks.now.items k p) (sym (never_label (sides_have (sides_of c.args.area.now) p) (holds c.args.ins.now.cond (seen_at c.args.ground.now.site.now c.args.ground.now.state part c.args.progress.now p)) (label_of c.args.place c.args.ins.now.act) rest
+    (c.fails.ensures.never c.if-fails.true c.args.ground.now.site.now (kind_of c.args.ground.now.state p) part p)))

@@ -1,6 +1,7 @@
 use Rattle.std.proofs.Common.{◌+◌, ◌<◌, get_or, length, ◌∙◌, ap, arith}
 use Rattle.std.specs.List.{list_all}
 use Rattle.fws_exec.specs.Runs.{leaves, run_of}
+use Rattle.fws_exec.specs.Views.{is_tagless}
 use Rattle.fws_exec.proofs.Running.{all_less, all_more, run_more}
 use Rattle.fws_exec.proofs.errand.Errand.run_end.Goals as goal
 
@@ -17,6 +18,8 @@ loop-past-preserved c =
           ∙ all_more (λ ins. leaves c.bound_by-bound.result ins.act) (run_of c.args.self.now.code.now c.args.place c.loop-past.past) (get_or c.args.self.now.code.now c.loop-past.past c.index-self-past.result)
           (all_less c.bound_by-bound.result c.loop-past.most (run_of c.args.self.now.code.now c.args.place c.loop-past.past) c.bound_by-bound.ensures.bound c.loop-past.invariant.leaves)
           (c.bound_by-bound.ensures.leaves c.bound_by-bound.result (omega arith) (omega arith));
+      tagless = ap (λ xs. list_all (λ ins. is_tagless ins.cond) xs) (run_more c.args.self.now.code.now c.args.place c.loop-past.past c.index-self-past.result c.loop-past.invariant.first within)
+          ∙ all_more (λ ins. is_tagless ins.cond) (run_of c.args.self.now.code.now c.args.place c.loop-past.past) (get_or c.args.self.now.code.now c.loop-past.past c.index-self-past.result) c.loop-past.invariant.tagless (c.is_plain.ensures c.if-not-is_plain.false);
     }
 
 pub returns-then-not-is_plain-clause-leaves : goal.returns-then-not-is_plain-clause-leaves

@@ -1,23 +1,23 @@
-use Rattle.std.proofs.Common.{◌≡◌, nat_eq, slice_index, refl, ◌∙◌, ap}
-use Rattle.fws_net.specs.Conditions.{holds}
-use Rattle.fws_scene.specs.Scenes.{view_of}
-use Rattle.fws_exec.specs.declared.spot.Stage.TheVariants.{Arrive, Send}
-use Rattle.fws_exec.specs.Classes.{transit_of, meant, is_inside}
-use Rattle.fws_exec.specs.Stages.{nowhere}
-use Rattle.fws_exec.proofs.Dividing.{chosen}
+use Rattle.std.proofs.Common.{[], ◌∷◌, slice_index, refl, sym, subst}
+use Rattle.fws_box.specs.Sides.{IsWithin}
+use Rattle.fws_exec.specs.declared.spot.Spot.TheVariants.{Before}
+use Rattle.fws_exec.specs.declared.spot.Stage.TheVariants.{Arrive}
+use Rattle.fws_exec.specs.Classes.{is_inside}
+use Rattle.fws_exec.specs.Divided.{seen_at}
+use Rattle.fws_exec.specs.Sheets.{among}
 use Rattle.fws_exec.proofs.Entering.{host_test, entry_low, only_stands}
+use Rattle.fws_exec.proofs.Routed.{between, entered_meant, send_apart, whole_at}
 use Rattle.fws_exec.proofs.sheet.Sheet.divide_entered.Goals as goal
+
+pub divide_all-requires-clause-here : goal.divide_all-requires-clause-here
+divide_all-requires-clause-here c = (Before Arrive, refl, whole_at c.args.self.now.roll.classes.items c.requires.class, λ l e. send_apart e)
 
 pub returns-clause-between : goal.returns-clause-between
 returns-clause-between c n =
-    let first = c.requires.class in
-    (c.in_ok-split.ensures.spots is_inside refl (ap (λ k. is_inside k.spot) c.standing-sent.ensures) (ap (λ k. is_inside k.spot) c.standing-arriving.ensures)).1 n
-    (only_stands is_inside first.0 c.args.self.now.classes.items n first.1 (ap is_inside first.2))
+    c.in_ok-divide_all.ensures.grown.comes is_inside (λ l. refl) n (only_stands is_inside (record { spot = Before Arrive; progress = c.requires.class.0 }) c.args.self.now.roll.classes.items n c.requires.class.1 refl)
 
 pub returns-clause-meant : goal.returns-clause-meant
 returns-clause-meant c next p w =
-    let test : holds c.in_ok-cond.cond (view_of c.args.ground.now.site.now c.in_ok-scene.scene p) ≡ nat_eq (slice_index p 0) 0 =
-    host_test c.in_ok-cond.cond (view_of c.args.ground.now.site.now c.in_ok-scene.scene p) (slice_index p 0) (ap (λ v. v.recv) (c.in_ok-scene.ensures c.args.ground.now.site.now p)) (c.in_ok-cond.ensures (view_of c.args.ground.now.site.now c.in_ok-scene.scene p)) (entry_low c.args.ground.now.site.now p c.requires.ground.sound w) in
-    let sent = ap (λ k. meant nowhere next k.spot (transit_of k.progress p)) c.standing-sent.ensures ∙ ap (λ t. next Send t) (c.entered-2.ensures p) in
-    let arriving = ap (λ k. meant nowhere next k.spot (transit_of k.progress p)) c.standing-arriving.ensures ∙ ap (λ t. next Arrive t) (c.entered-3.ensures p) in
-    c.in_ok-split.ensures.divided nowhere next p w (c.requires.value p) ∙ chosen _ _ _ _ _ _ test sent arriving
+    entered_meant c.args.ground.now.site.now c.args.ground.now.state between c.in_ok-cond.cond (among (0 ∷ [])) c.args.self.now c.divide_all.new.self p next (subst (λ ts. IsWithin ts p) (sym c.requires.tops) w) refl (c.requires.value p) c.requires.class
+    (host_test c.in_ok-cond.cond (seen_at c.args.ground.now.site.now c.args.ground.now.state between c.requires.class.0 p) (slice_index p 0) refl (c.in_ok-cond.ensures (seen_at c.args.ground.now.site.now c.args.ground.now.state between c.requires.class.0 p)) (entry_low c.args.ground.now.site.now p c.requires.ground.sound w))
+    c.in_ok-divide_all.ensures.grown.grows c.in_ok-divide_all.ensures.moved

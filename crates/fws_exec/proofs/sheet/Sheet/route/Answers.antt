@@ -1,34 +1,37 @@
-use Rattle.std.proofs.Common.{◌≡◌, ℕ, ◌≤◌, nat_lt, false, length, inl, inr, ◌∙◌, arith}
-use Rattle.std.proofs.lemmas.Bool.{cases_Bool}
-use borrow.Author.Count.{below_more}
-use borrow.Author.Tests.{ltb-true}
-use Rattle.fws_exec.specs.declared.spot.Stage.TheVariants.{Arrive}
-use Rattle.fws_exec.specs.Classes.{is_at_stage}
-use Rattle.fws_exec.specs.Sheets.{class_at, stands}
-use Rattle.fws_exec.proofs.Putting.{not_below}
-use Rattle.fws_exec.proofs.Turning.{none_arriving}
+use Rattle.std.proofs.Common.{refl, sym, ◌∙◌, ap, subst}
+use Rattle.std.proofs.lemmas.Option.{slice_get_within}
+use Rattle.fws_exec.specs.declared.going.Going.TheVariants as goings
+use Rattle.fws_exec.specs.declared.spot.Spot.TheVariants.{Before}
+use Rattle.fws_exec.specs.declared.spot.Stage.TheVariants.{Arrive, Deliver}
+use Rattle.fws_exec.specs.Divided.{held, AreMoved}
+use Rattle.fws_exec.specs.Sheets.{among, AreSent}
+use Rattle.fws_exec.specs.Stages.{onward_spot}
+use Rattle.fws_exec.proofs.Moved.{at_grows}
+use Rattle.fws_exec.proofs.Passed.{sent_sheet}
+use Rattle.fws_exec.proofs.Routed.{between, deliver_apart, onward_used, routed, routed_outside}
 use Rattle.fws_exec.proofs.sheet.Sheet.route.Goals as goal
 
-pub loop-number-preserved : goal.loop-number-preserved
-loop-number-preserved c = record {
-  sheet = c.in_ok-route_class.ensures.sheet;
-  tops = c.in_ok-route_class.ensures.tops ∙ c.loop-number.invariant.tops;
-  same = c.in_ok-route_class.ensures.tops ∙ c.loop-number.invariant.same;
-  count = (let more : length c.loop-number.self.classes.items ≤ length c.route_class.new.self.classes.items = c.in_ok-route_class.ensures.count in omega arith);
-  between = λ n. c.in_ok-route_class.ensures.between n (c.loop-number.invariant.between n);
-  routed = below_more (λ n. stands (is_at_stage Arrive) c.route_class.new.self.classes.items n ≡ false) c.loop-number.number
-      (λ n lt. c.in_ok-route_class.ensures.arriving n (c.loop-number.invariant.routed n lt)) c.in_ok-route_class.ensures.routed;
-  added = λ n le. c.in_ok-route_class.ensures.arriving n (c.loop-number.invariant.added n le);
-  meant = λ next p w. c.in_ok-route_class.ensures.meant next p w ∙ c.loop-number.invariant.meant next p w;
-}
+pub divide_all-requires-clause-here : goal.divide_all-requires-clause-here
+divide_all-requires-clause-here c = (Before Arrive, refl, λ n a. c.in_ok-numbers.ensures.here n (ap (λ ns. among ns n) (sym c.as_slice.ensures.value) ∙ a), λ l e. deliver_apart e)
+
+pub send_all-requires : goal.send_all-requires
+send_all-requires c n a =
+    let there = at_grows (Before Arrive) c.args.self.now.roll.classes.items c.divide_all.new.self.roll.classes.items (among c.in_ok-numbers.numbers.items) refl c.in_ok-divide_all.ensures.grown.grows c.in_ok-numbers.ensures.here n (ap (λ ns. among ns n) (sym c.as_slice-2.ensures.value) ∙ a) in
+    slice_get_within c.divide_all.new.self.roll.classes.items n (record { spot = Before Arrive; progress = there.0 }) there.1
+
+pub returns-clause-sheet : goal.returns-clause-sheet
+returns-clause-sheet c = sent_sheet (onward_spot c.args.ground.now.site.now.forwarding) (among c.as_slice-2.result.now) c.divide_all.new.self (record { canvas = c.divide_all.new.self.canvas; roll = c.send_all.new.self }) (onward_used c.args.ground.now.site.now.forwarding) refl
+    (subst (λ s. AreSent s (among c.as_slice-2.result.now) c.divide_all.new.self.roll.classes.items c.send_all.new.self.classes.items) c.onward_spot-onward.ensures c.send_all.ensures.sent) c.in_ok-divide_all.ensures.sheet
+
+pub returns-clause-between : goal.returns-clause-between
+returns-clause-between c = routed_outside c.args.ground.now.site.now.forwarding (among c.as_slice-2.result.now) c.args.self.now.roll.classes.items c.divide_all.new.self.roll.classes.items c.send_all.new.self.classes.items c.requires.between c.in_ok-divide_all.ensures.grown
+    (subst (λ s. AreSent s (among c.as_slice-2.result.now) c.divide_all.new.self.roll.classes.items c.send_all.new.self.classes.items) c.onward_spot-onward.ensures c.send_all.ensures.sent)
 
 pub returns-clause-meant : goal.returns-clause-meant
-returns-clause-meant c next p w =
-    none_arriving c.args.ground.now.site.now next p c.loop-number.self.classes.items (class_at c.loop-number.self p) (none (class_at c.loop-number.self p))
-    ∙ c.loop-number.invariant.meant next p w
-  where
-    none : (n : ℕ) → stands (is_at_stage Arrive) c.loop-number.self.classes.items n ≡ false
-    none n = elim (cases_Bool (nat_lt n c.loop-number.number)) [
-      | inl t ↦ c.loop-number.invariant.routed n (ltb-true n c.loop-number.number t)
-      | inr f ↦ (let low : c.loop-number.number ≤ n = not_below n c.loop-number.number f in c.loop-number.invariant.added n (omega arith))
-    ]
+returns-clause-meant c =
+    routed c.args.ground.now.site.now c.args.ground.now.state between c.in_ok-cond.cond (among c.in_ok-numbers.numbers.items) c.args.self.now c.divide_all.new.self (record { canvas = c.divide_all.new.self.canvas; roll = c.send_all.new.self }) c.requires.sheet c.requires.tops
+    (c.in_ok-cond.ensures c.args.ground.now.site.now c.requires.ground.ways) c.in_ok-numbers.ensures.here c.in_ok-numbers.ensures.all c.in_ok-divide_all.ensures.grown.grows
+    (subst (λ ns. AreMoved (goings.To (Before Deliver)) (among ns) (held c.args.ground.now.site.now c.args.ground.now.state between c.in_ok-cond.cond) c.args.self.now c.divide_all.new.self) c.as_slice.ensures.value c.in_ok-divide_all.ensures.moved)
+    refl
+    (subst (λ ns. AreSent (onward_spot c.args.ground.now.site.now.forwarding) (among ns) c.divide_all.new.self.roll.classes.items c.send_all.new.self.classes.items) c.as_slice-2.ensures.value
+    (subst (λ s. AreSent s (among c.as_slice-2.result.now) c.divide_all.new.self.roll.classes.items c.send_all.new.self.classes.items) c.onward_spot-onward.ensures c.send_all.ensures.sent))

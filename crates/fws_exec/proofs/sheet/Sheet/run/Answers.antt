@@ -28,13 +28,13 @@ loop-part-preserved c = record {
       let rest : Stage → Transit → Outcome = through_parts c.args.purpose.now.code.now c.args.purpose.now.site.now c.args.purpose.now.state c.args.stage (drop (c.loop-part.part-index + 1) c.args.parts.now) next p in
       c.in_ok-run_part.ensures.meant rest p w
       ∙ future_by nowhere (through_part c.args.purpose.now.code.now c.args.purpose.now.site.now c.args.purpose.now.state c.args.stage (get_or c.args.parts.now c.loop-part.part-index none) rest p)
-      (through_parts c.args.purpose.now.code.now c.args.purpose.now.site.now c.args.purpose.now.state c.args.stage (drop c.loop-part.part-index c.args.parts.now) next p) c.loop-part.self.classes.items (class_at c.loop-part.self p) p
+      (through_parts c.args.purpose.now.code.now c.args.purpose.now.site.now c.args.purpose.now.state c.args.stage (drop c.loop-part.part-index c.args.parts.now) next p) c.loop-part.self.roll.classes.items (class_at c.loop-part.self p) p
       (parts_from c.args.purpose.now.code.now c.args.purpose.now.site.now c.args.purpose.now.state c.args.stage c.args.parts.now c.loop-part.part-index none next p c.loop-part-test.true)
       ∙ c.loop-part.invariant.meant next p w);
 }
 
 pub returns-clause-meant : goal.returns-clause-meant
 returns-clause-meant c next p w =
-    future_by nowhere next (through_parts c.args.purpose.now.code.now c.args.purpose.now.site.now c.args.purpose.now.state c.args.stage (drop c.loop-part.part-index c.args.parts.now) next p) c.loop-part.self.classes.items (class_at c.loop-part.self p) p
+    future_by nowhere next (through_parts c.args.purpose.now.code.now c.args.purpose.now.site.now c.args.purpose.now.state c.args.stage (drop c.loop-part.part-index c.args.parts.now) next p) c.loop-part.self.roll.classes.items (class_at c.loop-part.self p) p
     (none_left c.args.purpose.now.code.now c.args.purpose.now.site.now c.args.purpose.now.state c.args.stage c.args.parts.now c.loop-part.part-index next p c.loop-part-test.false)
     ∙ c.loop-part.invariant.meant next p w

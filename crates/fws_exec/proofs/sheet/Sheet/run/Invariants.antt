@@ -14,8 +14,8 @@ invariant-loop-part l = record {
   sheet : IsSheet l.self;
   tops : tops_in l.self ≡ tops_of l.purpose.site.now;
   same : tops_in l.self ≡ tops_in l.initial.self;
-  between : (n : ℕ) → stands is_inside l.self.classes.items n ≡ false;
+  between : (n : ℕ) → stands is_inside l.self.roll.classes.items n ≡ false;
   meant : (next : Stage → Transit → Outcome) (p : List ℕ) → IsWithin (tops_of l.purpose.site.now) p
-      → future nowhere (through_parts l.purpose.code.now l.purpose.site.now l.purpose.state l.stage (drop l.part-index l.parts) next p) l.self.classes.items (class_at l.self p) p
-      ≡ future nowhere (through_parts l.purpose.code.now l.purpose.site.now l.purpose.state l.stage l.parts next p) l.initial.self.classes.items (class_at l.initial.self p) p;
+      → future nowhere (through_parts l.purpose.code.now l.purpose.site.now l.purpose.state l.stage (drop l.part-index l.parts) next p) l.self.roll.classes.items (class_at l.self p) p
+      ≡ future nowhere (through_parts l.purpose.code.now l.purpose.site.now l.purpose.state l.stage l.parts next p) l.initial.self.roll.classes.items (class_at l.initial.self p) p;
 }

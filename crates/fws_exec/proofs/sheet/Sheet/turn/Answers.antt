@@ -9,12 +9,12 @@ use Rattle.fws_exec.proofs.sheet.Sheet.turn.Goals as goal
 
 pub returns-clause-sheet : goal.returns-clause-sheet
 returns-clause-sheet c =
-    turned_sheet c.args.turn c.args.self.now c.loop-number.self c.requires c.loop-number.invariant.canvas c.loop-number.invariant.count
+    turned_sheet c.args.turn c.args.self.now c.loop-number.self c.requires c.loop-number.invariant.canvas
     (λ n. elim (cases_Bool (nat_lt n c.loop-number.number)) [
       | inl t ↦ c.loop-number.invariant.done n (ltb-true n c.loop-number.number t)
       | inr f ↦ (
           let low : c.loop-number.number ≤ n = not_below n c.loop-number.number f in
-          let past : length c.args.self.now.classes.items ≤ n = omega arith in
-          c.loop-number.invariant.left n low ∙ slice_get_past c.args.self.now.classes.items n past
-          ∙ sym (ap (option_map (turned c.args.turn)) (slice_get_past c.args.self.now.classes.items n past)))
+          let past : length c.args.self.now.roll.classes.items ≤ n = omega arith in
+          c.loop-number.invariant.left n low ∙ slice_get_past c.args.self.now.roll.classes.items n past
+          ∙ sym (ap (option_map (turned c.args.turn)) (slice_get_past c.args.self.now.roll.classes.items n past)))
     ])

@@ -5,7 +5,7 @@ use Rattle.fws_exec.proofs.sheet.Sheet.turn.Given as goal
 abbrev pub invariant-loop-number : goal.invariant-loop-number
 invariant-loop-number l = record {
   canvas : l.self.canvas ≡ l.initial.self.canvas;
-  count : length l.self.classes.items ≡ length l.initial.self.classes.items;
-  done : (n : ℕ) → n < l.number → slice_get l.self.classes.items n ≡ option_map (turned l.turn) (slice_get l.initial.self.classes.items n);
-  left : (n : ℕ) → l.number ≤ n → slice_get l.self.classes.items n ≡ slice_get l.initial.self.classes.items n;
+  count : length l.self.roll.classes.items ≡ length l.initial.self.roll.classes.items;
+  done : (n : ℕ) → n < l.number → slice_get l.self.roll.classes.items n ≡ option_map (turned l.turn) (slice_get l.initial.self.roll.classes.items n);
+  left : (n : ℕ) → l.number ≤ n → slice_get l.self.roll.classes.items n ≡ slice_get l.initial.self.roll.classes.items n;
 }

@@ -13,7 +13,7 @@ invariant-loop-place l = record {
   kept : Keeps l.errand l.initial.self l.self;
   low : l.errand.part.first ≤ l.place;
   high : l.place ≤ l.past;
-  passed : (n : ℕ) → stands (is_before l.place) l.self.classes.items n ≡ false;
+  passed : (n : ℕ) → stands (is_before l.place) l.self.roll.classes.items n ≡ false;
 }
 
 abbrev pub decreases-loop-place : goal.decreases-loop-place

@@ -1,0 +1,274 @@
+-- How points pass instructions one after another.
+use Rattle.std.proofs.Common.{◌≡◌, ◌≢◌, ℕ, ◌+◌, ◌≤◌, Bool, true, false, cond, ◌&&◌, ◌||◌, not, nat_eq, nat_lt, Option, Some, None, option_map, List, [], ◌∷◌, length, slice_get, inl, inr, ◌⊎◌, refl, sym, ◌∙◌, ap, subst, arith}
+use Rattle.std.specs.Option.{option_map_or}
+use Rattle.std.proofs.lemmas.Bool.{cases_Bool, eqb-true, false≢true}
+use Rattle.std.proofs.lemmas.Bool.Decides.{nat_tests}
+use Rattle.std.proofs.lemmas.Option.{same_Some}
+use Rattle.std.proofs.Math.Nat.{le_refl, le_trans}
+use Rattle.fws_box.specs.Sides.{IsWithin}
+use Rattle.fws_net.specs.declared.outcome.Outcome.{Outcome}
+use Rattle.fws_net.specs.declared.transit.Transit.{Transit}
+use Rattle.fws_net.specs.Conditions.{holds}
+use Rattle.fws_net.specs.Points.{packet_of, tops_of}
+use Rattle.fws_flat.specs.declared.code.Ins.{Ins}
+use Rattle.fws_flat.specs.Walk.{sees, step_of}
+use Rattle.fws_tree.specs.declared.canvas.Canvas.{Canvas}
+use Rattle.fws_tree.specs.Painted as painted
+use Rattle.fws_exec.specs.declared.errand.Errand.{Errand}
+use Rattle.fws_exec.specs.declared.going.Going.{Going}
+use Rattle.fws_exec.specs.declared.going.Going.TheVariants as goings
+use Rattle.fws_exec.specs.declared.groups.Group.{Group}
+use Rattle.fws_exec.specs.declared.progress.Progress.{Progress}
+use Rattle.fws_exec.specs.declared.roll.Roll.{Roll}
+use Rattle.fws_exec.specs.declared.sheet.Sheet.{Sheet}
+use Rattle.fws_exec.specs.declared.spot.Class.{Class}
+use Rattle.fws_exec.specs.declared.spot.Spot.{Spot}
+use Rattle.fws_exec.specs.declared.spot.Spot.TheVariants.{Unused, Dropped, At, Before}
+use Rattle.fws_exec.specs.declared.spot.Stage.{Stage}
+use Rattle.fws_exec.specs.Classes.{kind_of, meant, meant_behind, transit_of, future, is_before, is_unused}
+use Rattle.fws_exec.specs.Courses.{course, Obeys, Keeps}
+use Rattle.fws_exec.specs.Divided.{AreMoved}
+use Rattle.fws_exec.specs.Goings.{lands, Goes, IsGone}
+use Rattle.fws_exec.specs.Moving.{IsGrown}
+use Rattle.fws_exec.specs.Passing.{is_apart, is_together, is_parted, HasPassed, Passed, IsOnward}
+use Rattle.fws_exec.specs.Sheets.{among, tops_in, class_at, stands, IsPut, IsUsed, Grows, IsSheet, StandsAt, AllAt, AreSent}
+use Rattle.fws_exec.specs.Views.{is_in}
+use Rattle.fws_exec.proofs.Dividing.{before_less}
+use Rattle.fws_exec.proofs.Moved.{at_grows, behind_away, or_left, or_right, or_neither}
+use Rattle.fws_exec.proofs.Putting.{future_of, future_same, same_or_not, stands_of}
+
+-- a point that went on stays where it is while the classes of others pass
+stays_on : (e : Errand) (next : Stage → Transit → Outcome) (p : List ℕ) (B : ℕ → Bool) (place at here : ℕ) (mid new : Sheet) (d : Class)
+    → IsWithin (tops_in mid) p → Passed e B at here mid new → AllAt (At place) mid.roll.classes.items B → IsUsed mid.roll.classes.items (class_at mid p) d → is_before (place + 1) d.spot ≡ false
+    → class_at new p ≡ class_at mid p
+stays_on e next p B place at here mid new d w second stand used behind = elim (second next p d w used) [
+  | inl k ↦ absurd (behind_away place mid.roll.classes.items (class_at mid p) d (stand (class_at mid p) k.0) used.0 behind)
+  | inr k ↦ k.1
+]
+
+-- some classes pass, and then others
+pub passed_both : (e : Errand) (A B C : ℕ → Bool) (place at : ℕ) (old mid new : Sheet)
+    → ((n : ℕ) → C n ≡ (A n || B n)) → Grows old.roll.classes.items mid.roll.classes.items → Grows mid.roll.classes.items new.roll.classes.items → tops_in mid ≡ tops_in old
+    → AllAt (At place) mid.roll.classes.items B → Passed e A place at old mid → Passed e B place at mid new → Passed e C place at old new
+passed_both e A B C place at old mid new parts before after tops stand first second next p c w used =
+    let inside : IsWithin (tops_in mid) p = subst (λ ts. IsWithin ts p) (sym tops) w in
+    elim (first next p c w used) [
+      | inl h ↦ inl (
+        or_left (A (class_at old p)) (B (class_at old p)) (C (class_at old p)) (parts (class_at old p)) h.0,
+        elim h.1 [
+          | inl s ↦ elim (second next p c inside (subst (λ n. IsUsed mid.roll.classes.items n c) (sym s.0) (before (class_at old p) c used))) [
+            | inl k ↦ subst (λ n. HasPassed e next p place at c.progress new.roll.classes.items n (class_at new p)) s.0 k.1
+            | inr k ↦ inl (k.1 ∙ s.0, s.1)
+          ]
+          | inr d ↦ inr (
+            d.0,
+            subst (λ n. IsUsed new.roll.classes.items n d.0) (sym (stays_on e next p B place place at mid new d.0 inside second stand d.1 d.2)) (after (class_at mid p) d.0 d.1),
+            d.2,
+            d.3,
+          )
+        ],
+      )
+      | inr h ↦ elim (second next p c inside (subst (λ n. IsUsed mid.roll.classes.items n c) (sym h.1) (before (class_at old p) c used))) [
+        | inl k ↦ inl (
+          or_right (A (class_at old p)) (B (class_at old p)) (C (class_at old p)) (parts (class_at old p)) (ap B (sym h.1) ∙ k.0),
+          subst (λ n. HasPassed e next p place at c.progress new.roll.classes.items n (class_at new p)) h.1 k.1,
+        )
+        | inr k ↦ inr (or_neither (A (class_at old p)) (B (class_at old p)) (C (class_at old p)) (parts (class_at old p)) h.0 (ap B (sym h.1) ∙ k.0), k.1 ∙ h.1)
+      ]
+    ]
+
+-- classes pass one more instruction
+pub passed_on : (e : Errand) (A : ℕ → Bool) (place at : ℕ) (old mid new : Sheet) → place ≤ at
+    → Grows old.roll.classes.items mid.roll.classes.items → Grows mid.roll.classes.items new.roll.classes.items → tops_in mid ≡ tops_in old
+    → AllAt (At place) mid.roll.classes.items A → Passed e A place at old mid → Passed e A at (at + 1) mid new → Passed e A place (at + 1) old new
+passed_on e A place at old mid new le before after tops stand first second next p c w used =
+    let inside : IsWithin (tops_in mid) p = subst (λ ts. IsWithin ts p) (sym tops) w in
+    elim (first next p c w used) [
+      | inl h ↦ inl (
+        h.0,
+        elim h.1 [
+          | inl s ↦ elim (second next p c inside (subst (λ n. IsUsed mid.roll.classes.items n c) (sym s.0) (before (class_at old p) c used))) [
+            | inl k ↦ elim k.1 [
+              | inl t ↦ inl (t.0 ∙ s.0, s.1 ∙ t.1)
+              | inr d ↦ inr (d.0, d.1, before_less (place + 1) (at + 1) d.0.spot (let more : place + 1 ≤ at + 1 = omega arith in more) d.2, d.3 ∙ sym s.1)
+            ]
+            | inr k ↦ absurd (false≢true (sym k.0 ∙ ap A s.0 ∙ h.0))
+          ]
+          | inr d ↦ inr (
+            d.0,
+            subst (λ n. IsUsed new.roll.classes.items n d.0) (sym (stays_on e next p A place at (at + 1) mid new d.0 inside second stand d.1 d.2)) (after (class_at mid p) d.0 d.1),
+            d.2,
+            d.3,
+          )
+        ],
+      )
+      | inr h ↦ elim (second next p c inside (subst (λ n. IsUsed mid.roll.classes.items n c) (sym h.1) (before (class_at old p) c used))) [
+        | inl k ↦ absurd (false≢true (sym h.0 ∙ ap A (sym h.1) ∙ k.0))
+        | inr k ↦ inr (h.0, k.1 ∙ h.1)
+      ]
+    ]
+
+-- classes pass no instruction
+pub passed_same : (e : Errand) (A : ℕ → Bool) (place : ℕ) (s : Sheet) → Passed e A place place s s
+passed_same e A place s next p c w used = elim (cases_Bool (A (class_at s p))) [
+  | inl a ↦ inl (a, inl (refl, refl))
+  | inr a ↦ inr (a, refl)
+]
+
+-- no class passes
+pub passed_none : (e : Errand) (A : ℕ → Bool) (place at : ℕ) (s : Sheet) → ((n : ℕ) → A n ≡ false) → Passed e A place at s s
+passed_none e A place at s none next p c w used = inr (none (class_at s p), refl)
+
+-- a test with the same answers
+pub passed_test : (e : Errand) (A B : ℕ → Bool) (place at : ℕ) (old new : Sheet) → ((n : ℕ) → B n ≡ A n) → Passed e A place at old new → Passed e B place at old new
+passed_test e A B place at old new same passed next p c w used = elim (passed next p c w used) [
+  | inl h ↦ inl (same (class_at old p) ∙ h.0, h.1)
+  | inr h ↦ inr (same (class_at old p) ∙ h.0, h.1)
+]
+
+-- classes that are added, from a place on
+pub onward_same : (place : ℕ) (cs : List Class) → IsOnward place cs cs
+onward_same place cs = record { grows = λ n c used. used; count = le_refl (length cs); comes = λ q le n h. h }
+
+pub onward_then : (place : ℕ) (old mid new : List Class) → IsOnward place old mid → IsOnward place mid new → IsOnward place old new
+onward_then place old mid new f g = record { grows = λ n c used. g.grows n c (f.grows n c used); count = le_trans f.count g.count; comes = λ q le n h. g.comes q le n (f.comes q le n h) }
+
+pub onward_of : (place : ℕ) (going : Going) (old new : List Class) → ((l : ℕ) → is_before (place + 1) (lands going l) ≡ false) → IsGrown going old new → IsOnward place old new
+onward_of place going old new none g = record { grows = g.grows; count = g.count; comes = λ q le. g.comes (is_before q) (λ l. before_less q (place + 1) (lands going l) le (none l)) }
+
+-- an earlier place
+pub onward_less : (place at : ℕ) (old new : List Class) → place ≤ at → IsOnward at old new → IsOnward place old new
+onward_less place at old new less g = record { grows = g.grows; count = g.count; comes = λ q le. g.comes q (let more : q ≤ at + 1 = omega arith in more) }
+
+-- classes that are sent to a spot
+pub sent_at : (spot : Spot) (A : ℕ → Bool) (mid new : List Class) (n : ℕ) (c : Class) → AreSent spot A mid new → A n ≡ true → slice_get mid n ≡ Some c → slice_get new n ≡ Some (record c { spot = spot })
+sent_at spot A mid new n c sent a got = sent n ∙ ap (λ b. cond b (option_map {T = Class} (λ d. record d { spot = spot }) (slice_get mid n)) (slice_get mid n)) a ∙ ap (option_map {T = Class} (λ d. record d { spot = spot })) got
+
+pub sent_away : (spot : Spot) (A : ℕ → Bool) (mid new : List Class) (n : ℕ) → AreSent spot A mid new → A n ≡ false → slice_get new n ≡ slice_get mid n
+sent_away spot A mid new n sent a = sent n ∙ ap (λ b. cond b (option_map {T = Class} (λ d. record d { spot = spot }) (slice_get mid n)) (slice_get mid n)) a
+
+-- a sheet whose classes are sent to a spot is one
+pub sent_sheet : (spot : Spot) (A : ℕ → Bool) (mid new : Sheet) → is_unused spot ≡ false → new.canvas ≡ mid.canvas → AreSent spot A mid.roll.classes.items new.roll.classes.items → IsSheet mid → IsSheet new
+sent_sheet spot A mid new used canvas sent sheet p w =
+    let same : class_at new p ≡ class_at mid p = ap (λ k. painted.value_at k p) canvas in
+    let old = sheet p (subst (λ (k : Canvas). IsWithin (painted.tops_of k) p) canvas w) in
+    elim (cases_Bool (A (class_at mid p))) [
+      | inl a ↦ (record old.0 { spot = spot }, subst (λ n. IsUsed new.roll.classes.items n (record old.0 { spot = spot })) (sym same) (sent_at spot A mid.roll.classes.items new.roll.classes.items (class_at mid p) old.0 sent a old.1.0, used))
+      | inr a ↦ (old.0, subst (λ n. IsUsed new.roll.classes.items n old.0) (sym same) (sent_away spot A mid.roll.classes.items new.roll.classes.items (class_at mid p) sent a ∙ old.1.0, old.1.1))
+    ]
+
+-- what becomes of each packet stays, if the classes passed and those that stood at the place are sent on
+pub sent_kept : (e : Errand) (A : ℕ → Bool) (place at : ℕ) (old mid new : Sheet) → IsSheet old → tops_in old ≡ tops_of e.ground.site.now
+    → Grows old.roll.classes.items mid.roll.classes.items → AllAt (At place) old.roll.classes.items A → Passed e A place at old mid
+    → new.canvas ≡ mid.canvas → AreSent (At at) A mid.roll.classes.items new.roll.classes.items → Keeps e old new
+sent_kept e A place at old mid new sheet tops grows stand passed canvas sent next p w =
+    let inside : IsWithin (tops_in old) p = subst (λ ts. IsWithin ts p) (sym tops) w in
+    let c = (sheet p inside).0 in
+    let used = (sheet p inside).1 in
+    ap (λ k. future (course e next p) next new.roll.classes.items (painted.value_at k p) p) canvas
+    ∙ (elim (passed next p c inside used) [
+      | inl h ↦ (
+          let spot : c.spot ≡ At place = ap (λ k. k.spot) (same_Some c (record { spot = At place; progress = (stand (class_at old p) h.0).0 }) (sym used.0 ∙ (stand (class_at old p) h.0).1)) in
+          let before : future (course e next p) next old.roll.classes.items (class_at old p) p ≡ course e next p place (transit_of c.progress p) =
+          future_of (course e next p) next old.roll.classes.items (class_at old p) c p used.0 ∙ ap (λ s. meant (course e next p) next s (transit_of c.progress p)) spot in
+          elim h.1 [
+            | inl s ↦ future_of (course e next p) next new.roll.classes.items (class_at mid p) (record c { spot = At at }) p
+                (sent_at (At at) A mid.roll.classes.items new.roll.classes.items (class_at mid p) c sent (ap A s.0 ∙ h.0) (ap (λ n. slice_get mid.roll.classes.items n) s.0 ∙ (grows (class_at old p) c used).0))
+                ∙ sym s.1 ∙ sym before
+            | inr d ↦ future_of (course e next p) next new.roll.classes.items (class_at mid p) d.0 p
+                (sent_away (At at) A mid.roll.classes.items new.roll.classes.items (class_at mid p) sent (elim (cases_Bool (A (class_at mid p))) [
+                  | inl a ↦ absurd (behind_away place mid.roll.classes.items (class_at mid p) d.0 (at_grows (At place) old.roll.classes.items mid.roll.classes.items A refl grows stand (class_at mid p) a) d.1.0 d.2)
+                  | inr a ↦ a
+                ]) ∙ d.1.0)
+                ∙ d.3 ∙ sym before
+          ])
+      | inr h ↦ future_of (course e next p) next new.roll.classes.items (class_at mid p) c p
+          (sent_away (At at) A mid.roll.classes.items new.roll.classes.items (class_at mid p) sent (ap A h.1 ∙ h.0) ∙ ap (λ n. slice_get mid.roll.classes.items n) h.1 ∙ (grows (class_at old p) c used).0)
+          ∙ sym (future_of (course e next p) next old.roll.classes.items (class_at old p) c p used.0)
+    ])
+
+-- a class that stands neither before a place nor at it stands not before the next one
+pub behind_place : (place : ℕ) (cs : List Class) (n : ℕ) → stands (is_before place) cs n ≡ false → (StandsAt (At place) cs n → ⊥) → stands (is_before (place + 1)) cs n ≡ false
+behind_place place cs n h apart = elsewhere (slice_get cs n) refl
+  where
+    past : (m : ℕ) → nat_lt m place ≡ false → (m ≡ place → ⊥) → nat_lt m (place + 1) ≡ false
+    past m low d = elim (cases_Bool (nat_eq m place)) [
+      | inl e ↦ absurd (d (eqb-true m place e))
+      | inr e ↦ grind (arith, nat_tests)
+    ]
+
+    spot : (s : Spot) → is_before place s ≡ false → (s ≡ At place → ⊥) → is_before (place + 1) s ≡ false
+    spot Unused low d = refl
+    spot Dropped low d = refl
+    spot (Before stage) low d = refl
+    spot (At m) low d = past m low (λ e. d (ap At e))
+
+    elsewhere : (o : Option Class) → o ≡ slice_get cs n → stands (is_before (place + 1)) cs n ≡ false
+    elsewhere None e = ap (λ (o : Option Class). option_map_or (λ c. is_before (place + 1) c.spot) o false) (sym e)
+    elsewhere (Some c) e = stands_of (is_before (place + 1)) cs n c (sym e)
+        ∙ spot c.spot (sym (stands_of (is_before place) cs n c (sym e)) ∙ h) (λ here. apart (c.progress, sym e ∙ ap (λ (s : Spot). Some (record { spot = s; progress = c.progress })) here))
+
+-- no class stands at the place any more, or before it
+pub sent_passed : (A : ℕ → Bool) (place at : ℕ) (old mid new : List Class) → place + 1 ≤ at → ((n : ℕ) → stands (is_before place) old n ≡ false) → ((n : ℕ) → StandsAt (At place) old n → A n ≡ true)
+    → IsOnward place old mid → AreSent (At at) A mid new → (n : ℕ) → stands (is_before (place + 1)) new n ≡ false
+sent_passed A place at old mid new le none all onward sent n = elim (cases_Bool (A n)) [
+  | inl a ↦ ap (λ (o : Option Class). option_map_or (λ c. is_before (place + 1) c.spot) o false) (sent n ∙ ap (λ b. cond b (option_map {T = Class} (λ d. record d { spot = At at }) (slice_get mid n)) (slice_get mid n)) a) ∙ there (slice_get mid n)
+  | inr a ↦ ap (λ (o : Option Class). option_map_or (λ c. is_before (place + 1) c.spot) o false) (sent_away (At at) A mid new n sent a)
+      ∙ onward.comes (place + 1) (le_refl (place + 1)) n (behind_place place old n (none n) (λ s. false≢true (sym a ∙ all n s)))
+]
+  where
+    past : nat_lt at (place + 1) ≡ false
+    past = grind (arith, nat_tests)
+
+    there : (o : Option Class) → option_map_or (λ c. is_before (place + 1) c.spot) (option_map {T = Class} (λ d. record d { spot = At at }) o) false ≡ false
+    there None = refl
+    there (Some c) = past
+
+-- a sheet one of whose classes is put in the place of another is one
+pub put_sheet : (number : ℕ) (d : Class) (old new : Sheet) → is_unused d.spot ≡ false → new.canvas ≡ old.canvas → IsPut number d old.roll.classes.items new.roll.classes.items → IsSheet old → IsSheet new
+put_sheet number d old new used canvas put sheet p w =
+    let same : class_at new p ≡ class_at old p = ap (λ k. painted.value_at k p) canvas in
+    let before = sheet p (subst (λ (k : Canvas). IsWithin (painted.tops_of k) p) canvas w) in
+    elim (same_or_not (class_at old p) number) [
+      | inl e ↦ (d, subst (λ n. IsUsed new.roll.classes.items n d) (sym (same ∙ e)) (put.0, used))
+      | inr away ↦ (before.0, subst (λ n. IsUsed new.roll.classes.items n before.0) (sym same) (put.1 (class_at old p) away ∙ before.1.0, before.1.1))
+    ]
+
+-- what becomes of each packet stays, if a class passes an instruction as a whole
+pub whole_kept : (e : Errand) (place : ℕ) (ins : Ins) (number : ℕ) (c d : Class) (old new : Sheet)
+    → IsUsed old.roll.classes.items number c → c.spot ≡ At place → Goes (goings.Behind e.ground.state e.stage place ins.act) 1 c.progress d → IsPut number d old.roll.classes.items new.roll.classes.items
+    → new.canvas ≡ old.canvas → ins.cond ≡ [] → ((next : Stage → Transit → Outcome) (p : List ℕ) → Obeys e next p place ins) → Keeps e old new
+whole_kept e place ins number c d old new used spot goes put canvas always obeys next p w =
+    ap (λ k. future (course e next p) next new.roll.classes.items (painted.value_at k p) p) canvas
+    ∙ elim (same_or_not (class_at old p) number) [
+      | inl here ↦ (
+          let acts : course e next p place (transit_of c.progress p) ≡ meant_behind (course e next p) next e.stage place (step_of (packet_of p) (kind_of e.ground.state p) ins.act (transit_of c.progress p)) =
+          obeys next p (transit_of c.progress p) ∙ ap (λ ls. cond (holds ls (sees e.ground.site.now (kind_of e.ground.state p) e.part (transit_of c.progress p))) (meant_behind (course e next p) next e.stage place (step_of (packet_of p) (kind_of e.ground.state p) ins.act (transit_of c.progress p))) (course e next p (place + 1) (transit_of c.progress p))) always in
+          ap (λ n. future (course e next p) next new.roll.classes.items n p) here
+          ∙ future_of (course e next p) next new.roll.classes.items number d p put.0 ∙ goes.1 (course e next p) next p ∙ sym acts
+          ∙ sym (ap (λ n. future (course e next p) next old.roll.classes.items n p) here ∙ future_of (course e next p) next old.roll.classes.items number c p used.0 ∙ ap (λ s. meant (course e next p) next s (transit_of c.progress p)) spot))
+      | inr away ↦ future_same (course e next p) next old.roll.classes.items new.roll.classes.items (class_at old p) p (put.1 (class_at old p) away)
+    ]
+
+-- the same from a sheet with the same classes at the same points
+pub passed_from : (e : Errand) (A : ℕ → Bool) (place at : ℕ) (old mid new : Sheet) → ((p : List ℕ) → class_at mid p ≡ class_at old p) → mid.roll ≡ old.roll → tops_in mid ≡ tops_in old → Passed e A place at mid new → Passed e A place at old new
+passed_from e A place at old mid new same roll tops passed next p c w used =
+    subst (λ n. ((A n ≡ true) × HasPassed e next p place at c.progress new.roll.classes.items n (class_at new p)) ⊎ ((A n ≡ false) × (class_at new p ≡ n))) (same p)
+    (passed next p c (subst (λ ts. IsWithin ts p) (sym tops) w) (subst (λ n. IsUsed mid.roll.classes.items n c) (sym (same p)) (subst (λ (r : Roll). IsUsed r.classes.items (class_at old p) c) (sym roll) used)))
+
+pub moved_from : (going : Going) (A : ℕ → Bool) (label : Progress → List ℕ → ℕ) (old mid new : Sheet) → ((p : List ℕ) → class_at mid p ≡ class_at old p) → mid.roll ≡ old.roll → tops_in mid ≡ tops_in old → AreMoved going A label mid new → AreMoved going A label old new
+moved_from going A label old mid new same roll tops moved p c w used =
+    subst (λ n. ((A n ≡ true) × (label c.progress p ≢ 0) × IsGone going (label c.progress p) c.progress new.roll.classes.items (class_at new p)) ⊎ ((A n ≡ true → label c.progress p ≡ 0) × (class_at new p ≡ n))) (same p)
+    (moved p c (subst (λ ts. IsWithin ts p) (sym tops) w) (subst (λ n. IsUsed mid.roll.classes.items n c) (sym (same p)) (subst (λ (r : Roll). IsUsed r.classes.items (class_at old p) c) (sym roll) used)))
+
+-- groups that pass a run together, and those that pass it by themselves
+pub in_parts : (crowded : Bool) (groups : List Group) (n : ℕ) → is_in groups n ≡ (is_together crowded groups n || is_parted crowded groups n)
+in_parts crowded [] n = refl
+in_parts crowded (g ∷ groups) n = by (is_apart crowded g) (among g.numbers.items n) (is_in groups n) (is_together crowded groups n) (is_parted crowded groups n) (in_parts crowded groups n)
+  where
+    by : (a m i t q : Bool) → i ≡ (t || q) → (m || i) ≡ (((not a && m) || t) || ((a && m) || q))
+    by true true i true q e = refl
+    by true true i false q e = refl
+    by true false i t q e = e
+    by false true i t q e = refl
+    by false false i t q e = e
