@@ -46,7 +46,8 @@ LITTLE = ' (only because a proof file names what the edit took away, so this say
 
 
 class Function:
-    """A function of a crate: its path below the crate, if its proof stands where such a path leads, and the lines of its text."""
+    """A function of a crate: its path below the crate, if its proof can be asked for by that, the lines of its text, and whether its
+    proof can be left open: it is that of no trait's function, and of none that calls itself."""
 
     def __init__(self, path, file, first, last, is_plain):
         self.path, self.file, self.first, self.last, self.is_plain = path, file, first, last, is_plain
@@ -54,8 +55,17 @@ class Function:
     def name(self):
         return '::'.join(self.path)
 
-    def folder(self):
-        return os.path.join('proofs', *self.path)
+    def folder(self, mark=''):
+        return os.path.join('proofs', *self.path[:-1], mark + self.path[-1])
+
+    def has_error(self, line):
+        """Whether the line tells an error in a file of its proof, which for one that calls itself stands where a + does."""
+        return ': error: ' in line and line.startswith(('./%s/' % self.folder(), './%s/' % self.folder('+')))
+
+    def is_named(self, said, crate):
+        """Whether what is said of it names a part of its own proof."""
+        names = ['.'.join(['Rattle', crate, *self.folder(mark).split(os.sep)]) for mark in ('', '+')]
+        return any('stands on `%s.' % name in said for name in names)
 
     def has(self, place):
         """Whether a match of a file and a line, if there is one, is a place in its text."""
@@ -130,8 +140,9 @@ def functions_of(files):
                 while lines[last] != begins[1] + '}' and not (last == place and line.endswith('}')) and last + 1 < len(lines):
                     last += 1
                 in_cycle = any('#[cycle' in above for above in lines[max(0, place - 3):place])
+                calls_itself = re.search(r'\b%s\(' % begins[2], '\n'.join(lines[place + 1:last + 1])) is not None
                 path = None if owner is None or in_cycle else [*owner, begins[2]]
-                found.append(Function(path, file, place, last, is_plain))
+                found.append(Function(path, file, place, last, is_plain and not calls_itself))
                 place = last
             place += 1
     return found
@@ -240,10 +251,9 @@ def refusal(function, crate, said, lines):
     """What is said of an edit that has the prover refuse the function's own proof; None where it is something else that it refuses."""
     if said is None or not said.startswith(('no proof', 'not proved')):
         return None
-    own = [line[2:] for line in lines if line.startswith('./%s/' % function.folder()) and ': error: ' in line]
+    own = [line[2:] for line in lines if function.has_error(line)]
     unproved = '`search` did not prove' in said
-    stands = 'stands on `Rattle.%s.proofs.%s.' % (crate, '.'.join(function.path)) in said
-    if not (own or unproved or stands):
+    if not (own or unproved or function.is_named(said, crate)):
         return None
     little = LITTLE if own and not unproved and all(NAMES.search(line) for line in own) else ''
     notes = [line for line in lines if function.has(re.match(r'note: (src/\S+?):(\d+):', line))]
