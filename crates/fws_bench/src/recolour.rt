@@ -70,7 +70,7 @@ impl Goal {
 }
 
 impl Moves for Goal {
-    ghost use Rattle.std.specs.Prelude.{ℕ, ◌≤◌, Unit, tt};
+    ghost use Rattle.std.specs.Prelude.{ℕ, ◌≤◌};
 
     ghost moves = { λ s value label next. next ≤ 4000 };
 

@@ -69,7 +69,7 @@ impl Mover {
 }
 
 impl Moves for Mover {
-    ghost use Rattle.std.specs.Prelude.{ℕ, ◌<◌, Unit, tt};
+    ghost use Rattle.std.specs.Prelude.{ℕ, ◌<◌};
 
     ghost moves = { λ s value label next. next < 16 };
 
