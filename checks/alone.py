@@ -41,7 +41,7 @@ print(json.dumps([rtlib.RATTLE, 'check', *crate.words(['--jobs', '1'], keeps=Fal
 '''
 
 # Errors of a proof file that names what an edit took away: they say little of a contract.
-NAMES = re.compile(r'has no field|is not in scope|has no `|was not admitted')
+NAMES = re.compile(r'has no field|is not in scope|has no `')
 LITTLE = ' (only because a proof file names what the edit took away, so this says little of the contract: change a value and keep the names)'
 
 
@@ -59,13 +59,9 @@ class Function:
         return os.path.join('proofs', *self.path[:-1], mark + self.path[-1])
 
     def has_error(self, line):
-        """Whether the line tells an error in a file of its proof, which for one that calls itself stands where a + does."""
-        return ': error: ' in line and line.startswith(('./%s/' % self.folder(), './%s/' % self.folder('+')))
-
-    def is_named(self, said, crate):
-        """Whether what is said of it names a part of its own proof."""
-        names = ['.'.join(['Rattle', crate, *self.folder(mark).split(os.sep)]) for mark in ('', '+')]
-        return any('stands on `%s.' % name in said for name in names)
+        """Whether the line tells an error in a file of its proof, which for one that calls itself stands where a + does; what isn't
+        checked there since something else was refused is none."""
+        return ': error: ' in line and 'was not admitted' not in line and line.startswith(('./%s/' % self.folder(), './%s/' % self.folder('+')))
 
     def has(self, place):
         """Whether a match of a file and a line, if there is one, is a place in its text."""
@@ -247,13 +243,13 @@ def is_proved(said):
     return said is not None and said.startswith(('no holes', 'depends on a hole'))
 
 
-def refusal(function, crate, said, lines):
+def refusal(function, said, lines):
     """What is said of an edit that has the prover refuse the function's own proof; None where it is something else that it refuses."""
     if said is None or not said.startswith(('no proof', 'not proved')):
         return None
     own = [line[2:] for line in lines if function.has_error(line)]
     unproved = '`search` did not prove' in said
-    if not (own or unproved or function.is_named(said, crate)):
+    if not (own or unproved):
         return None
     little = LITTLE if own and not unproved and all(NAMES.search(line) for line in own) else ''
     notes = [line for line in lines if function.has(re.match(r'note: (src/\S+?):(\d+):', line))]
@@ -296,7 +292,7 @@ def try_edits(prover, edits, say):
             continue
         settled = []
         for edit in chosen:
-            found = [refusal(one, prover.crate, said.get(one.name()), lines) for one in edit.seen]
+            found = [refusal(one, said.get(one.name()), lines) for one in edit.seen]
             refused = next(filter(None, found), None)
             if refused:
                 say(edit, refused)
