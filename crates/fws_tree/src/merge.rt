@@ -7,7 +7,7 @@ ghost use Rattle.fws_tree.specs.Merged.{HaveCut, IsMerged, AreKnown, IsSkipped, 
 ghost use Rattle.fws_tree.specs.Parts.{CanStay};
 
 use crate::memo::Memo;
-use crate::narrow::{add_run, parted};
+use crate::narrow::{add_run, parted, room_for};
 use crate::store::{Step, Store, add_step};
 use crate::together::{cut_field, lesser};
 use fws_num::Memory;
@@ -179,7 +179,7 @@ fn merge_known<M: Merging>(
         unreachable!();
     };
     let met = parted(alloc, store, skips, a, b, field)?;
-    let mut steps = Vec::new(alloc);
+    let mut steps = Vec::with_capacity(alloc, room_for(&met))?;
     let mut same = true;
     for part in &met.parts {
         add_run(&mut steps, store, a, field, part.from, part.to)?;

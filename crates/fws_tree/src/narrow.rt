@@ -229,6 +229,16 @@ pub(crate) fn parted(
     })
 }
 
+/// How many steps there are at most, of both cells together. Nothing hangs on it but time.
+pub(crate) fn room_for(asked: &Asked) -> usize {
+    let mut room = asked.to.saturating_sub(asked.from);
+    for part in &asked.parts {
+        let run = part.to.saturating_sub(part.from);
+        room = room.saturating_add(run).saturating_add(1);
+    }
+    room
+}
+
 // Adds a run of steps behind the others: the last of these grows where the run begins with the same cell.
 fn add_all(steps: &mut Vec<Step>, run: &[Step]) -> Result<(), Memory>
     ensures same { OnOk result ((v : ℕ → ℕ) (z x : ℕ) → pick v steps.new.items z x ≡ pick v (steps.old.items ++ run.now) z x) }

@@ -29,7 +29,7 @@ loop-part-init g t c =
       ordered = c.merged_early.ensures.ordered;
       early = c.merged_early.ensures.extends;
       extends = extends-refl c.merged_early.new.store;
-      built = rw c.new-steps.ensures.items (merged-none (g.M.Merging.gives c.merged_early.new.by) c.merged_early.new.store);
+      built = rw c.in_ok-steps.ensures.items (merged-none (g.M.Merging.gives c.merged_early.new.by) c.merged_early.new.store);
       kept = λ e. kept-none (g.M.Merging.gives c.merged_early.new.by) c.merged_early.new.store;
       known = c.in_ok-r.ensures.known;
     }
