@@ -1,9 +1,7 @@
 //! The rows of a tree put as lines, one by one.
 
-ghost use Rattle.std.specs.Prelude.{◌≡◌, ◌++◌, OnOk, IfOk, codes};
-ghost use Rattle.std.specs.List.{flat_map};
-ghost use Rattle.fws_net.specs.Points.{tops_of};
-ghost use Rattle.fws_table.specs.TableText.{head_text, row_text};
+ghost use Rattle.std.specs.Prelude.{◌≡◌, IfOk};
+ghost use Rattle.fws_table.specs.TableText.{head_text};
 
 use crate::row_text::{put_row, put_state};
 use fws_iv::Ivs;
