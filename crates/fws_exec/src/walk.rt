@@ -16,7 +16,7 @@ use fws_num::Memory;
 use std::alloc::Global;
 
 /// How many instructions a run has at most.
-const LONGEST_RUN: u32 = 65536;
+const LONGEST_RUN: u32 = 1024;
 
 /// The end of the longest run that begins at the place, or the limit if that comes first.
 fn run_limit(place: u32, limit: u32) -> u32
