@@ -1,9 +1,9 @@
-"""python3 growth.py FAMILY TIMES PROGRAM SITE
+"""python3 growth.py FAMILY TIMES PROGRAM SITE [LANGUAGE SMALL LARGE]
 python3 growth.py FAMILY TIMES PROGRAM SMALL LARGE
 
-The first form makes the tables of 1,000 and of 10,000 rules of a family of make.py, the second runs the program with the words
-FAMILY SMALL and FAMILY LARGE; five times each in turn. Prints a line `FAMILY takes N times as long for LARGE as for SMALL` of
-the best times. Exit status 1 where that is more than TIMES.
+The first form makes the tables of new packets of a family of make.py with SMALL and LARGE rules, else of 1,000 and 10,000 in
+iptables; the second runs the program with the words FAMILY SMALL and FAMILY LARGE; five times each in turn. Prints a line
+`FAMILY takes N times as long for LARGE as for SMALL` of the best times. Exit status 1 where that is more than TIMES.
 """
 
 import os
@@ -21,12 +21,12 @@ def seconds(command):
     return time.monotonic() - begun
 
 
-def table(work, program, site, family, rules):
+def table(work, program, site, family, language, rules):
     """The command that makes the table of so many rules."""
     name = os.path.join(work, str(rules))
     with open(name, 'w') as f:
-        subprocess.run([sys.executable, MAKE, str(rules), family], stdout=f, check=True)
-    return [program, 'synth', 'iptables', site, name, 'new']
+        subprocess.run([sys.executable, MAKE, str(rules), family, language], stdout=f, check=True)
+    return [program, 'synth', language, site, name, 'new']
 
 
 def compare(family, most, commands):
@@ -46,8 +46,9 @@ def main(family, most, program, *given):
     if len(given) == 2:
         sizes = [int(size) for size in given]
         return compare(family, most, {size: [program, family, str(size)] for size in sizes})
+    site, language, small, large = given if len(given) == 4 else (given[0], 'iptables', 1000, 10000)
     with tempfile.TemporaryDirectory() as work:
-        return compare(family, most, {rules: table(work, program, given[0], family, rules) for rules in (1000, 10000)})
+        return compare(family, most, {rules: table(work, program, site, family, language, rules) for rules in (int(small), int(large))})
 
 
 sys.exit(main(sys.argv[1], float(sys.argv[2]), *sys.argv[3:]))

@@ -22,6 +22,14 @@ go there too.
 loaded: behind a rule that accepts what belongs to a connection, the rules of listed.
 unfolded: N calls of one chain of 1,000 rules, each of which drops the packets of one host.
 marked: N rules of mangle mark packets of sources of their own, and N rules of FORWARD accept some destination by mark.
+sourced: N rules of mangle mark packets of sources of their own, and each mark has a source of its own in POSTROUTING.
+mapped: N hosts have a public address each, one-to-one: DNAT by that address, and SNAT by the host's.
+mapped_by_way: the same, where each rule tests the interface outside too; the hosts lie behind another one at a site where that has
+10.0.0.0/8.
+balanced: N addresses have a chain each, which maps them to one of three hosts by the source's port; packets of a host to its own
+address are marked before, and masqueraded behind.
+published: N ports of the host are mapped to hosts of their own, packets of a host to its own port are masqueraded, and N rules of
+FORWARD accept packets to these, as Docker writes them.
 crossing: N rules, of which half stand in mangle PREROUTING, before what tracked connections write, and half in FORWARD,
 and each tests a source, a destination, a protocol with ports, and an interface, or some of these.
 
@@ -45,12 +53,23 @@ applied: one list of N entries, which permit or deny as those of decided do; it 
 bordered: each of the 62 interfaces of make_site.py has a list of N entries for what comes in, by sources of their own, and
 another one for what goes out, by destinations of their own.
 
-And this one in ipfw alone:
+These are in ipfw alone:
 
 redirected: one instance with N redirects of ports to hosts of the LAN, which translates what comes in and goes out by em1.
+addressed: one with N redirects of addresses.
+instanced: N instances, each of which translates the packets of one network that go out by em1 to an address of its own.
+tagged: N rules tag the packets of sources of their own, and N accept some destination by tag.
+counted: N rules tag the packets of sources that overlap, and no rule tests a tag.
 
-And this one in pf alone:
+These are in Cisco IOS alone:
 
+mapped: N static translations, one-to-one, and a list at the outside that permits packets to the public addresses.
+
+And these in pf alone:
+
+redirected: N redirects of ports to hosts of their own, which a rule for each accepts.
+translated: N rules that write a source each for the packets of one network.
+tagged: N rules tag the packets of sources of their own, and N pass some destination by tag.
 expanded: one rule with a list of N sources and one of 500 ports, which stands for a rule for each choice.
 
 These are refused in their second line, since it stands for too many rules or too large a macro; the first one defines a macro
@@ -207,8 +226,54 @@ def unfolded(rng, count):
 def marked(rng, count):
     marks = ['PREROUTING -s 10.%d.%d.0/24 -j MARK --set-mark %d' % (k // 250, k % 250, k + 1) for k in range(count)]
     rules = ['FORWARD -d 172.16.%d.%d/32 -m mark --mark %d -j ACCEPT' % (k // 250, k % 250, k + 1) for k in range(count)]
-    mangle = ['PREROUTING ACCEPT', 'INPUT ACCEPT', 'FORWARD ACCEPT', 'OUTPUT ACCEPT', 'POSTROUTING ACCEPT']
-    return table('mangle', mangle, marks) + filtering('DROP', [], rules)
+    return table('mangle', MANGLE, marks) + filtering('DROP', [], rules)
+
+
+MANGLE = ['PREROUTING ACCEPT', 'INPUT ACCEPT', 'FORWARD ACCEPT', 'OUTPUT ACCEPT', 'POSTROUTING ACCEPT']
+
+
+def public(k):
+    return '198.18.%d.%d' % (k // 250, 1 + k % 250)
+
+
+def sourced(rng, count):
+    marks = ['PREROUTING -s 10.%d.%d.0/24 -j MARK --set-mark %d' % (k // 250, k % 250, k + 1) for k in range(count)]
+    rules = ['POSTROUTING -m mark --mark %d -j SNAT --to-source %s' % (k + 1, public(k)) for k in range(count)]
+    return table('mangle', MANGLE, marks) + table('nat', NAT, rules)
+
+
+def mapped(rng, count, arriving='', leaving=''):
+    rules = ['PREROUTING %s-d %s/32 -j DNAT --to-destination %s' % (arriving, public(k), host(k)) for k in range(count)]
+    rules += ['POSTROUTING -s %s/32 %s-j SNAT --to-source %s' % (host(k), leaving, public(k)) for k in range(count)]
+    return table('nat', NAT, rules)
+
+
+def mapped_by_way(rng, count):
+    return mapped(rng, count, '-i eth1 ', '-o eth1 ')
+
+
+def service(k):
+    return '10.96.%d.%d' % (k // 250, 1 + k % 250)
+
+
+def balanced(rng, count):
+    ends = [(k, end, host(3 * k + end)) for k in range(count) for end in range(3)]
+    marks = ['PREROUTING -s %s/32 -d %s/32 -j MARK --set-mark 16384' % (address, service(k)) for k, _, address in ends]
+    chains = ['KUBE-SERVICES -'] + ['KUBE-SVC-%d -' % k for k in range(count)] + ['KUBE-SEP-%d-%d -' % (k, end) for k, end, _ in ends]
+    rules = ['PREROUTING -j KUBE-SERVICES', 'OUTPUT -j KUBE-SERVICES', 'POSTROUTING -m mark --mark 16384 -j MASQUERADE']
+    rules += ['KUBE-SERVICES -d %s/32 -p tcp -m tcp --dport 80 -j KUBE-SVC-%d' % (service(k), k) for k in range(count)]
+    tests = ('--sport 0:21845 ', '--sport 21846:43690 ', '')
+    rules += ['KUBE-SVC-%d -p tcp -m tcp %s-j KUBE-SEP-%d-%d' % (k, tests[end], k, end) for k, end, _ in ends]
+    rules += ['KUBE-SEP-%d-%d -p tcp -m tcp -j DNAT --to-destination %s:8080' % end for end in ends]
+    return table('mangle', MANGLE, marks) + table('nat', NAT + chains, rules)
+
+
+def published(rng, count):
+    maps = ['PREROUTING -d 203.0.113.2/32 -j DOCKER', 'OUTPUT -d 203.0.113.2/32 -j DOCKER']
+    maps += ['POSTROUTING -s {0}/32 -d {0}/32 -p tcp -m tcp --dport 80 -j MASQUERADE'.format(host(k)) for k in range(count)]
+    maps += ['DOCKER -p tcp -m tcp --dport %d -j DNAT --to-destination %s:80' % (2000 + k, host(k)) for k in range(count)]
+    rules = ['FORWARD -d %s/32 -o eth0 -p tcp -m tcp --dport 80 -j ACCEPT' % host(k) for k in range(count)]
+    return table('nat', NAT + ['DOCKER -'], maps) + filtering('DROP', [], rules)
 
 
 def crossing(rng, count):
@@ -273,14 +338,36 @@ def sources_ipfw(rng, count):
     return ['add %d allow ip from %s to any' % (k, address) for k, address in enumerate(drawn_addresses(rng, count), 1)]
 
 
+TRANSLATED = ['add 100 nat 1 ip from any to any in recv em1', 'add 200 nat 1 ip from any to any out xmit em1', 'add 300 allow ip from any to any']
+
+
 def redirected_ipfw(rng, count):
     redirects = ['redirect_port tcp 10.0.0.%d:%d %d' % (2 + k % 250, 8000 + k, 2000 + k) for k in range(count)]
     return [
         'nat 1 config if em1 ' + ' '.join(redirects),
-        'add 100 nat 1 ip from any to any in recv em1',
-        'add 200 nat 1 ip from any to any out xmit em1',
-        'add 300 allow ip from any to any',
+        *TRANSLATED,
     ]
+
+
+def addressed_ipfw(rng, count):
+    return ['nat 1 config if em1 ' + ' '.join('redirect_addr %s %s' % (host(k), public(k)) for k in range(count))] + TRANSLATED
+
+
+def instanced_ipfw(rng, count):
+    lines = ['nat %d config ip %s' % (k + 1, public(k)) for k in range(count)]
+    lines += ['add %d nat %d ip from 10.%d.%d.0/24 to any out xmit em1' % (10 * k + 10, k + 1, k // 250, k % 250) for k in range(count)]
+    return lines + ['add 65000 allow ip from any to any']
+
+
+def tagged_ipfw(rng, count):
+    lines = ['add %d count tag %d ip from 10.%d.%d.0/24 to any' % (k + 1, k + 1, k // 250, k % 250) for k in range(count)]
+    lines += ['add %d allow ip from any to 172.16.%d.%d tagged %d' % (20000 + k, k // 250, k % 250, k + 1) for k in range(count)]
+    return lines
+
+
+def counted_ipfw(rng, count):
+    lines = ['add %d count tag %d ip from %s to any' % (k + 1, k + 1, spelled(network_or_host(rng))) for k in range(count)]
+    return lines + ['add 65000 allow ip from any to any']
 
 
 # Files with the same rules in iptables and pf
@@ -394,6 +481,26 @@ def bordered_ios(rng, count):
     return lines
 
 
+def mapped_ios(rng, count):
+    lines = ['interface GigabitEthernet0/0', ' ip nat inside', 'interface GigabitEthernet0/1', ' ip nat outside', ' ip access-group EDGE in']
+    lines += ['ip nat inside source static %s %s' % (host(k), public(k)) for k in range(count)]
+    return lines + ['ip access-list extended EDGE'] + [' permit ip any host %s' % public(k) for k in range(count)]
+
+
+def redirected_pf(rng, count):
+    rules = ['rdr on em1 proto tcp from any to 203.0.113.2 port %d -> %s port 80' % (2000 + k, host(k)) for k in range(count)]
+    return rules + ['block all'] + ['pass proto tcp from any to %s port 80 flags any' % host(k) for k in range(count)]
+
+
+def translated_pf(rng, count):
+    return ['nat on em1 from 10.%d.%d.0/24 to any -> %s' % (k // 250, k % 250, public(k)) for k in range(count)]
+
+
+def tagged_pf(rng, count):
+    rules = ['pass in from 10.%d.%d.0/24 to any flags any tag T%d' % (k // 250, k % 250, k) for k in range(count)]
+    return rules + ['block out all'] + ['pass out from any to 172.16.%d.%d flags any tagged T%d' % (k // 250, k % 250, k) for k in range(count)]
+
+
 def expanded_pf(rng, count):
     sources = ' '.join(drawn_addresses(rng, count))
     ports = ', '.join(str(port) for port in rng.sample(range(65536), 500))
@@ -428,11 +535,13 @@ def passed_pf(rng, count):
 
 FILES = {
     'iptables': {family.__name__: family for family in (
-        called, shared, loaded, rewritten, services, unfolded, marked, crossing, skipping, sources, decided, applied, bordered)},
-    'ipfw': {'skipping': skipping_ipfw, 'sources': sources_ipfw, 'redirected': redirected_ipfw},
-    'pf': {'decided': decided_pf, 'expanded': expanded_pf, 'repeated': repeated_pf, 'joined': joined_pf, 'defined': defined_pf,
-           'typed': typed_pf, 'passed': passed_pf},
-    'ios': {'applied': applied_ios, 'bordered': bordered_ios},
+        called, shared, loaded, rewritten, services, unfolded, marked, sourced, mapped, mapped_by_way, balanced, published, crossing, skipping,
+        sources, decided, applied, bordered)},
+    'ipfw': {'skipping': skipping_ipfw, 'sources': sources_ipfw, 'redirected': redirected_ipfw, 'addressed': addressed_ipfw,
+             'instanced': instanced_ipfw, 'tagged': tagged_ipfw, 'counted': counted_ipfw},
+    'pf': {'decided': decided_pf, 'redirected': redirected_pf, 'translated': translated_pf, 'tagged': tagged_pf, 'expanded': expanded_pf,
+           'repeated': repeated_pf, 'joined': joined_pf, 'defined': defined_pf, 'typed': typed_pf, 'passed': passed_pf},
+    'ios': {'applied': applied_ios, 'bordered': bordered_ios, 'mapped': mapped_ios},
 }
 
 

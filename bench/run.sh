@@ -15,6 +15,7 @@ work=$(mktemp -d) || exit 1
 trap 'rm -rf "$work"' EXIT
 status=0
 site=$top/examples/site.txt
+sed 's,10\.0\.0\.1/24,10.0.0.1/8,' "$site" >"$work/wide" || exit 1
 
 measure() { # family count seconds megabytes command words..
     python3 "$top/bench/measure.py" "$@" || status=1
@@ -25,7 +26,7 @@ rules_in() { # language family seconds count..
     shift 3
     for count in "$@"; do
         python3 "$top/bench/make.py" "$count" "$family" "$lang" >"$work/file" || exit 1
-        measure "$family" "$count" "$seconds" 2048 "$program" synth "$lang" "$site" "$work/file" new
+        measure "$family" "$count" "$seconds" 2048 "$program" synth "$lang" "$site" "$work/file" "${state:-new}"
     done
 }
 
@@ -46,17 +47,47 @@ rules services 0.5 500
 rules called 1.5 2000
 rules shared 4 2000
 rules unfolded 10 998
-rules marked 2 400
+rules marked 2.2 400 1000
+state=est rules marked 2.2 1000
+rules sourced 1.4 400 1000
+rules mapped 2.4 100 200
+site=$work/wide rules mapped_by_way 6.4 200 1000
+rules balanced 4.5 500 1000
+rules published 2.6 500 1000
+rules rewritten 12 4000
+rules blocked 2.3 106000
 python3 "$top/bench/growth.py" listed 15 "$program" "$site" || status=1
 python3 "$top/bench/growth.py" partial 15 "$program" "$site" || status=1
 
+doubled() { # language family large [site]: at most three times as long for twice as many
+    python3 "$top/bench/growth.py" "$2" 3 "$program" "${4:-$site}" "$1" $(($3 / 2)) "$3" || status=1
+}
+
+doubled iptables marked 1000
+doubled iptables sourced 1000
+doubled iptables mapped_by_way 1000 "$work/wide"
+doubled iptables balanced 1000
+doubled iptables published 1000
+doubled iptables rewritten 4000
+doubled iptables blocked 106000
+
 echo 'family redirects seconds megabytes rows'
+rules_in ipfw redirected 1.5 1000
 rules_in ipfw redirected 4 2000
+rules_in ipfw addressed 1.5 1000
+rules_in ipfw instanced 1.5 1000
+rules_in ipfw tagged 1.5 1000
+rules_in ipfw counted 0.3 1000
+for family in redirected addressed instanced tagged; do doubled ipfw "$family" 1000; done
 python3 "$top/bench/ratio.py" ipfw skipping 4000 2 "$program" "$site" || status=1
 python3 "$top/bench/ratio.py" ipfw sources 65534 2 "$program" "$site" || status=1
 
 echo 'family sources seconds megabytes rows'
 rules_in pf expanded 10 400
+for family in redirected translated tagged; do
+    rules_in pf "$family" 1.5 1000
+    doubled pf "$family" 1000
+done
 python3 "$top/bench/ratio.py" pf decided 4000 4 "$program" "$site" || status=1
 
 echo 'family uses seconds megabytes'
@@ -65,6 +96,8 @@ for family in repeated joined defined typed; do
 done
 python3 "$top/bench/refused.py" pf passed 100000 2 1024 'line 2 syntax' "$program" "$site" || status=1
 
+rules_in ios mapped 1.5 400 1000
+doubled ios mapped 1000
 python3 "$top/bench/ratio.py" ios applied 4000 2 "$program" "$site" || status=1
 python3 "$top/bench/make_site.py" 256 >"$work/site" || exit 1
 python3 "$top/bench/ratio.py" ios bordered 64 2 "$program" "$work/site" || status=1

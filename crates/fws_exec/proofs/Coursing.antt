@@ -154,6 +154,12 @@ part_within code part at ok lt =
     let le : part.past ≤ length code = leb-true part.past (length code) (and_parts (nat_le part.first part.past) (nat_le part.past (length code)) parts.0).1 in
     omega arith
 
+-- a part begins before its end
+pub part_order : (code : List Ins) (part : Part) → part_ok code part ≡ true → part.first ≤ part.past
+part_order code part ok =
+    let parts = and_parts (nat_le part.first part.past && nat_le part.past (length code)) (code_ok part.past part.first (part_code code part)) ok in
+    leb-true part.first part.past (and_parts (nat_le part.first part.past) (nat_le part.past (length code)) parts.0).0
+
 pub part_long : (code : List Ins) (part : Part) → part_ok code part ≡ true → (past : ℕ) → past ≤ part.past → past ≤ length code
 part_long code part ok past le =
     let parts = and_parts (nat_le part.first part.past && nat_le part.past (length code)) (code_ok part.past part.first (part_code code part)) ok in

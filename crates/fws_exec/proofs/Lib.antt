@@ -7,7 +7,7 @@ pub mod Marking
 pub mod Meaning
 pub mod Merging
 pub mod Moved
-pub mod Nexts
+pub mod Pasts
 pub mod Passed
 pub mod Putting
 pub mod Recoloured

@@ -31,7 +31,7 @@ use Rattle.fws_exec.specs.Divided.{AreMoved}
 use Rattle.fws_exec.specs.Goings.{lands, Goes, IsGone}
 use Rattle.fws_exec.specs.Moving.{IsGrown}
 use Rattle.fws_exec.specs.Passing.{is_apart, is_together, is_parted, HasPassed, Passed, IsOnward}
-use Rattle.fws_exec.specs.Sheets.{among, tops_in, class_at, stands, IsPut, IsUsed, Grows, IsSheet, StandsAt, AllAt, AreSent}
+use Rattle.fws_exec.specs.Sheets.{among, tops_in, class_at, stands, IsPut, IsUsed, Grows, IsSheet, StandsAt, AllAt, AreSent, KeepsFutures}
 use Rattle.fws_exec.specs.Views.{is_in}
 use Rattle.fws_exec.proofs.Dividing.{before_less}
 use Rattle.fws_exec.proofs.Moved.{at_grows, behind_away, or_left, or_right, or_neither}
@@ -115,6 +115,30 @@ passed_same e A place s next p c w used = elim (cases_Bool (A (class_at s p))) [
   | inr a ↦ inr (a, refl)
 ]
 
+-- classes whose packets go on as if they had passed
+pub passed_wide : (e : Errand) (A B : ℕ → Bool) (place at : ℕ) (old new : Sheet) → ((n : ℕ) → A n ≡ true → B n ≡ true)
+    → ((n : ℕ) (c : Class) → B n ≡ true → A n ≡ false → slice_get old.roll.classes.items n ≡ Some c → (next : Stage → Transit → Outcome) (p : List ℕ) → course e next p place (transit_of c.progress p) ≡ course e next p at (transit_of c.progress p))
+    → Passed e A place at old new → Passed e B place at old new
+passed_wide e A B place at old new more stay passed next p c w used = elim (passed next p c w used) [
+  | inl h ↦ inl (more (class_at old p) h.0, h.1)
+  | inr h ↦ elim (cases_Bool (B (class_at old p))) [
+    | inl b ↦ inl (b, inl (h.1, stay (class_at old p) c b h.0 used.0 next p))
+    | inr b ↦ inr (b, h.1)
+  ]
+]
+
+-- packets that an instruction leaves as they are go on as behind it
+pub stay_on : (e : Errand) (place : ℕ) (ins : Ins) (g : Progress) → ((next : Stage → Transit → Outcome) (p : List ℕ) → Obeys e next p place ins)
+    → Goes (goings.Behind e.ground.state e.stage place ins.act) 1 g (record { spot = At (place + 1); progress = g })
+    → (next : Stage → Transit → Outcome) (p : List ℕ) → course e next p place (transit_of g p) ≡ course e next p (place + 1) (transit_of g p)
+stay_on e place ins g obeys goes next p =
+    obeys next p (transit_of g p)
+    ∙ either (holds ins.cond (sees e.ground.site.now (kind_of e.ground.state p) e.part (transit_of g p))) (sym (goes.1 (course e next p) next p))
+  where
+    either : {x y : Outcome} → (b : Bool) → x ≡ y → cond b x y ≡ y
+    either true h = h
+    either false h = refl
+
 -- no class passes
 pub passed_none : (e : Errand) (A : ℕ → Bool) (place at : ℕ) (s : Sheet) → ((n : ℕ) → A n ≡ false) → Passed e A place at s s
 passed_none e A place at s none next p c w used = inr (none (class_at s p), refl)
@@ -187,43 +211,6 @@ sent_kept e A place at old mid new sheet tops grows stand passed canvas sent nex
           ∙ sym (future_of (course e next p) next old.roll.classes.items (class_at old p) c p used.0)
     ])
 
--- a class that stands neither before a place nor at it stands not before the next one
-pub behind_place : (place : ℕ) (cs : List Class) (n : ℕ) → stands (is_before place) cs n ≡ false → (StandsAt (At place) cs n → ⊥) → stands (is_before (place + 1)) cs n ≡ false
-behind_place place cs n h apart = elsewhere (slice_get cs n) refl
-  where
-    past : (m : ℕ) → nat_lt m place ≡ false → (m ≡ place → ⊥) → nat_lt m (place + 1) ≡ false
-    past m low d = elim (cases_Bool (nat_eq m place)) [
-      | inl e ↦ absurd (d (eqb-true m place e))
-      | inr e ↦ grind (arith, nat_tests)
-    ]
-
-    spot : (s : Spot) → is_before place s ≡ false → (s ≡ At place → ⊥) → is_before (place + 1) s ≡ false
-    spot Unused low d = refl
-    spot Dropped low d = refl
-    spot (Before stage) low d = refl
-    spot (At m) low d = past m low (λ e. d (ap At e))
-
-    elsewhere : (o : Option Class) → o ≡ slice_get cs n → stands (is_before (place + 1)) cs n ≡ false
-    elsewhere None e = ap (λ (o : Option Class). option_map_or (λ c. is_before (place + 1) c.spot) o false) (sym e)
-    elsewhere (Some c) e = stands_of (is_before (place + 1)) cs n c (sym e)
-        ∙ spot c.spot (sym (stands_of (is_before place) cs n c (sym e)) ∙ h) (λ here. apart (c.progress, sym e ∙ ap (λ (s : Spot). Some (record { spot = s; progress = c.progress })) here))
-
--- no class stands at the place any more, or before it
-pub sent_passed : (A : ℕ → Bool) (place at : ℕ) (old mid new : List Class) → place + 1 ≤ at → ((n : ℕ) → stands (is_before place) old n ≡ false) → ((n : ℕ) → StandsAt (At place) old n → A n ≡ true)
-    → IsOnward place old mid → AreSent (At at) A mid new → (n : ℕ) → stands (is_before (place + 1)) new n ≡ false
-sent_passed A place at old mid new le none all onward sent n = elim (cases_Bool (A n)) [
-  | inl a ↦ ap (λ (o : Option Class). option_map_or (λ c. is_before (place + 1) c.spot) o false) (sent n ∙ ap (λ b. cond b (option_map {T = Class} (λ d. record d { spot = At at }) (slice_get mid n)) (slice_get mid n)) a) ∙ there (slice_get mid n)
-  | inr a ↦ ap (λ (o : Option Class). option_map_or (λ c. is_before (place + 1) c.spot) o false) (sent_away (At at) A mid new n sent a)
-      ∙ onward.comes (place + 1) (le_refl (place + 1)) n (behind_place place old n (none n) (λ s. false≢true (sym a ∙ all n s)))
-]
-  where
-    past : nat_lt at (place + 1) ≡ false
-    past = grind (arith, nat_tests)
-
-    there : (o : Option Class) → option_map_or (λ c. is_before (place + 1) c.spot) (option_map {T = Class} (λ d. record d { spot = At at }) o) false ≡ false
-    there None = refl
-    there (Some c) = past
-
 -- a sheet one of whose classes is put in the place of another is one
 pub put_sheet : (number : ℕ) (d : Class) (old new : Sheet) → is_unused d.spot ≡ false → new.canvas ≡ old.canvas → IsPut number d old.roll.classes.items new.roll.classes.items → IsSheet old → IsSheet new
 put_sheet number d old new used canvas put sheet p w =
@@ -272,3 +259,14 @@ in_parts crowded (g ∷ groups) n = by (is_apart crowded g) (among g.numbers.ite
     by true false i t q e = e
     by false true i t q e = refl
     by false false i t q e = e
+
+-- a sheet with the same classes at the same points is one, and what becomes of each packet stays
+pub same_sheet : (old new : Sheet) → new.canvas ≡ old.canvas → new.roll.classes.items ≡ old.roll.classes.items → IsSheet old → IsSheet new
+same_sheet old new canvas classes sheet p w =
+    let before = sheet p (subst (λ (k : Canvas). IsWithin (painted.tops_of k) p) canvas w) in
+    (before.0, subst (λ n. IsUsed new.roll.classes.items n before.0) (sym (ap (λ k. painted.value_at k p) canvas)) (ap (λ cs. slice_get cs (class_at old p)) classes ∙ before.1.0, before.1.1))
+
+pub same_futures : (old new : Sheet) → new.canvas ≡ old.canvas → new.roll.classes.items ≡ old.roll.classes.items → KeepsFutures old new
+same_futures old new canvas classes at next p w =
+    ap (λ k. future at next new.roll.classes.items (painted.value_at k p) p) canvas
+    ∙ ap (λ cs. future at next cs (class_at old p) p) classes

@@ -23,6 +23,7 @@ mod run;
 mod sheet;
 mod spot;
 mod stages;
+mod stays;
 mod through;
 mod turn;
 mod views;

@@ -39,16 +39,16 @@ impl Roll {
         &self,
         number: u32,
         first: &mut HashMap<Key, u32>,
-        twins: &mut Vec<u32>,
         joined: &mut Vec<u32>,
+        twins: &mut Vec<u32>,
     ) -> Result<(), Memory> {
         let class = self.used(number)?;
         let key = Key::of(class.spot, &class.progress);
         if let Some(twin) = first.get(&key) {
             let twin = *twin;
-            if self.are_twins(twin, number) {
-                note(twins, number, twin);
+            if twin != number && self.are_twins(twin, number) {
                 joined.push(number)?;
+                twins.push(twin)?;
             }
             return Ok(());
         }
@@ -56,19 +56,28 @@ impl Roll {
         Ok(())
     }
 
-    /// Notes the twins of these classes, and which of them have one.
+    /// Notes which of these classes have a twin, and their twins.
     fn note_classes(
         &self,
         alloc: Global,
         numbers: &[u32],
-        twins: &mut Vec<u32>,
         joined: &mut Vec<u32>,
+        twins: &mut Vec<u32>,
     ) -> Result<(), Memory> {
         let mut first = HashMap::new(alloc);
         for number in numbers {
-            self.note_class(*number, &mut first, twins, joined)?;
+            self.note_class(*number, &mut first, joined, twins)?;
         }
         Ok(())
+    }
+
+    /// For each class its twin, or its own number: those that are joined have these twins.
+    fn twins_of(&self, alloc: Global, joined: &[u32], of: &[u32]) -> Result<Vec<u32>, Memory> {
+        let mut twins = own_numbers(alloc, self.count()?)?;
+        for (number, twin) in joined.iter().zip(of) {
+            note(&mut twins, *number, *twin);
+        }
+        Ok(twins)
     }
 
     /// Lets the numbers be given again of those classes that have become their twins. An error is want of memory, and a class
@@ -135,10 +144,14 @@ impl Sheet {
         if numbers.len() < 2 {
             return Ok(());
         }
-        let mut twins = own_numbers(alloc, self.roll.count()?)?;
         let mut joined = Vec::new(alloc);
+        let mut of = Vec::new(alloc);
         self.roll
-            .note_classes(alloc, numbers, &mut twins, &mut joined)?;
+            .note_classes(alloc, numbers, &mut joined, &mut of)?;
+        if joined.is_empty() {
+            return Ok(());
+        }
+        let twins = self.roll.twins_of(alloc, joined.as_slice(), of.as_slice())?;
         self.join(alloc, twins.as_slice(), joined.as_slice())?;
         Ok(())
     }

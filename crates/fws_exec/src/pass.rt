@@ -1,17 +1,16 @@
 //! How classes pass instructions of a part.
 
-ghost use Rattle.std.specs.Prelude.{◌≡◌, ◌<◌, ◌≤◌, ◌+◌, ◌^◌, ℕ, true, false, [], length, slice_get, Some, OnOk};
+ghost use Rattle.std.specs.Prelude.{◌≡◌, ◌<◌, ◌≤◌, ◌+◌, ◌^◌, ℕ, true, false, [], length, slice_get, Some, IfOk, OnOk};
 ghost use Rattle.std.specs.List.{list_all};
 ghost use Rattle.fws_flat.specs.Soundness.{part_ok};
 ghost use Rattle.fws_net.specs.Points.{tops_of};
 ghost use Rattle.fws_flat.specs.declared.code.Ins.{Ins as AnyIns};
 ghost use Rattle.fws_exec.specs.declared.spot.Spot.TheVariants.{At};
-ghost use Rattle.fws_exec.specs.Classes.{is_before};
 ghost use Rattle.fws_exec.specs.Courses.{Keeps};
 ghost use Rattle.fws_exec.specs.Grounds.{IsGround};
 ghost use Rattle.fws_exec.specs.Passing.{Passed, IsOnward};
 ghost use Rattle.fws_exec.specs.Runs.{leaves, run_of};
-ghost use Rattle.fws_exec.specs.Sheets.{among, tops_in, AllAt, IsPut, IsSheet, NoneComes, StandsAt, stands};
+ghost use Rattle.fws_exec.specs.Sheets.{among, tops_in, AllAt, IsPut, IsSheet};
 ghost use Rattle.fws_exec.specs.Views.{is_tagless};
 
 use crate::errand::Errand;
@@ -28,6 +27,16 @@ fn is_always(cond: &Cond) -> bool
     ensures { result ≡ true → cond.now ≡ [] }
 {
     cond.lits().is_empty()
+}
+
+/// The spot behind the place. An error is the last place that can be.
+fn spot_behind(place: u32) -> Result<Spot, Memory>
+    ensures { IfOk result (λ spot. spot ≡ At (place + 1)) }
+{
+    match place.checked_add(1) {
+        Some(behind) => Ok(Spot::At(behind)),
+        None => Err(Memory),
+    }
 }
 
 impl Errand<'_, '_> {
@@ -63,12 +72,14 @@ impl Sheet {
     {
         let ins = &errand.code[at as usize];
         let going = errand.going(at, ins);
+        let behind = spot_behind(at)?;
+        let movers = self.roll.movers(alloc, numbers, going, behind)?;
         self.divide_all(
             alloc,
             &errand.ground,
             errand.part,
             &ins.cond,
-            numbers,
+            movers.as_slice(),
             going,
         )?;
         Ok(())
@@ -90,26 +101,25 @@ impl Sheet {
         requires high { place < errand.now.part.past }
         requires room { place + 1 < 2 ^ 32 }
         requires here { AllAt (At place) self.old.roll.classes.items (among numbers.now) }
-        requires all { (n : ℕ) → StandsAt (At place) self.old.roll.classes.items n → among numbers.now n ≡ true }
-        requires at { (n : ℕ) → stands (is_before place) self.old.roll.classes.items n ≡ false }
         ensures sheet { OnOk result (IsSheet self.new) }
         ensures kept { OnOk result (Keeps errand.now self.old self.new) }
-        ensures passed { OnOk result ((n : ℕ) → stands (is_before (place + 1)) self.new.roll.classes.items n ≡ false) }
         ensures tops { tops_in self.new ≡ tops_in self.old }
     {
         self.meet_ins(alloc, errand, numbers, place)?;
+        self.roll.wait_all(numbers, place + 1)?;
         self.roll.send_all(numbers, Spot::At(place + 1));
         Ok(())
     }
 
     /// The class goes to the place of the one with this number.
-    fn put(&mut self, number: u32, class: Class)
+    fn put(&mut self, number: u32, class: Class) -> Result<(), Memory>
         requires { number < length self.old.roll.classes.items }
-        ensures put { IsPut number class self.old.roll.classes.items self.new.roll.classes.items }
+        ensures put { OnOk result (IsPut number class self.old.roll.classes.items self.new.roll.classes.items) }
         ensures same { self.new.canvas ≡ self.old.canvas }
     {
-        self.roll.arrive(class.spot);
+        self.roll.arrive(number, class.spot)?;
         self.roll.classes[number as usize] = class;
+        Ok(())
     }
 
     /// The class with this number, if it stands at the place, passes the instruction there as a whole.
@@ -128,8 +138,6 @@ impl Sheet {
         requires always { (ins : AnyIns) → slice_get errand.now.code.now place ≡ Some ins → ins.cond ≡ [] }
         ensures sheet { OnOk result (IsSheet self.new) }
         ensures kept { OnOk result (Keeps errand.now self.old self.new) }
-        ensures passed { OnOk result (stands (is_before place) self.old.roll.classes.items number ≡ false → stands (is_before (place + 1)) self.new.roll.classes.items number ≡ false) }
-        ensures spots { OnOk result ((q : ℕ) → q ≤ place + 1 → NoneComes (is_before q) self.old.roll.classes.items self.new.roll.classes.items) }
         ensures tops { tops_in self.new ≡ tops_in self.old }
     {
         if !self.roll.stands(number, Spot::At(place)) {
@@ -137,7 +145,7 @@ impl Sheet {
         }
         let ins = &errand.code[place as usize];
         let class = self.roll.gone(alloc, errand.going(place, ins), number, 1)?;
-        self.put(number, class);
+        self.put(number, class)?;
         Ok(())
     }
 
@@ -155,11 +163,8 @@ impl Sheet {
         requires low { errand.now.part.first ≤ place }
         requires high { place < errand.now.part.past }
         requires always { (ins : AnyIns) → slice_get errand.now.code.now place ≡ Some ins → ins.cond ≡ [] }
-        requires all { (n : ℕ) → StandsAt (At place) self.old.roll.classes.items n → among numbers.now n ≡ true }
-        requires at { (n : ℕ) → stands (is_before place) self.old.roll.classes.items n ≡ false }
         ensures sheet { OnOk result (IsSheet self.new) }
         ensures kept { OnOk result (Keeps errand.now self.old self.new) }
-        ensures passed { OnOk result ((n : ℕ) → stands (is_before (place + 1)) self.new.roll.classes.items n ≡ false) }
         ensures tops { tops_in self.new ≡ tops_in self.old }
     {
         for number in numbers {
@@ -189,11 +194,8 @@ impl Sheet {
         requires tagless { list_all (λ ins. is_tagless ins.cond) (run_of errand.now.code.now place past) ≡ true }
         requires room { place + 1 < 2 ^ 32 }
         requires here { AllAt (At place) self.old.roll.classes.items (among numbers.now) }
-        requires all { (n : ℕ) → StandsAt (At place) self.old.roll.classes.items n → among numbers.now n ≡ true }
-        requires at { (n : ℕ) → stands (is_before place) self.old.roll.classes.items n ≡ false }
         ensures sheet { OnOk result (IsSheet self.new) }
         ensures kept { OnOk result (Keeps errand.now self.old self.new) }
-        ensures passed { OnOk result ((n : ℕ) → stands (is_before (place + 1)) self.new.roll.classes.items n ≡ false) }
         ensures tops { tops_in self.new ≡ tops_in self.old }
     {
         if is_always(&errand.code[place as usize].cond) {

@@ -4,7 +4,7 @@ ghost use Rattle.std.specs.Prelude.{◌≡◌, ◌<◌, ◌≤◌, ℕ, [], ◌�
 ghost use Rattle.fws_tree.specs.Building.{Extends};
 ghost use Rattle.fws_exec.specs.declared.progress.Progress.{Progress as AnyProgress};
 ghost use Rattle.fws_exec.specs.declared.spot.Class.{Class as AnyClass};
-ghost use Rattle.fws_exec.specs.declared.spot.Spot.TheVariants.{Unused};
+ghost use Rattle.fws_exec.specs.declared.spot.Spot.TheVariants.{Unused, At};
 ghost use Rattle.fws_exec.specs.Classes.{is_before, is_unused, same_spot};
 ghost use Rattle.fws_exec.specs.Goings.{Goes};
 ghost use Rattle.fws_exec.specs.Moving.{AddsAt};
@@ -26,6 +26,8 @@ pub(crate) struct Roll {
     pub classes: Vec<Class>,
     /// Numbers whose classes may be unused, to be given again.
     pub spares: Vec<u32>,
+    /// The numbers of the classes that came to each place. Some may have gone on: nothing hangs on them but time.
+    pub waiting: Vec<Vec<u32>>,
     /// Whether a class came to a place otherwise than from the place before, so that it may be equal to another there.
     pub arrivals: Vec<bool>,
     /// The number of the class that was the last one with this key, where one was asked for.
@@ -46,17 +48,28 @@ fn no_arrivals(alloc: Global, places: usize) -> Result<Vec<bool>, Memory> {
     Ok(arrivals)
 }
 
+/// No class at so many places.
+fn none_waiting(alloc: Global, places: usize) -> Result<Vec<Vec<u32>>, Memory> {
+    let mut waiting = Vec::new(alloc);
+    for _ in 0..places {
+        waiting.push(Vec::new(alloc))?;
+    }
+    Ok(waiting)
+}
+
 impl Roll {
     /// The one class, with code of so many places.
     pub(crate) fn of_one(alloc: Global, class: Class, places: usize) -> Result<Roll, Memory>
         ensures { IfOk result (λ r. r.classes.items ≡ class ∷ []) }
     {
+        let waiting = none_waiting(alloc, places.saturating_add(1))?;
         let arrivals = no_arrivals(alloc, places)?;
         let mut classes = Vec::new(alloc);
         classes.push(class)?;
         Ok(Roll {
             classes,
             spares: Vec::new(alloc),
+            waiting,
             arrivals,
             found: HashMap::new(alloc),
         })
@@ -189,19 +202,87 @@ impl Roll {
         if let Some(number) = self.recalled(&key, &class) {
             return Ok(number);
         }
-        self.arrive(class.spot);
+        let spot = class.spot;
         let number = self.add(values, class)?;
+        self.arrive(number, spot)?;
         self.found.insert(key, number)?;
         Ok(number)
     }
 
-    /// Notes that a class came to the spot otherwise than from the place before.
-    pub(crate) fn arrive(&mut self, spot: Spot)
+    /// Notes that the class with this number came to the spot otherwise than from the place before.
+    pub(crate) fn arrive(&mut self, number: u32, spot: Spot) -> Result<(), Memory>
         ensures { self.new.classes ≡ self.old.classes }
     {
         if let Spot::At(place) = spot {
             self.note(place);
+            self.wait(number, place)?;
         }
+        Ok(())
+    }
+
+    /// Notes that the class with this number is at the place. An error is want of memory, and a place that isn't one of the code.
+    fn wait(&mut self, number: u32, place: u32) -> Result<(), Memory>
+        ensures { self.new.classes ≡ self.old.classes }
+    {
+        match self.waiting.get_mut(place as usize) {
+            Some(numbers) => numbers.push(number)?,
+            None => return Err(Memory),
+        }
+        Ok(())
+    }
+
+    /// Notes that the classes with these numbers are at the place.
+    pub(crate) fn wait_all(&mut self, numbers: &[u32], place: u32) -> Result<(), Memory>
+        ensures { self.new.classes ≡ self.old.classes }
+    {
+        for number in numbers {
+            self.wait(*number, place)?;
+        }
+        Ok(())
+    }
+
+    /// Forgets which classes came to the place.
+    pub(crate) fn wait_none(&mut self, alloc: Global, place: u32)
+        ensures { self.new.classes ≡ self.old.classes }
+    {
+        if (place as usize) < self.waiting.len() {
+            self.waiting[place as usize] = Vec::new(alloc);
+        }
+    }
+
+    /// The numbers of the classes that came to the place.
+    fn waiting(&self, place: u32) -> &[u32] {
+        match self.waiting.get(place as usize) {
+            Some(numbers) => numbers.as_slice(),
+            None => &[],
+        }
+    }
+
+    /// Whether a class came to the place, and nobody forgot it.
+    pub(crate) fn is_waited(&self, place: u32) -> bool {
+        !self.waiting(place).is_empty()
+    }
+
+    /// Those of the numbers whose classes stand at the place.
+    fn standing(&self, alloc: Global, came: &[u32], place: u32) -> Result<Vec<u32>, Memory>
+        ensures { IfOk result (λ numbers. AllAt (At place) self.now.classes.items (among numbers.items)) }
+    {
+        let mut numbers = Vec::new(alloc);
+        for number in came {
+            if !self.stands(*number, Spot::At(place)) {
+                continue;
+            }
+            numbers.push(*number)?;
+        }
+        Ok(numbers)
+    }
+
+    /// The numbers of the classes that came to the place and are still there.
+    pub(crate) fn waiting_at(&self, alloc: Global, place: u32) -> Result<Vec<u32>, Memory>
+        ensures { IfOk result (λ numbers. AllAt (At place) self.now.classes.items (among numbers.items)) }
+    {
+        let numbers = self.standing(alloc, self.waiting(place), place)?;
+        Ok(numbers)
     }
 
     /// Notes the place.
@@ -291,16 +372,30 @@ impl Roll {
         }
     }
 
-    /// The first place at which a class stands, from this one on and before the place past; else the place past.
-    pub(crate) fn next_at(&self, place: u32, past: u32) -> u32
+    /// The first place to which a class came, from this one on and before the place past; else the place past.
+    pub(crate) fn next_waited(&self, place: u32, past: u32) -> u32
         ensures low { place ≤ past → place ≤ result }
         ensures high { result ≤ past }
-        ensures none { ((n : ℕ) → stands (is_before place) self.now.classes.items n ≡ false) → (n : ℕ) → stands (is_before result) self.now.classes.items n ≡ false }
     {
-        let mut least = past;
-        for class in self.classes.as_slice() {
-            least = class.spot.lesser(place, least);
+        let mut next = place;
+        while next < past {
+            if self.is_waited(next) {
+                return next;
+            }
+            next += 1;
         }
-        least
+        past
+    }
+
+    /// Whether no class stands at an instruction before the place.
+    pub(crate) fn are_past(&self, place: u32) -> bool
+        ensures { result ≡ true → (n : ℕ) → stands (is_before place) self.now.classes.items n ≡ false }
+    {
+        for class in self.classes.as_slice() {
+            if class.spot.is_before(place) {
+                return false;
+            }
+        }
+        true
     }
 }

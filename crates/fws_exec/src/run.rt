@@ -6,6 +6,7 @@ ghost use Rattle.fws_exec.specs.Runs.{leaves, run_of};
 ghost use Rattle.fws_exec.specs.Views.{is_tag, is_tagless};
 
 use crate::errand::Errand;
+use crate::roll::Roll;
 use fws_flat::{FlatAct, Ins};
 use fws_net::{Cond, Test};
 
@@ -60,8 +61,8 @@ pub(crate) fn run_of(code: &[Ins], place: u32, past: u32) -> &[Ins]
 }
 
 impl Errand<'_, '_> {
-    /// The end of the run that begins at the place and ends before the limit.
-    pub(crate) fn run_end(&self, place: u32, limit: u32) -> u32
+    /// The end of the run that begins at the place and ends before the limit, and before the next place to which a class came.
+    pub(crate) fn run_end(&self, roll: &Roll, place: u32, limit: u32) -> u32
         requires within { limit ≤ length self.now.code.now }
         requires place { place < limit }
         ensures past { result ≤ limit }
@@ -72,6 +73,9 @@ impl Errand<'_, '_> {
         let mut most = limit;
         let mut past = place;
         while past < most {
+            if past > place && roll.is_waited(past) {
+                return past;
+            }
             let ins = &self.code[past as usize];
             if !is_plain(ins) {
                 return past;

@@ -108,15 +108,13 @@ impl Spot {
         }
     }
 
-    /// The lesser of two places: the one at which it is, if that isn't before this one, and the least so far.
-    pub(crate) fn lesser(self, place: u32, least: u32) -> u32
-        ensures low { place ≤ least → place ≤ result }
-        ensures high { result ≤ least }
-        ensures none { is_before place self ≡ false → is_before result self ≡ false }
+    /// Whether it is at an instruction before the place.
+    pub(crate) fn is_before(self, place: u32) -> bool
+        ensures { result ≡ is_before place self }
     {
         match self {
-            Spot::At(at) => { if at < place { least } else { at.min(least) } }
-            _ => least,
+            Spot::At(at) => at < place,
+            _ => false,
         }
     }
 }

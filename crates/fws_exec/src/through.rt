@@ -9,7 +9,6 @@ ghost use Rattle.fws_net.specs.Points.{tops_of};
 ghost use Rattle.fws_scene.specs.Areas.{IsOfSite};
 ghost use Rattle.fws_exec.specs.declared.spot.Spot.TheVariants.{At};
 ghost use Rattle.fws_exec.specs.declared.views.Sides.{Sides as AnySides};
-ghost use Rattle.fws_exec.specs.Classes.{is_before};
 ghost use Rattle.fws_exec.specs.Courses.{Keeps};
 ghost use Rattle.fws_exec.specs.Grounds.{IsGround};
 ghost use Rattle.fws_exec.specs.Passing.{is_apart, is_parted, is_together, Passed, IsOnward};
@@ -269,16 +268,14 @@ impl Sheet {
         requires leaves { list_all (λ ins. leaves past ins.act) (run_of errand.now.code.now place past) ≡ true }
         requires tagless { list_all (λ ins. is_tagless ins.cond) (run_of errand.now.code.now place past) ≡ true }
         requires here { AllAt (At place) self.old.roll.classes.items (among numbers.now) }
-        requires all { (n : ℕ) → StandsAt (At place) self.old.roll.classes.items n → among numbers.now n ≡ true }
-        requires at { (n : ℕ) → stands (is_before place) self.old.roll.classes.items n ≡ false }
         ensures sheet { OnOk result (IsSheet self.new) }
         ensures kept { OnOk result (Keeps errand.now self.old self.new) }
-        ensures passed { OnOk result ((n : ℕ) → stands (is_before (place + 1)) self.new.roll.classes.items n ≡ false) }
         ensures tops { tops_in self.new ≡ tops_in self.old }
     {
         let sides = Sides::of_code(run_of(errand.code, place, past));
         let groups = self.roll.grouped_all(alloc, numbers, sides)?;
         self.divide_and_meet(alloc, errand, sides, groups.all.as_slice(), place, past)?;
+        self.roll.wait_all(numbers, past)?;
         self.roll.send_all(numbers, Spot::At(past));
         Ok(())
     }

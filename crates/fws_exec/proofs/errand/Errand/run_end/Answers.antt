@@ -22,6 +22,9 @@ loop-past-preserved c =
           ∙ all_more (λ ins. is_tagless ins.cond) (run_of c.args.self.now.code.now c.args.place c.loop-past.past) (get_or c.args.self.now.code.now c.loop-past.past c.index-self-past.result) c.loop-past.invariant.tagless (c.is_plain.ensures c.if-not-is_plain.false);
     }
 
+pub returns-then-is_waited-clause-leaves : goal.returns-then-is_waited-clause-leaves
+returns-then-is_waited-clause-leaves c = all_less c.loop-past.past c.loop-past.most (run_of c.args.self.now.code.now c.args.place c.loop-past.past) c.loop-past.invariant.below c.loop-past.invariant.leaves
+
 pub returns-then-not-is_plain-clause-leaves : goal.returns-then-not-is_plain-clause-leaves
 returns-then-not-is_plain-clause-leaves c = all_less c.loop-past.past c.loop-past.most (run_of c.args.self.now.code.now c.args.place c.loop-past.past) c.loop-past.invariant.below c.loop-past.invariant.leaves
 

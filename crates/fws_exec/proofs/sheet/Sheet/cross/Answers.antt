@@ -6,11 +6,8 @@ use Rattle.fws_exec.specs.Classes.{future, is_inside}
 use Rattle.fws_exec.specs.Courses.{course}
 use Rattle.fws_exec.specs.Sheets.{tops_in, class_at}
 use Rattle.fws_exec.specs.Stages.{nowhere}
-use Rattle.fws_exec.proofs.Turning.{enter_future, leave_future, enter_stands, leave_stands}
+use Rattle.fws_exec.proofs.Turning.{enter_future, leave_future, leave_stands}
 use Rattle.fws_exec.proofs.sheet.Sheet.cross.Goals as goal
-
-pub walk-requires-clause-at : goal.walk-requires-clause-at
-walk-requires-clause-at c n = enter_stands c.args.errand.now c.args.self.now.roll.classes.items c.turn.new.self.roll.classes.items n (c.turn.ensures.turned n) (c.requires.between n)
 
 pub returns-clause-between : goal.returns-clause-between
 returns-clause-between c n =

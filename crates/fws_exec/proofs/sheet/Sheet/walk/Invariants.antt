@@ -1,8 +1,7 @@
-use Rattle.std.proofs.Common.{◌≡◌, ℕ, ◌-◌, ◌≤◌, false}
+use Rattle.std.proofs.Common.{◌≡◌, ◌-◌, ◌≤◌}
 use Rattle.fws_net.specs.Points.{tops_of}
-use Rattle.fws_exec.specs.Classes.{is_before}
 use Rattle.fws_exec.specs.Courses.{Keeps}
-use Rattle.fws_exec.specs.Sheets.{tops_in, IsSheet, stands}
+use Rattle.fws_exec.specs.Sheets.{tops_in, IsSheet}
 use Rattle.fws_exec.proofs.sheet.Sheet.walk.Given as goal
 
 abbrev pub invariant-loop-place : goal.invariant-loop-place
@@ -13,7 +12,6 @@ invariant-loop-place l = record {
   kept : Keeps l.errand l.initial.self l.self;
   low : l.errand.part.first ≤ l.place;
   high : l.place ≤ l.past;
-  passed : (n : ℕ) → stands (is_before l.place) l.self.roll.classes.items n ≡ false;
 }
 
 abbrev pub decreases-loop-place : goal.decreases-loop-place
