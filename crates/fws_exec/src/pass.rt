@@ -1,6 +1,6 @@
 //! How classes pass instructions of a part.
 
-ghost use Rattle.std.specs.Prelude.{◌≡◌, ◌<◌, ◌≤◌, ◌+◌, ◌^◌, ℕ, true, false, [], length, slice_get, Some, IfOk, OnOk};
+ghost use Rattle.std.specs.Prelude.{◌≡◌, ◌<◌, ◌≤◌, ◌+◌, ◌^◌, ℕ, true, false, [], length, slice_get, Some, OnOk};
 ghost use Rattle.std.specs.List.{list_all};
 ghost use Rattle.fws_flat.specs.Soundness.{part_ok};
 ghost use Rattle.fws_net.specs.Points.{tops_of};
@@ -27,16 +27,6 @@ fn is_always(cond: &Cond) -> bool
     ensures { result ≡ true → cond.now ≡ [] }
 {
     cond.lits().is_empty()
-}
-
-/// The spot behind the place. An error is the last place that can be.
-fn spot_behind(place: u32) -> Result<Spot, Memory>
-    ensures { IfOk result (λ spot. spot ≡ At (place + 1)) }
-{
-    match place.checked_add(1) {
-        Some(behind) => Ok(Spot::At(behind)),
-        None => Err(Memory),
-    }
 }
 
 impl Errand<'_, '_> {
@@ -72,16 +62,44 @@ impl Sheet {
     {
         let ins = &errand.code[at as usize];
         let going = errand.going(at, ins);
-        let behind = spot_behind(at)?;
-        let movers = self.roll.movers(alloc, numbers, going, behind)?;
         self.divide_all(
             alloc,
             &errand.ground,
             errand.part,
             &ins.cond,
-            movers.as_slice(),
+            numbers,
             going,
         )?;
+        Ok(())
+    }
+
+    /// The classes with these numbers, which stand at the place, go on where the instruction there would leave them as they
+    /// are.
+    fn pass_stayers(
+        &mut self,
+        alloc: Global,
+        errand: &Errand<'_, '_>,
+        numbers: &[u32],
+        place: u32,
+    ) -> Result<(), Memory>
+        requires sheet { IsSheet self.old }
+        requires tops { tops_in self.old ≡ tops_of errand.now.ground.site.now }
+        requires part { part_ok errand.now.code.now errand.now.part ≡ true }
+        requires low { errand.now.part.first ≤ place }
+        requires high { place < errand.now.part.past }
+        requires room { place + 1 < 2 ^ 32 }
+        requires here { AllAt (At place) self.old.roll.classes.items (among numbers.now) }
+        ensures sheet { OnOk result (IsSheet self.new) }
+        ensures kept { OnOk result (Keeps errand.now self.old self.new) }
+        ensures tops { tops_in self.new ≡ tops_in self.old }
+    {
+        let ins = &errand.code[place as usize];
+        let going = errand.going(place, ins);
+        let behind = Spot::At(place + 1);
+        let stayers = self.roll.stayers(alloc, numbers, going, behind)?;
+        self.roll.wait_all(stayers.as_slice(), place + 1)?;
+        self.roll.send_all(stayers.as_slice(), behind);
+        self.roll.find_all(stayers.as_slice())?;
         Ok(())
     }
 
@@ -105,9 +123,11 @@ impl Sheet {
         ensures kept { OnOk result (Keeps errand.now self.old self.new) }
         ensures tops { tops_in self.new ≡ tops_in self.old }
     {
-        self.meet_ins(alloc, errand, numbers, place)?;
-        self.roll.wait_all(numbers, place + 1)?;
-        self.roll.send_all(numbers, Spot::At(place + 1));
+        self.pass_stayers(alloc, errand, numbers, place)?;
+        let movers = self.roll.standing(alloc, numbers, place)?;
+        self.meet_ins(alloc, errand, movers.as_slice(), place)?;
+        self.roll.wait_all(movers.as_slice(), place + 1)?;
+        self.roll.send_all(movers.as_slice(), Spot::At(place + 1));
         Ok(())
     }
 

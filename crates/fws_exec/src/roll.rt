@@ -209,6 +209,26 @@ impl Roll {
         Ok(number)
     }
 
+    /// The class with this number is found by its key from now on.
+    fn find(&mut self, number: u32) -> Result<(), Memory>
+        ensures { self.new.classes ≡ self.old.classes }
+    {
+        let class = self.used(number)?;
+        let key = Key::of(class.spot, &class.progress);
+        self.found.insert(key, number)?;
+        Ok(())
+    }
+
+    /// The classes with these numbers are found by their keys from now on.
+    pub(crate) fn find_all(&mut self, numbers: &[u32]) -> Result<(), Memory>
+        ensures { self.new.classes ≡ self.old.classes }
+    {
+        for number in numbers {
+            self.find(*number)?;
+        }
+        Ok(())
+    }
+
     /// Notes that the class with this number came to the spot otherwise than from the place before.
     pub(crate) fn arrive(&mut self, number: u32, spot: Spot) -> Result<(), Memory>
         ensures { self.new.classes ≡ self.old.classes }
@@ -264,7 +284,12 @@ impl Roll {
     }
 
     /// Those of the numbers whose classes stand at the place.
-    fn standing(&self, alloc: Global, came: &[u32], place: u32) -> Result<Vec<u32>, Memory>
+    pub(crate) fn standing(
+        &self,
+        alloc: Global,
+        came: &[u32],
+        place: u32,
+    ) -> Result<Vec<u32>, Memory>
         ensures { IfOk result (λ numbers. AllAt (At place) self.now.classes.items (among numbers.items)) }
     {
         let mut numbers = Vec::new(alloc);

@@ -1,6 +1,6 @@
 //! Which classes an instruction leaves as they are.
 
-ghost use Rattle.std.specs.Prelude.{◌≡◌, ℕ, true, false, slice_get, Some, IfOk};
+ghost use Rattle.std.specs.Prelude.{◌≡◌, ℕ, true, slice_get, Some, IfOk};
 ghost use Rattle.fws_exec.specs.declared.spot.Class.{Class as AnyClass};
 ghost use Rattle.fws_exec.specs.Goings.{Goes};
 ghost use Rattle.fws_exec.specs.Sheets.{among};
@@ -58,26 +58,26 @@ impl Roll {
         Ok(gone.is(spot, &class.progress))
     }
 
-    /// Those of the numbers whose classes don't just come to the spot when they go at label 1. An error is want of memory,
-    /// and a class that isn't used.
-    pub(crate) fn movers(
+    /// Those of the numbers whose classes stand at the spot, as they are, when they go at label 1. An error is want of
+    /// memory, and a class that isn't used.
+    pub(crate) fn stayers(
         &self,
         alloc: Global,
         numbers: &[u32],
         going: Going,
         spot: Spot,
     ) -> Result<Vec<u32>, Memory>
-        ensures inside { IfOk result (λ movers. (n : ℕ) → among movers.items n ≡ true → among numbers.now n ≡ true) }
-        ensures left { IfOk result (λ movers. (n : ℕ) (c : AnyClass) → among numbers.now n ≡ true → among movers.items n ≡ false → slice_get self.now.classes.items n ≡ Some c → Goes going 1 c.progress (record { spot = spot; progress = c.progress })) }
+        ensures inside { IfOk result (λ stayers. (n : ℕ) → among stayers.items n ≡ true → among numbers.now n ≡ true) }
+        ensures stay { IfOk result (λ stayers. (n : ℕ) (c : AnyClass) → among stayers.items n ≡ true → slice_get self.now.classes.items n ≡ Some c → Goes going 1 c.progress (record { spot = spot; progress = c.progress })) }
     {
-        let mut movers = Vec::new(alloc);
+        let mut stayers = Vec::new(alloc);
         for number in numbers {
             let stays = self.stays(alloc, *number, going, spot)?;
-            if stays {
+            if !stays {
                 continue;
             }
-            movers.push(*number)?;
+            stayers.push(*number)?;
         }
-        Ok(movers)
+        Ok(stayers)
     }
 }
