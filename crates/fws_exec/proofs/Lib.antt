@@ -15,3 +15,4 @@ pub mod Routed
 pub mod Running
 pub mod Sent
 pub mod Turning
+pub mod Untested

@@ -13,11 +13,12 @@ ghost use Rattle.fws_exec.specs.Sheets.{tops_in, class_at, IsSheet};
 ghost use Rattle.fws_exec.specs.Stages.{nowhere, passed, class_outcome};
 
 use crate::errand::Ground;
+use crate::idle::without_idle_tags;
 use crate::sheet::Sheet;
 use crate::spot::{Class, Spot, Stage};
 use crate::stages::Purpose;
 use bumpalo::Bump;
-use fws_flat::{Flat, Part};
+use fws_flat::{Flat, Ins, Part};
 use fws_net::{Outcome, Site, State};
 use fws_num::Memory;
 use fws_scene::{Ways, whole_site};
@@ -86,6 +87,40 @@ fn executed(
     Ok(sheet)
 }
 
+/// The tree of what becomes of each packet of the site where this code stands in the place of the code of `f`.
+fn execute_code(
+    alloc: Global,
+    code: &[Ins],
+    f: &Flat,
+    site: &Site,
+    state: State,
+) -> Result<Tree<Outcome>, Memory>
+    requires sound { IsSound site.now }
+    requires ok { flat_ok (record f.now { code = code.now }) ≡ true }
+    ensures tops { IfOk result (λ t. t.0 ≡ tops_of site.now) }
+    ensures reduced { IfOk result (λ t. IsReduced t.0 t.1) }
+    ensures value { IfOk result (λ t. (p : List ℕ) → IsWithin (tops_of site.now) p → value t.1 p ≡ Some (means (record f.now { code = code.now }) site.now (packet_of p) (kind_of state p))) }
+{
+    let ways = Ways::of_site(alloc, site)?;
+    let purpose = Purpose {
+        site,
+        ways: &ways,
+        state,
+        code,
+    };
+    let sheet = executed(
+        alloc,
+        &purpose,
+        f.arrive.as_slice(),
+        f.deliver.as_slice(),
+        f.forward.as_slice(),
+        f.send.as_slice(),
+    )?;
+    let leaves = sheet.outcomes(alloc, state)?;
+    let tree = sheet.canvas.tree(alloc, leaves.as_slice())?;
+    Ok(tree)
+}
+
 /// The tree of what becomes of each packet of the site: of new ones, or of those of tracked connections,
 /// each with the ends with which its connection sends it. An error is want of memory.
 ///
@@ -103,22 +138,11 @@ pub fn execute_tree(
     ensures reduced { IfOk result (λ t. IsReduced t.0 t.1) }
     ensures value { IfOk result (λ t. (p : List ℕ) → IsWithin (tops_of site.now) p → value t.1 p ≡ Some (means f.now site.now (packet_of p) (kind_of state p))) }
 {
-    let ways = Ways::of_site(alloc, site)?;
-    let purpose = Purpose {
-        site,
-        ways: &ways,
-        state,
-        code: f.code.as_slice(),
-    };
-    let sheet = executed(
-        alloc,
-        &purpose,
-        f.arrive.as_slice(),
-        f.deliver.as_slice(),
-        f.forward.as_slice(),
-        f.send.as_slice(),
-    )?;
-    let leaves = sheet.outcomes(alloc, state)?;
-    let tree = sheet.canvas.tree(alloc, leaves.as_slice())?;
-    Ok(tree)
+    match without_idle_tags(alloc, f)? {
+        Some(code) => {
+            let tree = execute_code(alloc, code.as_slice(), f, site, state)?;
+            Ok(tree)
+        }
+        None => execute_code(alloc, f.code.as_slice(), f, site, state),
+    }
 }

@@ -8,6 +8,7 @@ mod errand;
 mod execution;
 mod going;
 mod groups;
+mod idle;
 mod joining;
 mod key;
 mod marks;
