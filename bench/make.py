@@ -56,9 +56,9 @@ another one for what goes out, by destinations of their own.
 These are in ipfw alone:
 
 redirected: one instance with N redirects of ports to hosts of the LAN, which translates what comes in and goes out by em1.
-addressed: one with N redirects of addresses.
+addressed: one with N redirects of addresses, whose hosts lie behind another interface at a site with 10.0.0.0/8 there.
 instanced: N instances, each of which translates the packets of one network that go out by em1 to an address of its own.
-tagged: N rules tag the packets of sources of their own, and N accept some destination by tag.
+tagged: N rules tag the packets of sources of their own, and N accept or drop packets by tag.
 counted: N rules tag the packets of sources that overlap, and no rule tests a tag.
 
 These are in Cisco IOS alone:
@@ -361,7 +361,7 @@ def instanced_ipfw(rng, count):
 
 def tagged_ipfw(rng, count):
     lines = ['add %d count tag %d ip from 10.%d.%d.0/24 to any' % (k + 1, k + 1, k // 250, k % 250) for k in range(count)]
-    lines += ['add %d allow ip from any to 172.16.%d.%d tagged %d' % (20000 + k, k // 250, k % 250, k + 1) for k in range(count)]
+    lines += ['add %d %s ip from any to any tagged %d' % (20000 + k, rng.choice(['allow', 'deny']), k + 1) for k in range(count)]
     return lines
 
 

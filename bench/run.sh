@@ -74,11 +74,12 @@ doubled iptables blocked 106000
 echo 'family redirects seconds megabytes rows'
 rules_in ipfw redirected 1.5 1000
 rules_in ipfw redirected 4 2000
-rules_in ipfw addressed 1.5 1000
+site=$work/wide rules_in ipfw addressed 1.5 1000
 rules_in ipfw instanced 1.5 1000
 rules_in ipfw tagged 1.5 1000
 rules_in ipfw counted 0.3 1000
-for family in redirected addressed instanced tagged; do doubled ipfw "$family" 1000; done
+for family in redirected instanced tagged; do doubled ipfw "$family" 1000; done
+doubled ipfw addressed 1000 "$work/wide"
 python3 "$top/bench/ratio.py" ipfw skipping 4000 2 "$program" "$site" || status=1
 python3 "$top/bench/ratio.py" ipfw sources 65534 2 "$program" "$site" || status=1
 
