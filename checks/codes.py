@@ -2,8 +2,8 @@
 
 Makes COUNT random flat codes (2,000) and hands them to PROGRAM, the built crates/fws_walks/out/fws_walks: it executes each for new and
 for established packets, and walks the packets at the ends of the intervals of every row. The codes put, test and take away tags,
-hold verdicts, jump, and write ends of all lengths, in one to eight parts. Prints how many points were walked. Exit status 1 where one differs
-from its row; the file with the code stays then, and its name is printed.
+hold verdicts, jump, and write ends of all lengths, in up to eight parts. Prints how many points were walked. Exit status 1 where one differs from
+its row, and the file with the code stays then; or where more than one code in twenty takes over a minute, since its rows are many.
 """
 
 import os
@@ -17,7 +17,7 @@ SITE = os.path.join(os.path.dirname(os.path.abspath(__file__)), '..', 'crates', 
 ADDRESSES = ['10.0.0.1', '10.0.0.7', '10.0.0.8', '10.0.0.255', '203.0.113.1', '203.0.113.2', '198.51.100.9', '198.18.0.1', '127.0.0.1']
 PORTS = ['22', '53', '80', '4000', '65535']
 TAGS = range(6)
-GROUP = 50
+SECONDS = 60
 
 
 def network(rng):
@@ -74,8 +74,8 @@ def act(rng, place, past):
 
 def code(rng, name):
     lines, parts, place = ['code ' + name], [], 0
-    for _ in range(rng.randint(2, 5)):
-        first, past = place, place + rng.randint(2, 8)
+    for _ in range(rng.randint(2, 4)):
+        first, past = place, place + rng.randint(2, 6)
         for at in range(first, past):
             literals = [literal(rng) for _ in range(rng.choice([0, 1, 1, 2]))]
             lines.append(' '.join([str(at), *literals, '->', act(rng, at, past)] if literals else [str(at), act(rng, at, past)]))
@@ -88,15 +88,19 @@ def code(rng, name):
     return lines
 
 
-def try_group(program, name, lines):
-    """How many points were walked, and how many of them differ; None where the program ends otherwise."""
+def try_code(program, name, lines):
+    """How many points were walked, and how many of them differ; None where the program takes too long, and 0 and 1 where it ends
+    otherwise."""
     with open(name, 'w') as f:
         f.write('\n'.join(lines) + '\n')
-    ended = subprocess.run([program, 'codes', SITE, name], stdout=subprocess.PIPE, check=False, timeout=600)
+    try:
+        ended = subprocess.run([program, 'codes', SITE, name], stdout=subprocess.PIPE, check=False, timeout=SECONDS)
+    except subprocess.TimeoutExpired:
+        return None
     counted = re.search(rb' (\d+) points, (\d+) differences', ended.stdout)
     if ended.returncode != 0 or counted is None:
         print(name, 'ended with status', ended.returncode, ended.stdout.decode()[:200])
-        return None
+        return 0, 1
     if int(counted[2]):
         print(ended.stdout.decode(), end='')
     return int(counted[1]), int(counted[2])
@@ -105,21 +109,20 @@ def try_group(program, name, lines):
 def main(program, count=2000, seed=1):
     rng = random.Random(seed)
     folder = tempfile.mkdtemp()
-    walked, differing = 0, 0
-    for begin in range(0, count, GROUP):
-        name = os.path.join(folder, 'codes%d.runs' % begin)
-        lines = []
-        for number in range(begin, min(begin + GROUP, count)):
-            lines += code(rng, 'random %d' % number) + ['']
-        tried = try_group(program, name, lines)
-        if tried is None or tried[1]:
+    walked = differing = long = 0
+    for number in range(count):
+        name = os.path.join(folder, 'code%d.runs' % number)
+        tried = try_code(program, name, code(rng, 'random %d' % number))
+        if tried is None:
+            long += 1
+        elif tried[1]:
             print('kept:', name)
-            differing += 1 if tried is None else tried[1]
+            differing += tried[1]
         else:
+            walked += tried[0]
             os.remove(name)
-        walked += tried[0] if tried else 0
-    print(count, 'codes,', walked, 'points,', differing, 'differences')
-    return 1 if differing or not walked else 0
+    print(count, 'codes,', long, 'of them too long,', walked, 'points,', differing, 'differences')
+    return 1 if differing or not walked or 20 * long > count else 0
 
 
 sys.exit(main(sys.argv[1], *(int(word) for word in sys.argv[2:])))
