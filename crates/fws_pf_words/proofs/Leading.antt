@@ -6,13 +6,17 @@ use Rattle.std.specs.Map.{lookup, set_value}
 use Rattle.std.specs.Option.{option_map_or}
 use Rattle.std.specs.Str.{bytes_eq}
 use Rattle.fws_num.specs.declared.word.Word.{Word}
+use Rattle.fws_pf.specs.declared.macros.Macro.{Macro}
 use Rattle.fws_pf.specs.declared.value_draft.Item.{Item}
 use Rattle.fws_pf.specs.declared.value_draft.ValueDraft.{ValueDraft}
 use Rattle.fws_pf.specs.Values.{Setting}
+use Rattle.fws_pf_words.specs.declared.known_uses.KnownUses.{KnownUses}
 use Rattle.fws_pf_words.specs.declared.long_value.Spot.{Spot}
 use Rattle.fws_pf_words.specs.declared.ways.Way.{Way}
 use Rattle.fws_pf_words.specs.Fronts.{emptied, with_front, within}
 use Rattle.fws_pf_words.specs.Spots.{at_spot, came_again, spot_of}
+use Rattle.fws_pf_words.specs.Uses.{words_named}
+use Rattle.fws_pf_words.specs.UsesKnown.{AreUses, front_named}
 use Rattle.fws_pf_words.specs.WaysKnown.{AreWays, AreWaysOf, IsWay}
 use Rattle.fws_pf_words.proofs.Staying.{words_ahead}
 
@@ -181,3 +185,15 @@ pub found_named : (o : Option Way) (skipped : ℕ) (start : Spot) (known shown :
 found_named o skipped start known shown es name here s h =
     found_as o skipped start _ _
     (λ w f setting words_of items are. f setting (words_of name) items (subst (AreWaysOf setting (words_of name) items) (sym s) (are name known (sym here)))) h
+
+-- Nothing is known
+
+none_there : (setting : Setting) (words_of : List ℕ → List Word) (items : List Item) (entries : List (List ℕ × List Way)) → entries ≡ [] → AreWays setting words_of items entries
+none_there setting words_of items entries none name known h = none_some known (sym (ap (lookup (bytes_eq name)) none) ∙ h)
+
+pub nothing_known : (setting : Setting) (macros : List Macro) (items : List Item) (uses : KnownUses) → uses.wholes.ways.entries ≡ [] → uses.fronts.ways.entries ≡ []
+    → AreUses setting macros items uses
+nothing_known setting macros items uses w f = (
+  none_there setting (words_named macros) items uses.wholes.ways.entries w,
+  none_there setting (front_named macros) items uses.fronts.ways.entries f,
+)

@@ -187,3 +187,14 @@ shown_ranges tables shown places keys ranges items s k are is r = (
   is ∙ are ∙ ap (λ (ts : List Table). own_ranges ts keys) s ∙ ap (own_ranges tables) k,
   subst (λ (l : List ℕ). AreRegularAt tables l) k (subst (λ (ts : List Table). AreRegularAt ts keys) s r),
 )
+
+-- the addresses of a table that names no other are its own
+pub own_alone : (tables : List Table) (name : List ℕ) (p : ℕ) (t : Table) → table_position tables name ≡ Some p → t ≡ table_at tables p → t.named ≡ [] → t.own ≡ table_set tables name
+own_alone [] name p t at is none = absurd (let k : None ≡ Some p = at in cc)
+own_alone (u ∷ tables) name p t at is none =
+    let all = u ∷ tables in
+    let named : table_named all name ≡ Some t = named_at all name ∙ ap (option_map (table_at all)) at ∙ ap (λ (x : Table). Some x) (sym is) in
+    let within = addresses_within (length tables) all in
+    sym
+    (ap (λ (o : Option Table). option_map_or (λ (x : Table). with_sets within x.own x.named) o []) named
+    ∙ ap (with_sets within t.own) none)

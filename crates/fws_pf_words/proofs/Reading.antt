@@ -1,7 +1,7 @@
 -- A word that ends.
-use Rattle.std.proofs.Common.{◌≡◌, ℕ, ◌+◌, ◌-◌, ◌<◌, length, take, drop, get_or, drop-cons, add-one, ap, Bool, true, false, ◌||◌, nat_eq, List, [], ◌∷◌, ◌++◌, append_assoc, refl, sym, ◌∙◌, true≢false, arith}
+use Rattle.std.proofs.Common.{◌≡◌, ℕ, ◌+◌, ◌-◌, ◌<◌, ◌≤◌, length, take, drop, get_or, drop-cons, add-one, ap, Bool, true, false, ◌||◌, nat_eq, List, [], ◌∷◌, ◌++◌, append_assoc, append-nil, refl, sym, ◌∙◌, true≢false, arith}
 use Rattle.std.proofs.lemmas.Bool.Decides.{nat_tests}
-use Rattle.std.proofs.lemmas.List.{take_rest}
+use Rattle.std.proofs.lemmas.List.{drop-drop, length-drop, take_more, take_rest}
 use Rattle.fws_num.specs.declared.word.Word.{Word}
 use Rattle.fws_num.specs.Comments.{is_punctuation}
 use Rattle.fws_num.specs.Words.{is_blank, plain_word, quoted_word}
@@ -62,6 +62,51 @@ ended_ahead old mid new c rest m b d w n t l h =
     h ∙ (λ i. w i ++ words_from (l i) (n i) (t i) (c ∷ rest)) ∙ append_assoc old.words.items (plain_word old.line old.text ∷ []) left
     ∙ ap (λ ws. old.words.items ++ ws)
     (sym ((λ i. words_from old.line (m i) old.text (c ∷ rest)) ∙ parted (begins_pair c rest) (is_punctuation c) old.line old.text c rest b q refl refl d))
+
+goes_on_by : (p q : Bool) (line : ℕ) (text : List ℕ) (c : ℕ) (cs : List ℕ) → is_blank c ≡ false → begins_pair c cs ≡ p → is_punctuation c ≡ q → (p || q) ≡ false
+    → words_from line Plain text (c ∷ cs) ≡ words_from line Plain (text ++ c ∷ []) cs
+goes_on_by false false line text c cs b e f h = rw (b, e, f) refl
+goes_on_by true q line text c cs b e f h = absurd (true≢false h)
+goes_on_by false true line text c cs b e f h = absurd (true≢false h)
+
+-- a word without quotes goes on with a byte that neither is a blank nor divides
+goes_on : (line : ℕ) (text : List ℕ) (c : ℕ) (cs : List ℕ) → is_blank c ≡ false → (begins_pair c cs || is_punctuation c) ≡ false
+    → words_from line Plain text (c ∷ cs) ≡ words_from line Plain (text ++ c ∷ []) cs
+goes_on line text c cs b h = goes_on_by (begins_pair c cs) (is_punctuation c) line text c cs b refl refl h
+
+-- a word without quotes goes on with so many bytes
+abbrev pub GoesOn : List ℕ → ℕ → Type 0
+GoesOn bytes n = (line : ℕ) (text : List ℕ) → words_from line Plain text bytes ≡ words_from line Plain (text ++ take n bytes) (drop n bytes)
+
+pub goes_on_none : (bytes : List ℕ) → GoesOn bytes 0
+goes_on_none bytes line text = ap (λ (t : List ℕ). words_from line Plain t bytes) (sym (append-nil text))
+
+pub goes_on_more : (bytes rest : List ℕ) (i : ℕ) → i < length bytes → rest ≡ drop (i + 1) bytes → is_blank (get_or bytes i 0) ≡ false
+    → (begins_pair (get_or bytes i 0) rest || is_punctuation (get_or bytes i 0)) ≡ false → GoesOn bytes i → GoesOn bytes (i + 1)
+goes_on_more bytes rest i lt r b h on line text =
+    let c = get_or bytes i 0 in
+    let so_far = text ++ take i bytes in
+    on line text
+    ∙ ap (words_from line Plain so_far) (drop-cons bytes i 0 lt ∙ ap (λ k. c ∷ drop k bytes) (sym (add-one i)) ∙ ap (λ cs. c ∷ cs) (sym r))
+    ∙ goes_on line so_far c rest b h
+    ∙ ap (λ t. words_from line Plain t rest) (append_assoc text (take i bytes) (c ∷ []) ∙ ap (λ t. text ++ t) (sym (take_more bytes i 0 lt)))
+    ∙ ap (words_from line Plain (text ++ take (i + 1) bytes)) r
+
+pub all_go_on : (bytes : List ℕ) (n : ℕ) (old new : WordReader) → old.mode ≡ Plain → GoesOn bytes n → new ≡ record old { text = old.text ++ take n bytes }
+    → words_ahead new (drop n bytes) ≡ words_ahead old bytes
+all_go_on bytes n old new m on e = rw (e, m) (ap (λ ws. old.words.items ++ ws) (sym (on old.line old.text)))
+
+-- the loop's step goes no further than the text
+pub step_within : (bytes rest : List ℕ) (i n : ℕ) → i < length bytes → rest ≡ drop (i + 1) bytes → n ≤ length rest → i + 1 + n ≤ length bytes
+step_within bytes rest i n lt r few =
+    let left : length rest ≡ length bytes - (i + 1) = ap length r ∙ length-drop (i + 1) bytes in
+    omega (arith, left, few, lt)
+
+-- the loop's step behind a byte, at a stretch
+pub stretch_read : (old new : WordReader) (bytes rest : List ℕ) (i n : ℕ) (all : List Word) → rest ≡ drop (i + 1) bytes
+    → words_ahead new (drop n rest) ≡ words_ahead old rest → words_ahead old (drop (i + 1) bytes) ≡ all → words_ahead new (drop (i + 1 + n) bytes) ≡ all
+stretch_read old new bytes rest i n all r e f =
+    ap (words_ahead new) (sym (drop-drop n (i + 1) bytes) ∙ ap (drop n) (sym r)) ∙ e ∙ ap (words_ahead old) r ∙ f
 
 -- the loop's step at a byte
 pub byte_read : (old new : WordReader) (bytes : List ℕ) (i : ℕ) (all : List Word) → i < length bytes

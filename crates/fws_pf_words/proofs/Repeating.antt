@@ -1,5 +1,5 @@
 -- Lists in which stretches come again.
-use Rattle.std.proofs.Common.{◌≡◌, ℕ, zero, suc, ◌+◌, ◌≤◌, Bool, true, false, ◌&&◌, List, [], ◌∷◌, ◌++◌, length, take, drop, refl, sym, ap, ◌∙◌, arith}
+use Rattle.std.proofs.Common.{◌≡◌, ℕ, zero, suc, ◌+◌, ◌≤◌, Bool, true, false, ◌&&◌, List, [], ◌∷◌, ◌++◌, length, take, drop, refl, sym, ap, ◌∙◌, append-nil, append_assoc, arith}
 use Rattle.std.proofs.lemmas.List.{length-append, length-take-le, length-drop}
 use Rattle.std.specs.List.{list_all}
 use Rattle.fws_pf.specs.declared.value_draft.Item.{Item}
@@ -133,3 +133,19 @@ again_count ms now kept list from count had new view n h room k =
     let b = ap length (again_list ms now kept list from count view n) in
     let d = stretch_length from count list room in
     let f = ap length view in omega arith
+
+-- A list of which no stretch comes again
+
+ones_few : (ms : List Mark) → ones ms ≤ length ms
+ones_few [] = omega arith
+ones_few (marks.One ∷ ms) = let few = ones_few ms in omega (arith, few)
+ones_few (marks.Again from count ∷ ms) = let few = ones_few ms in omega (arith, few)
+
+-- marks that are as many as the kept items put these alone
+pub all_once : (ms : List Mark) (kept all : List Item) → ones ms ≡ length kept → length ms ≡ length kept → unfolded all ms kept ≡ all ++ kept
+all_once [] [] all o l = sym (append-nil all)
+all_once [] (item ∷ kept) all o l = absurd (omega (arith, l))
+all_once (marks.One ∷ ms) [] all o l = absurd (omega (arith, l))
+all_once (marks.One ∷ ms) (item ∷ kept) all o l =
+    all_once ms kept (all ++ item ∷ []) (omega (arith, o)) (omega (arith, l)) ∙ append_assoc all (item ∷ []) kept
+all_once (marks.Again from count ∷ ms) kept all o l = let few = ones_few ms in absurd (omega (arith, few, o, l))

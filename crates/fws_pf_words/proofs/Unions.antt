@@ -4,6 +4,7 @@ use Rattle.std.specs.List.{AllByRecursion, list_all}
 use Rattle.std.proofs.lemmas.List.{append-nil, append_assoc}
 use Rattle.std.proofs.lemmas.List.Elements.{All-from_recursion}
 use Rattle.std.proofs.lemmas.List.Folds.{list_any-append}
+use Rattle.std.proofs.lemmas.Bool.{false≢true}
 use Rattle.std.proofs.lemmas.Bool.Decides.{nat_tests}
 use Rattle.fws_rule.specs.Literals.{one}
 use Rattle.fws_iv.specs.declared.iv.Iv.{Iv}
@@ -15,7 +16,7 @@ use Rattle.fws_pf.specs.declared.value_draft.Part.TheVariants as parts
 use Rattle.fws_pf.specs.FileText.{skipped_ranges, with_skipped}
 use Rattle.fws_pf.specs.Tables.{empty_table, with_member, with_members}
 use Rattle.fws_pf.specs.Values.{from_below}
-use Rattle.fws_pf_words.specs.Members.{all_ranges, is_ranged, item_ranges, names_of, own_ranges, with_name}
+use Rattle.fws_pf_words.specs.Members.{all_ranges, is_own, is_ranged, item_ranges, names_of, own_ranges, with_name}
 
 abbrev pub Ranged : List Iv → Type 0
 Ranged rs = AllByRecursion (λ (x : Iv). x.lo ≤ x.hi) rs
@@ -181,3 +182,13 @@ pub same_skipped : RangesAreRegular → RangesAddMembers → SameMembersSameList
 same_skipped regular adds same last skip kept list g tests =
     skipped_by last kept skip ∙ same_numbers regular adds same (item_skipped last) skip kept list g (all_skipped last kept) (all_skipped last list) tests
     ∙ sym (skipped_by last list skip)
+
+none_named : (part : Part) (rest : Bool) (names : List (List ℕ)) → (is_own part && rest) ≡ true → (rest ≡ true → names ≡ []) → with_name part names ≡ []
+none_named parts.Every rest names h f = f h
+none_named (parts.Set set) rest names h f = f h
+none_named (parts.Table name) rest names h f = absurd (false≢true h)
+
+-- values of which none is a table name none
+pub names_none : (items : List Item) → list_all (λ (i : Item). is_own i.part) items ≡ true → names_of items ≡ []
+names_none [] h = refl
+names_none (i ∷ items) h = none_named i.part (list_all (λ (x : Item). is_own x.part) items) (names_of items) h (names_none items)

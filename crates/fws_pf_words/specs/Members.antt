@@ -1,5 +1,5 @@
 -- The members of a table: its own ranges, and the names of other tables.
-use Rattle.std.specs.Prelude.{ℕ, ◌-◌, ◌^◌, Bool, nat_le, List, [], ◌∷◌, ◌++◌}
+use Rattle.std.specs.Prelude.{ℕ, ◌-◌, ◌^◌, Bool, true, false, nat_le, List, [], ◌∷◌, ◌++◌}
 use Rattle.std.specs.List.{list_all}
 use Rattle.fws_iv.specs.declared.iv.Iv.{Iv}
 use Rattle.fws_pf.specs.declared.value_draft.Item.{Item}
@@ -28,6 +28,11 @@ all_ranges f (item ∷ items) = f item ++ all_ranges f items
 abbrev pub with_name : Part → List (List ℕ) → List (List ℕ)
 with_name (parts.Table name) names = name ∷ names
 with_name _ names = names
+
+-- the value names no table
+abbrev pub is_own : Part → Bool
+is_own (parts.Table name) = false
+is_own _ = true
 
 -- the tables that values name
 abbrev pub names_of : List Item → List (List ℕ)

@@ -1,6 +1,6 @@
 //! What values and lists ask for: a condition for each choice.
 
-ghost use Rattle.std.specs.Prelude.{◌≡◌, ◌++◌, [], ◌∷◌, map, option_map, IfOk, OnOk};
+ghost use Rattle.std.specs.Prelude.{◌≡◌, ◌++◌, [], ◌∷◌, true, map, option_map, IfOk, IfSome, OnOk};
 ghost use Rattle.fws_rule.specs.Literals.{positive};
 ghost use Rattle.fws_pf.specs.Drawn.{conditions, crossed, implied_flags, value_choices};
 ghost use Rattle.fws_pf.specs.RuleText.{choice_of, item_literals, only};
@@ -142,24 +142,69 @@ fn crossed(alloc: Global, fronts: &[Cond], rests: &[Cond]) -> Result<Items<Cond>
     Ok(all)
 }
 
-/// The condition that always holds, alone.
-fn always(alloc: Global) -> Result<Items<Cond>, Memory>
-    ensures { IfOk result (λ cs. cs ≡ [] ∷ []) }
+/// This condition alone.
+fn alone(alloc: Global, cond: Cond) -> Result<Items<Cond>, Memory>
+    ensures { IfOk result (λ cs. cs ≡ cond ∷ []) }
 {
     let mut all = Items::new(alloc);
-    all.put(Cond::new(alloc))?;
+    all.put(cond)?;
     Ok(all)
+}
+
+/// A condition for each choice, whichever have several.
+fn all_conditions(alloc: Global, choices: &[Choice]) -> Result<Items<Cond>, Memory>
+    ensures { IfOk result (λ cs. cs ≡ conditions choices.now) }
+{
+    match choices.split_first() {
+        None => alone(alloc, Cond::new(alloc)),
+        Some((choice, rest)) => {
+            let rests = all_conditions(alloc, rest)?;
+            crossed(alloc, choice.conds.as_slice(), rests.as_slice())
+        }
+    }
+}
+
+/// The one condition of a choice, if it has just one.
+fn one_cond(choice: &Choice) -> Option<&Cond>
+    ensures { IfSome result (λ c. choice.now.conds ≡ c.now ∷ []) }
+{
+    match choice.conds.as_slice() {
+        [cond] => Some(cond),
+        _ => None,
+    }
+}
+
+/// Puts literals behind those of a condition.
+fn put_copies(alloc: Global, lits: &[Lit], cond: &mut Cond) -> Result<(), Memory>
+    ensures { OnOk result (cond.new ≡ cond.old ++ lits.now) }
+{
+    for lit in lits {
+        cond.put(lit.copy(alloc)?)?;
+    }
+    Ok(())
+}
+
+/// Goes on with the one condition of each choice, and tells whether each has just one.
+fn put_each(alloc: Global, choices: &[Choice], cond: &mut Cond) -> Result<bool, Memory>
+    ensures { IfOk result (λ b. b ≡ true → crossed (cond.old ∷ []) (conditions choices.now) ≡ cond.new ∷ []) }
+{
+    for choice in choices {
+        match one_cond(choice) {
+            Some(one) => put_copies(alloc, one.lits(), cond)?,
+            None => return Ok(false),
+        }
+    }
+    Ok(true)
 }
 
 /// A condition for each choice, the first choice varying slowest. An error is want of memory.
 pub fn conditions(alloc: Global, choices: &[Choice]) -> Result<Items<Cond>, Memory>
     ensures { IfOk result (λ cs. cs ≡ conditions choices.now) }
 {
-    match choices.split_first() {
-        None => always(alloc),
-        Some((choice, rest)) => {
-            let rests = conditions(alloc, rest)?;
-            crossed(alloc, choice.conds.as_slice(), rests.as_slice())
-        }
+    let mut cond = Cond::new(alloc);
+    let is_one = put_each(alloc, choices, &mut cond)?;
+    if is_one {
+        return alone(alloc, cond);
     }
+    all_conditions(alloc, choices)
 }

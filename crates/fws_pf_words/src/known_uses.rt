@@ -1,6 +1,6 @@
 //! Uses of macros within a value.
 
-ghost use Rattle.std.specs.Prelude.{◌≡◌, ◌≤◌, Some, List, length, take, IfOk, OnOk};
+ghost use Rattle.std.specs.Prelude.{◌≡◌, ◌≤◌, true, Some, List, length, take, IfOk, OnOk};
 ghost use Rattle.fws_net.specs.Routes.{IsSound};
 ghost use Rattle.fws_pf.specs.declared.macros.Macro.{Macro as AnyMacro};
 ghost use Rattle.fws_pf.specs.declared.value_draft.Item.{Item as AnyItem};
@@ -43,6 +43,26 @@ impl KnownUses {
             wholes: Ways::new(alloc),
             fronts: Ways::new(alloc),
         }
+    }
+
+    /// Whether nothing is known of any use.
+    fn knows_none(&self) -> bool
+        ensures { result ≡ true → (setting : AnySetting) (macros : List AnyMacro) (items : List AnyItem) → AreUses setting macros items self.now }
+    {
+        if self.wholes.is_empty() {
+            return self.fronts.is_empty();
+        }
+        false
+    }
+
+    /// Forgets what is known.
+    pub fn forget(&mut self, alloc: Global)
+        ensures { (setting : AnySetting) (macros : List AnyMacro) (items : List AnyItem) → AreUses setting macros items self.new }
+    {
+        if self.knows_none() {
+            return;
+        }
+        *self = KnownUses::new(alloc);
     }
 
     /// Takes words that belong to a value and don't end it, up to the first other word, and tells how many. Words of a macro

@@ -37,8 +37,8 @@ pub use limits::{expanded_by, expanded_with, place_size, times};
 pub use lists::ItemList;
 pub use long_value::{LongValue, Spot};
 pub use macros::{
-    Macros, front_words, is_definition, last_joined, meant, name_defined, nothing_is_joined,
-    split_name, used_text, value_behind,
+    Macros, front_words, is_definition, is_use, last_joined, meant, name_defined,
+    nothing_is_joined, split_name, used_text, value_behind,
 };
 pub use members::{KnownTable, empty_table, with_members};
 pub use protocols::{has_port_protocol, has_protocol};

@@ -1,6 +1,6 @@
 //! Long lists of values, in which a stretch that comes again is kept once.
 
-ghost use Rattle.std.specs.Prelude.{◌≡◌, ℕ, ◌+◌, ◌≤◌, Bool, List, [], ◌∷◌, ◌++◌, length, take, drop, IfOk, OnOk};
+ghost use Rattle.std.specs.Prelude.{◌≡◌, ℕ, ◌+◌, ◌≤◌, Bool, List, [], ◌∷◌, ◌++◌, length, take, drop, IfOk, IfSome, OnOk};
 ghost use Rattle.std.specs.List.{list_all};
 ghost use Rattle.fws_pf.specs.declared.value_draft.Item.{Item as AnyItem};
 ghost use Rattle.fws_pf.specs.declared.tables.Table.{Table};
@@ -215,6 +215,17 @@ impl ItemList {
         self.marks.push(Mark::Again(from, count))?;
         self.count = all;
         Ok(())
+    }
+
+    /// The items one after another, if no stretch of them comes again.
+    pub fn once(&self) -> Option<&[Item]>
+        ensures { IfSome result (λ items. items.now ≡ self.now) }
+    {
+        if self.marks.len() == self.kept.len() {
+            Some(self.kept.as_slice())
+        } else {
+            None
+        }
     }
 
     /// Each item of the list at least once, and no other.

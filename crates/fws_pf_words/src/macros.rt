@@ -1,11 +1,12 @@
 //! Macros: what stands for `$` and a name (pf.conf(5)).
 
-ghost use Rattle.std.specs.Prelude.{◌≡◌, ◌↔◌, IsTrue, ℕ, List, ◌++◌, ◌∷◌, [], Ok, Err, Some, None, MatchOption, IfOk, IfSome, OnOk};
+ghost use Rattle.std.specs.Prelude.{◌≡◌, ◌↔◌, IsTrue, false, ℕ, List, ◌++◌, ◌∷◌, [], Ok, Err, Some, None, MatchOption, IfOk, IfSome, OnOk};
 ghost use Rattle.std.specs.List.{list_all};
 ghost use Rattle.std.specs.Option.{ok_or, option_map};
 ghost use Rattle.fws_num.specs.declared.word.Word.{Word as AnyWord};
 ghost use Rattle.fws_num.specs.Words.{is_sound, plain_word};
 ghost use Rattle.fws_net.specs.Reading.{CauseGiven};
+ghost use Rattle.fws_pf.specs.declared.macros.Macro.{Macro as AnyMacro};
 ghost use Rattle.fws_pf.specs.FileText.{is_definition, name_defined, value_behind};
 ghost use Rattle.fws_pf.specs.Macros.{is_name, is_name_byte, meant, meant_by, meant_from, value_of, with_macro};
 ghost use Rattle.fws_pf_words.specs.Uses.{all_but_last, alone_words, behind_name, further_use, joined_words, last_joined, name_ahead, words_named};
@@ -394,6 +395,19 @@ pub fn last_joined(alloc: Global, words: &[Word], text: &[u8]) -> Result<Items<W
 pub fn nothing_is_joined()
     ensures { (words : List AnyWord) → joined_words words [] ≡ words }
 {}
+
+/// Whether the word begins with `$` outside quotes. Any other word stands for itself.
+pub fn is_use(w: &Word) -> bool
+    ensures { (macros : List AnyMacro) → result ≡ false → meant macros w.now ≡ Ok (w.now ∷ []) }
+{
+    if w.quoted {
+        return false;
+    }
+    match w.text.as_slice() {
+        [b'$', ..] => true,
+        _ => false,
+    }
+}
 
 /// The words for which a word stands: those of its macro, where it begins with `$` outside quotes, and else itself.
 pub fn meant(alloc: Global, macros: &Macros, w: &Word) -> Result<Items<Word>, ReadFault>

@@ -5,7 +5,7 @@ ghost use Rattle.std.specs.List.{list_all};
 ghost use Rattle.fws_iv.specs.Ivs.{with_ranges};
 ghost use Rattle.fws_pf.specs.declared.tables.Table.{Table};
 ghost use Rattle.fws_pf.specs.Tables.{empty_table, with_members};
-ghost use Rattle.fws_pf_words.specs.Members.{all_ranges, is_ranged, item_ranges, names_of, own_ranges};
+ghost use Rattle.fws_pf_words.specs.Members.{all_ranges, is_own, is_ranged, item_ranges, names_of, own_ranges};
 ghost use Rattle.fws_pf_words.specs.Reached.{with_places};
 
 use crate::lists::ItemList;
@@ -21,15 +21,20 @@ pub struct KnownTable {
     name: Text,
     own: Ivs,
     members: ItemList,
+    /// Whether it is known to name no other table.
+    alone: bool,
 }
 
 impl Model for KnownTable {
     ghost use Rattle.fws_pf.specs.declared.tables.Table.{Table as Seen};
+    ghost use Rattle.std.specs.Prelude.{◌≡◌, true, []};
     ghost use Rattle.fws_pf_words.specs.Members.{names_of};
 
     ghost Value = { Seen };
 
     ghost view = { λ t. record { name = t.name; own = t.own; named = names_of t.members } };
+
+    ghost invariant = { λ t. t.alone ≡ true → names_of t.members ≡ [] };
 }
 
 impl KnownTable {
@@ -45,6 +50,13 @@ impl KnownTable {
         ensures { result.now ≡ self.now.own }
     {
         &self.own
+    }
+
+    /// Whether it is known to name no other table.
+    pub(crate) fn is_alone(&self) -> bool
+        ensures { result ≡ true → self.now.named ≡ [] }
+    {
+        self.alone
     }
 
     /// Members among which is each table that it names.
@@ -63,6 +75,7 @@ pub fn empty_table(alloc: Global, name: Text) -> KnownTable
         name,
         own: Ivs::none(alloc),
         members: ItemList::new(alloc),
+        alone: true,
     }
 }
 
@@ -122,6 +135,31 @@ fn own_of(alloc: Global, items: &[Item]) -> Result<Ivs, Memory>
     Ok(own)
 }
 
+/// Whether the value names no table.
+fn is_own(part: &Part) -> bool
+    ensures { result ≡ is_own part.now }
+{
+    match part {
+        Part::Every => true,
+        Part::Set(_) => true,
+        Part::Table(_) => false,
+    }
+}
+
+/// Whether none of the values names a table.
+fn are_own(items: &[Item]) -> bool
+    ensures { result ≡ list_all (λ i. is_own i.part) items.now }
+{
+    items.iter().all(|item| is_own(&item.part))
+}
+
+/// Whether none of the values of a list names a table.
+fn names_none(items: &ItemList) -> bool
+    ensures { result ≡ true → names_of items.now ≡ [] }
+{
+    are_own(items.kept())
+}
+
 /// The table of this name with these members, one after another. Of n ranges the time is that of n log n steps; a stretch of the
 /// list that comes again takes none. An error is want of memory.
 pub fn with_members(alloc: Global, name: Text, items: ItemList) -> Result<KnownTable, Memory>
@@ -131,9 +169,11 @@ pub fn with_members(alloc: Global, name: Text, items: ItemList) -> Result<KnownT
     ranges_add_members();
     same_members_same_list();
     let own = own_of(alloc, items.kept())?;
+    let alone = names_none(&items);
     Ok(KnownTable {
         name,
         own,
         members: items,
+        alone,
     })
 }

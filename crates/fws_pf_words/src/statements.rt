@@ -1,11 +1,11 @@
 //! The statements of a text: lines that are joined, and their words and punctuation (pf.conf(5)).
 
-ghost use Rattle.std.specs.Prelude.{◌≡◌, ◌+◌, ◌||◌, ◌∷◌, ◌++◌, [], List, ℕ, false, length, IfOk, OnOk};
+ghost use Rattle.std.specs.Prelude.{◌≡◌, ◌+◌, ◌≤◌, ◌||◌, ◌∷◌, ◌++◌, [], List, ℕ, false, length, take, drop, IfOk, OnOk};
 ghost use Rattle.std.specs.List.{list_any};
 ghost use Rattle.std.specs.Str.{bytes_eq};
 ghost use Rattle.fws_num.specs.Comments.{is_punctuation};
 ghost use Rattle.fws_num.specs.Lines.{last_line};
-ghost use Rattle.fws_pf.specs.Statements.{begins_pair, is_mark, pairs, read_statement, statements_of, words_of};
+ghost use Rattle.fws_pf.specs.Statements.{begins_pair, is_mark, pairs, read_statement, statements_of, words_from, words_of};
 ghost use Rattle.fws_pf_words.specs.Ahead.{statements_ahead, words_ahead};
 
 use fws_num::{
@@ -13,12 +13,9 @@ use fws_num::{
     next_number, split_once, without_carriage_return,
 };
 use fws_pf::Mode;
-use fws_rule::{before_mark, is, is_one_of};
+use fws_rule::{before_mark, is};
 use std::alloc::Global;
 use std::mem;
-
-/// Two bytes that stand as one word.
-const PAIRS: [&[u8]; 6] = [b"->", b"><", b"<>", b"!=", b"<=", b">="];
 
 /// What was read of a statement: its words, and the text of the word that has begun.
 #[derive(Drop)]
@@ -34,7 +31,12 @@ struct WordReader {
 fn is_pair(first: u8, second: u8) -> bool
     ensures { result ≡ list_any (bytes_eq (first ∷ second ∷ [])) pairs }
 {
-    is_one_of(&PAIRS, &[first, second])
+    (first == b'-' && second == b'>')
+        || (first == b'>' && second == b'<')
+        || (first == b'<' && second == b'>')
+        || (first == b'!' && second == b'=')
+        || (first == b'<' && second == b'=')
+        || (first == b'>' && second == b'=')
 }
 
 /// Whether the byte makes one word with the next one.
@@ -52,6 +54,22 @@ fn divides(c: u8, rest: &[u8]) -> bool
     ensures { result ≡ (begins_pair c rest.now || is_punctuation c) }
 {
     begins_pair(c, rest) || is_punctuation(c)
+}
+
+/// How many bytes ahead of the first one with which a word without quotes ends.
+fn plain_count(bytes: &[u8]) -> usize
+    ensures few { result ≤ length bytes.now }
+    ensures plain { (line : ℕ) (text : List ℕ) → words_from line Mode.Plain text bytes.now ≡ words_from line Mode.Plain (text ++ take result bytes.now) (drop result bytes.now) }
+{
+    for i in 0..bytes.len() {
+        if is_blank(bytes[i]) {
+            return i;
+        }
+        if divides(bytes[i], &bytes[i + 1..]) {
+            return i;
+        }
+    }
+    bytes.len()
 }
 
 impl WordReader {
@@ -173,6 +191,21 @@ impl WordReader {
         }
     }
 
+    /// Takes the bytes with which a word without quotes goes on, all at once, and gives how many they are.
+    fn go_on(&mut self, bytes: &[u8]) -> Result<usize, Memory>
+        ensures few { IfOk result (λ n. n ≤ length bytes.now) }
+        ensures taken { IfOk result (λ n. words_ahead self.new (drop n bytes.now) ≡ words_ahead self.old bytes.now) }
+    {
+        match self.mode {
+            Mode::Plain => {
+                let n = plain_count(bytes);
+                self.text.put(&bytes[..n])?;
+                Ok(n)
+            }
+            _ => Ok(0),
+        }
+    }
+
     /// Ends the statement.
     fn finish(&mut self) -> Result<(), Memory>
         ensures { OnOk result (self.new.words.items ≡ words_ahead self.old []) }
@@ -200,8 +233,11 @@ pub(crate) fn words_of(alloc: Global, line: u32, bytes: &[u8]) -> Result<Vec<Wor
         mode: Mode::Between,
         text: Text::new(alloc),
     };
-    for i in 0..bytes.len() {
-        reader.feed(bytes[i], &bytes[i + 1..])?;
+    let mut i = 0;
+    while i < bytes.len() {
+        let rest = &bytes[i + 1..];
+        reader.feed(bytes[i], rest)?;
+        i = i + 1 + reader.go_on(rest)?;
     }
     reader.finish()?;
     Ok(reader.words)

@@ -1,6 +1,6 @@
 //! The addresses of tables, which may name one another.
 
-ghost use Rattle.std.specs.Prelude.{◌≡◌, ◌<◌, ℕ, List, length, slice_index_or, IfOk, OnOk};
+ghost use Rattle.std.specs.Prelude.{◌≡◌, ◌<◌, ℕ, List, length, slice_index_or, IfOk, IfSome, OnOk};
 ghost use Rattle.fws_pf.specs.Tables.{part_set, table_set};
 ghost use Rattle.fws_pf_words.specs.Members.{names_of, with_name};
 ghost use Rattle.fws_pf_words.specs.Reached.{AreRegularAt, IsClosure, IsPlace, own_ranges, table_at, with_place, with_places};
@@ -91,8 +91,8 @@ fn own_ranges(alloc: Global, tables: &[KnownTable], places: &[usize]) -> Result<
 }
 
 /// The addresses of the table with this name: those that stand in it and in the tables that it reaches, near-linear in what these
-/// hold. There are none where no table has the name. An error is want of memory.
-fn table_set(alloc: Global, tables: &Tables, name: &Text) -> Result<Ivs, Memory>
+/// hold. There are none where no table has the name.
+fn reached_set(alloc: Global, tables: &Tables, name: &Text) -> Result<Ivs, Memory>
     ensures { IfOk result (λ set. set ≡ table_set tables.now name.now) }
 {
     same_members_same_list();
@@ -102,6 +102,30 @@ fn table_set(alloc: Global, tables: &Tables, name: &Text) -> Result<Ivs, Memory>
     let places = reached(alloc, tables, name)?;
     let ranges = own_ranges(alloc, tables.as_slice(), places.as_slice())?;
     Ok(Ivs::of_ranges(alloc, ranges.as_slice())?)
+}
+
+/// The table with this name, if it is known to name no other.
+fn lone_table<'a>(tables: &'a Tables, name: &Text) -> Option<&'a KnownTable>
+    ensures { IfSome result (λ t. t.now.own ≡ table_set tables.now name.now) }
+{
+    match tables.position(name) {
+        Some(place) => {
+            let table = table_at(tables.as_slice(), place);
+            if table.is_alone() { Some(table) } else { None }
+        }
+        None => None,
+    }
+}
+
+/// The addresses of the table with this name. Those of a table that names no other are the ones that stand in it, which all uses share.
+/// An error is want of memory.
+fn table_set(alloc: Global, tables: &Tables, name: &Text) -> Result<Ivs, Memory>
+    ensures { IfOk result (λ set. set ≡ table_set tables.now name.now) }
+{
+    match lone_table(tables, name) {
+        Some(table) => table.own().copy(alloc),
+        None => reached_set(alloc, tables, name),
+    }
 }
 
 /// The numbers of a value; none where every one is among them. An error is want of memory.

@@ -198,6 +198,13 @@ impl Ways {
         }
     }
 
+    /// Whether no way is known.
+    pub(crate) fn is_empty(&self) -> bool
+        ensures { result ≡ true → self.now.ways.entries ≡ [] }
+    {
+        self.ways.is_empty()
+    }
+
     /// A way of the words of this name from a place, if one is known.
     fn find(&self, name: &Text, skipped: usize, start: Spot) -> Option<Way>
         ensures { IfSome result (λ way. (way.skipped ≡ skipped) × (way.start ≡ start) ×

@@ -1,5 +1,5 @@
 use Rattle.fws_pf_words.proofs.Reaching.{are_ranges, closure_is, shown_ranges}
-use Rattle.fws_pf_words.proofs.tables.table_set.Goals as goal
+use Rattle.fws_pf_words.proofs.tables.reached_set.Goals as goal
 
 pub of_ranges-requires : goal.of_ranges-requires
 of_ranges-requires c =
