@@ -20,8 +20,8 @@ fn implies_flags(d: &Draft) -> bool
     passes(d.verb) && !d.stateless && !d.has_flags
 }
 
-/// Puts what a place asks for behind the rest, if values stand at it.
-fn put_place(
+/// Puts what a place asks for behind the rest, where stretches of its list come again.
+fn put_unfolded(
     alloc: Global,
     tables: &Tables,
     place: Place,
@@ -32,6 +32,22 @@ fn put_place(
 {
     let items = list.to_items(alloc)?;
     put_choice(alloc, tables, place, items.as_slice(), all)
+}
+
+/// Puts what a place asks for behind the rest, if values stand at it.
+fn put_place(
+    alloc: Global,
+    tables: &Tables,
+    place: Place,
+    list: &ItemList,
+    all: &mut Items<Choice>,
+) -> Result<(), Memory>
+    ensures { OnOk result (all.new ≡ all.old ++ value_choices tables.now (test_at place) list.now) }
+{
+    match list.once() {
+        Some(items) => put_choice(alloc, tables, place, items, all),
+        None => put_unfolded(alloc, tables, place, list, all),
+    }
 }
 
 /// Puts the values of its places behind the rest.

@@ -9,6 +9,7 @@ ghost use Rattle.fws_pf.specs.declared.statement.Statement.TheVariants as any;
 ghost use Rattle.fws_pf.specs.RuleText.{fresh_rule, rule_step};
 ghost use Rattle.fws_pf.specs.StatementText.{words_taken};
 ghost use Rattle.fws_pf_words.specs.UsesKnown.{AreUses, ArePiece};
+ghost use Rattle.fws_pf_read.specs.Views.{draft_of};
 
 use crate::asked::OptionChoices;
 use crate::checks::draft_checks;
@@ -24,10 +25,11 @@ use fws_pf_words::{ItemList, KnownUses, LongValue, Setting, Source, Tables, Tags
 use std::alloc::Global;
 use std::marker::Model;
 
-/// A rule that is read. Contracts see its draft, in which the names of tags are a list.
+/// A rule that is read: its draft stands on the heap, so that it is moved at no cost from word to word. Contracts see the draft, in
+/// which the names of tags are a list.
 #[derive(Drop)]
 pub(crate) struct Rule {
-    draft: Draft,
+    draft: Box<Draft>,
 }
 
 impl Model for Rule {
@@ -37,7 +39,7 @@ impl Model for Rule {
 
     ghost use Rattle.fws_pf_read.specs.Views.{draft_of};
 
-    ghost view = { λ r. draft_of r.draft };
+    ghost view = { λ r. draft_of r.draft.value };
 }
 
 impl Rule {
@@ -55,6 +57,11 @@ impl Rule {
         self.draft.expects
     }
 
+    /// Whether the next word stands in a list.
+    pub(crate) fn is_in_list(&self) -> bool {
+        self.draft.value.spot().in_list
+    }
+
     /// The names of all tags so far.
     pub(crate) fn into_tags(self, alloc: Global) -> Tags
         ensures { result ≡ self.tags }
@@ -69,55 +76,66 @@ impl Rule {
     pub(crate) fn filter_rule(&self, cond: Cond) -> PfRule
         ensures { result ≡ filter_rule self.now cond }
     {
-        made::filter_rule(&self.draft, cond)
+        made::filter_rule(&*self.draft, cond)
     }
 
     /// The translation with this condition.
     pub(crate) fn translation(&self, cond: Cond) -> PfNat
         ensures { result ≡ translation self.now cond }
     {
-        made::translation(&self.draft, cond)
+        made::translation(&*self.draft, cond)
     }
 }
 
-/// A rule before its words, in a text that has had these tags.
+/// The draft of a rule before its words, in a text that has had these tags.
+fn fresh_draft(alloc: Global, verb: Verb, negated: bool, expects: Expects, tags: Tags) -> Draft
+    ensures { draft_of result ≡ fresh_rule verb negated expects tags }
+{
+    Draft {
+        verb,
+        negated,
+        expects,
+        value: LongValue::new(alloc, ValueKind::Interface),
+        past: false,
+        way: Way::Both,
+        quick: false,
+        faces: ItemList::new(alloc),
+        protocols: ItemList::new(alloc),
+        sources: ItemList::new(alloc),
+        source_ports: ItemList::new(alloc),
+        destinations: ItemList::new(alloc),
+        destination_ports: ItemList::new(alloc),
+        options: OptionChoices::new(alloc),
+        has_flags: false,
+        tests_flags: false,
+        has_icmp_type: false,
+        has_state: false,
+        stateless: false,
+        has_tag: false,
+        has_tagged: false,
+        has_label: false,
+        tag: None,
+        target: None,
+        tags,
+    }
+}
+
+/// A rule before its words, in a text that has had these tags. An error is want of memory.
 pub(crate) fn fresh_rule(
     alloc: Global,
     verb: Verb,
     negated: bool,
     expects: Expects,
     tags: Tags,
-) -> Rule
-    ensures { result ≡ fresh_rule verb negated expects tags }
+) -> Result<Rule, Memory>
+    ensures { IfOk result (λ r. r ≡ fresh_rule verb negated expects tags) }
 {
-    Rule {
-        draft: Draft {
-            verb,
-            negated,
-            expects,
-            value: LongValue::new(alloc, ValueKind::Interface),
-            past: false,
-            way: Way::Both,
-            quick: false,
-            faces: ItemList::new(alloc),
-            protocols: ItemList::new(alloc),
-            sources: ItemList::new(alloc),
-            source_ports: ItemList::new(alloc),
-            destinations: ItemList::new(alloc),
-            destination_ports: ItemList::new(alloc),
-            options: OptionChoices::new(alloc),
-            has_flags: false,
-            tests_flags: false,
-            has_icmp_type: false,
-            has_state: false,
-            stateless: false,
-            has_tag: false,
-            has_tagged: false,
-            has_label: false,
-            tag: None,
-            target: None,
-            tags,
-        },
+    match Box::new(alloc, fresh_draft(alloc, verb, negated, expects, tags)) {
+        Ok(draft) => Ok(Rule { draft }),
+        Err(failed) => {
+            dismiss_draft(failed.value);
+            Err(Memory)
+        }
     }
 }
 
@@ -131,7 +149,7 @@ pub(crate) fn rule_step(
     requires { IsSound setting.now.site }
     ensures { StepGiven result rule.new (rule_step setting.now w.now rule.old) }
 {
-    draft_step(alloc, setting, w, &mut rule.draft)
+    draft_step(alloc, setting, w, &mut *rule.draft)
 }
 
 /// Takes words that belong to the value at which the rule is and don't end it, up to the first other word, and tells how many.
@@ -151,12 +169,12 @@ pub(crate) fn rule_within(
     ensures known { (macros : List AnyMacro) → ArePiece macros source name.now words.now → AreUses setting.now macros rule.old.value.items uses.old
         → OnOk result (AreUses setting.now macros rule.new.value.items uses.new) }
 {
-    draft_within(alloc, setting, uses, source, name, words, &mut rule.draft)
+    draft_within(alloc, setting, uses, source, name, words, &mut *rule.draft)
 }
 
 /// Drops a rule: in a function of its own, since each function that drops one has to walk through all that it owns.
 pub(crate) fn dismiss_rule(rule: Rule) {
-    dismiss_draft(rule.draft);
+    dismiss_draft(Box::into_inner(rule.draft));
 }
 
 /// The rule of all its words. One that ends too early is refused.
@@ -164,7 +182,7 @@ pub(crate) fn rule_ended(alloc: Global, rule: Rule) -> Result<Rule, ReadFault>
     ensures { CauseGiven result (rule_ended rule) }
 {
     let mut whole = rule;
-    match draft_ended(alloc, &mut whole.draft) {
+    match draft_ended(alloc, &mut *whole.draft) {
         Ok(()) => Ok(whole),
         Err(fault) => {
             dismiss_rule(whole);
@@ -177,7 +195,7 @@ pub(crate) fn rule_ended(alloc: Global, rule: Rule) -> Result<Rule, ReadFault>
 pub(crate) fn choices(alloc: Global, tables: &Tables, rule: &Rule) -> Result<Items<Choice>, Memory>
     ensures { IfOk result (λ cs. cs ≡ choices tables.now rule.now) }
 {
-    draft_choices(alloc, tables, &rule.draft)
+    draft_choices(alloc, tables, &*rule.draft)
 }
 
 /// The checks of a whole rule, behind statements that made so many rules where they made more than one. An error is want
@@ -190,5 +208,5 @@ pub(crate) fn rule_checks(
 ) -> Result<Checks, Memory>
     ensures { IfOk result (λ c. c ≡ rule_checks tables.now expanded rule.now) }
 {
-    draft_checks(alloc, tables, expanded, &rule.draft)
+    draft_checks(alloc, tables, expanded, &*rule.draft)
 }

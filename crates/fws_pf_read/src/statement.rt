@@ -8,7 +8,7 @@ ghost use Rattle.fws_net.specs.Reading.{StepGiven, and_then};
 ghost use Rattle.fws_net.specs.Routes.{IsSound};
 ghost use Rattle.fws_pf.specs.declared.macros.Macro.{Macro as AnyMacro};
 ghost use Rattle.fws_pf.specs.declared.statement.Statement.TheVariants as any;
-ghost use Rattle.fws_pf.specs.RuleText.{rule_step};
+ghost use Rattle.fws_pf.specs.RuleText.{fresh_rule, rule_step};
 ghost use Rattle.fws_pf.specs.StatementText.{begun, fault, negated, other_begun, rule_begun, set_step, skip_on_step, skip_step, statement_step, table_step, word_taken, words_taken};
 ghost use Rattle.fws_pf_words.specs.TableSteps.{table_seen};
 ghost use Rattle.fws_pf_words.specs.UsesKnown.{AreUses, ArePiece};
@@ -62,29 +62,31 @@ pub(crate) fn dismiss(s: Statement) {
     }
 }
 
-/// The rule that a word begins, which takes the tags.
-fn rule_begun(alloc: Global, tags: &mut Tags, action: ActionWord) -> Statement
-    ensures given { seen result ≡ rule_begun tags.old action }
-    ensures kept { AreTags tags.old result tags.new }
+/// The statement of a rule before its words, which takes the tags. An error is want of memory.
+fn fresh_statement(
+    alloc: Global,
+    tags: &mut Tags,
+    verb: Verb,
+    negated: bool,
+    expects: Expects,
+) -> Result<Statement, Memory>
+    ensures given { IfOk result (λ s. seen s ≡ any.Rule (fresh_rule verb negated expects tags.old)) }
+    ensures kept { IfOk result (λ s. AreTags tags.old s tags.new) }
 {
-    let tags = tags.take(alloc);
+    let rule = fresh_rule(alloc, verb, negated, expects, tags.take(alloc))?;
+    Ok(Statement::Rule(rule))
+}
+
+/// The rule that a word begins, which takes the tags. An error is want of memory.
+fn rule_begun(alloc: Global, tags: &mut Tags, action: ActionWord) -> Result<Statement, Memory>
+    ensures given { IfOk result (λ s. seen s ≡ rule_begun tags.old action) }
+    ensures kept { IfOk result (λ s. AreTags tags.old s tags.new) }
+{
     match action {
-        ActionWord::Block => Statement::Rule(fresh_rule(
-            alloc,
-            Verb::Block,
-            false,
-            Expects::Answer,
-            tags,
-        )),
-        ActionWord::Pass => {
-            Statement::Rule(fresh_rule(alloc, Verb::Pass, false, Expects::Way, tags))
-        }
-        ActionWord::Rdr => {
-            Statement::Rule(fresh_rule(alloc, Verb::Rdr, false, Expects::Past, tags))
-        }
-        ActionWord::Nat => {
-            Statement::Rule(fresh_rule(alloc, Verb::Nat, false, Expects::Past, tags))
-        }
+        ActionWord::Block => fresh_statement(alloc, tags, Verb::Block, false, Expects::Answer),
+        ActionWord::Pass => fresh_statement(alloc, tags, Verb::Pass, false, Expects::Way),
+        ActionWord::Rdr => fresh_statement(alloc, tags, Verb::Rdr, false, Expects::Past),
+        ActionWord::Nat => fresh_statement(alloc, tags, Verb::Nat, false, Expects::Past),
     }
 }
 
@@ -115,7 +117,7 @@ fn begun(alloc: Global, tags: &mut Tags, w: &Word) -> Result<Statement, ReadFaul
     ensures kept { IfOk result (λ s. AreTags tags.old s tags.new) }
 {
     match action_word(w.text.as_slice()) {
-        Some(action) => Ok(rule_begun(alloc, tags, action)),
+        Some(action) => Ok(rule_begun(alloc, tags, action)?),
         None => other_begun(alloc, tags, w),
     }
 }
@@ -127,12 +129,10 @@ fn negated(alloc: Global, tags: &mut Tags, w: &Word) -> Result<Statement, ReadFa
 {
     let text = w.text.as_slice();
     if is(text, b"rdr") {
-        let tags = tags.take(alloc);
-        return Ok(Statement::Rule(fresh_rule(alloc, Verb::Rdr, true, Expects::Past, tags)));
+        return Ok(fresh_statement(alloc, tags, Verb::Rdr, true, Expects::Past)?);
     }
     if is(text, b"nat") {
-        let tags = tags.take(alloc);
-        return Ok(Statement::Rule(fresh_rule(alloc, Verb::Nat, true, Expects::Past, tags)));
+        return Ok(fresh_statement(alloc, tags, Verb::Nat, true, Expects::Past)?);
     }
     Err(ReadFault::Bad(misplaced(text)))
 }
@@ -292,6 +292,16 @@ pub(crate) fn are_printed(text: &[u8]) -> bool
     ensures { result ≡ list_all is_printed text.now }
 {
     text.iter().all(|c| 33 <= *c && *c <= 126)
+}
+
+/// Whether the statement is within a list, in which uses of macros may come again.
+pub(crate) fn is_in_list(s: &Statement) -> bool {
+    match s {
+        Statement::Rule(rule) => rule.is_in_list(),
+        Statement::Table(d) => d.members.spot().in_list,
+        Statement::SkipOn(v) => v.spot().in_list,
+        _ => false,
+    }
 }
 
 /// Whether words that can be judged change nothing any more.

@@ -6,7 +6,6 @@ ghost use Rattle.fws_num.specs.Words.{is_sound};
 ghost use Rattle.fws_net.specs.Routes.{IsSound};
 ghost use Rattle.fws_pf.specs.declared.macros.Macro.{Macro as AnyMacro};
 ghost use Rattle.fws_pf.specs.declared.statement.Statement.TheVariants as any;
-ghost use Rattle.fws_pf.specs.declared.value_draft.Item.{Item as AnyItem};
 ghost use Rattle.fws_pf.specs.Values.{Setting as AnySetting};
 ghost use Rattle.fws_pf.specs.Macros.{meant};
 ghost use Rattle.fws_pf.specs.StatementText.{meant_taken, raw_taken, raws_taken, statement_ended, statement_read, table_ended, words_taken};
@@ -17,23 +16,18 @@ ghost use Rattle.fws_pf_read.specs.Statements.{AreTags, StatementGiven, items_of
 
 use crate::rule::{Rule, rule_ended};
 use crate::statement::{
-    Statement, are_printed, dismiss, passes_over, refused, statement_within, words_taken,
+    Statement, are_printed, dismiss, is_in_list, passes_over, refused, statement_within,
+    words_taken,
 };
 use fws_net::{Cause, ReadFault};
 use fws_num::{Memory, Text, Word};
 use fws_pf::TableExpects;
 use fws_pf_words::{
-    KnownUses, LongTable, LongValue, Macros, Setting, Source, Tags, front_words, last_joined,
-    meant, nothing_is_joined, split_name, used_text,
+    KnownUses, LongTable, LongValue, Macros, Setting, Source, Tags, front_words, is_use,
+    last_joined, meant, nothing_is_joined, split_name, used_text,
 };
 use std::alloc::Global;
-
-/// Forgets what is known of uses.
-fn forget(alloc: Global, uses: &mut KnownUses)
-    ensures { (setting : AnySetting) (macros : List AnyMacro) (items : List AnyItem) → AreUses setting macros items uses.new }
-{
-    *uses = KnownUses::new(alloc);
-}
+use std::slice;
 
 /// Takes words that may belong to no value, or to another one, of which no use is known.
 fn rest_taken(
@@ -51,7 +45,7 @@ fn rest_taken(
     ensures kept { (t : List (List ℕ)) → AreTags t s tags.old → IfOk result (λ next. AreTags t next tags.new) }
     ensures known { (macros : List AnyMacro) → IfOk result (λ next. AreUses setting.now macros (items_of (seen next)) uses.new) }
 {
-    forget(alloc, uses);
+    uses.forget(alloc);
     words_taken(alloc, setting, tags, words, sound, s)
 }
 
@@ -115,7 +109,7 @@ fn whole_taken(
     )
 }
 
-/// Takes words that are no macro's as they stand there.
+/// Takes words that are no macro's as they stand there. What is known of uses is kept within a list alone.
 fn others_taken(
     alloc: Global,
     setting: &Setting,
@@ -131,6 +125,9 @@ fn others_taken(
     ensures known { (macros : List AnyMacro) → AreUses setting.now macros (items_of (seen s)) uses.old
         → IfOk result (λ next. AreUses setting.now macros (items_of (seen next)) uses.new) }
 {
+    if !is_in_list(&s) {
+        return rest_taken(alloc, setting, uses, tags, words, false, s);
+    }
     let name = Text::new(alloc);
     piece_taken(
         alloc,
@@ -265,8 +262,8 @@ fn macro_taken(
     }
 }
 
-/// Takes the words for which a word stands that is no use of a macro with words.
-fn plain_taken(
+/// Takes the words for which a word stands that may be a use of a macro without words.
+fn replaced_taken(
     alloc: Global,
     setting: &Setting,
     macros: &Macros,
@@ -289,6 +286,28 @@ fn plain_taken(
             Err(ReadFault::Memory)
         }
     }
+}
+
+/// Takes the words for which a word stands that is no use of a macro with words.
+fn plain_taken(
+    alloc: Global,
+    setting: &Setting,
+    macros: &Macros,
+    uses: &mut KnownUses,
+    tags: &mut Tags,
+    w: &Word,
+    s: Statement,
+) -> Result<Statement, ReadFault>
+    requires { IsSound setting.now.site }
+    ensures given { (t : List (List ℕ)) → AreTags t s tags.old → AreUses setting.now macros.now (items_of (seen s)) uses.old
+        → StatementGiven result (meant_taken setting.now t (meant macros.now w.now) (seen s)) }
+    ensures kept { (t : List (List ℕ)) → AreTags t s tags.old → IfOk result (λ next. AreTags t next tags.new) }
+    ensures known { AreUses setting.now macros.now (items_of (seen s)) uses.old → IfOk result (λ next. AreUses setting.now macros.now (items_of (seen next)) uses.new) }
+{
+    if is_use(w) {
+        return replaced_taken(alloc, setting, macros, uses, tags, w, s);
+    }
+    others_taken(alloc, setting, uses, tags, slice::from_ref(w), s)
 }
 
 /// Takes the words for which a word stands that can be judged.

@@ -1,28 +1,15 @@
 use Rattle.std.proofs.Common.{List, subst}
 use Rattle.fws_num.specs.declared.word.Word.{Word}
-use Rattle.fws_net.specs.declared.answer.LineFault.{LineFault}
-use Rattle.fws_net.specs.declared.cause.Cause.{Cause}
-use Rattle.fws_net.specs.Reading.{FaultGiven}
-use Rattle.fws_pf.specs.Macros.{meant}
 use Rattle.fws_pf.specs.StatementText.{words_taken}
 use Rattle.fws_pf_read.specs.Statements.{StatementGiven, seen}
-use Rattle.fws_pf_read.proofs.Within.{meant_given, meant_refused}
+use Rattle.fws_pf_read.proofs.Within.{meant_given}
 use Rattle.fws_pf_read.proofs.whole_statement.plain_taken.Goals as goal
 
-pub returns-in-Ok-clause-given : goal.returns-in-Ok-clause-given
-returns-in-Ok-clause-given c = λ t tags are.
-    meant_given c.args.setting.now c.args.macros.now t c.args.w.now c.in-Ok.words (seen c.args.s) c.others_taken.result c.in-Ok.ensures
-    (subst (λ (ws : List Word). StatementGiven c.others_taken.result (words_taken c.args.setting.now t ws (seen c.args.s))) c.as_slice.ensures
+pub returns-clause-given : goal.returns-clause-given
+returns-clause-given c = λ t tags are.
+    meant_given c.args.setting.now c.args.macros.now t c.args.w.now _ (seen c.args.s) c.others_taken.result (c.is_use.ensures c.args.macros.now c.if-is_use.false)
+    (subst (λ (ws : List Word). StatementGiven c.others_taken.result (words_taken c.args.setting.now t ws (seen c.args.s))) c.from_ref.ensures.value
     (c.others_taken.ensures.given t c.args.macros.now tags are))
 
-pub returns-in-Ok-clause-kept : goal.returns-in-Ok-clause-kept
-returns-in-Ok-clause-kept c = λ t tags. c.others_taken.ensures.kept t tags
-
-pub returns-in-Ok-clause-known : goal.returns-in-Ok-clause-known
-returns-in-Ok-clause-known c = λ are. c.others_taken.ensures.known c.args.macros.now are
-
-pub returns-in-Err-Bad-clause-given : goal.returns-in-Err-Bad-clause-given
-returns-in-Err-Bad-clause-given c = λ t tags are.
-    let why = rw c.in-Err-Bad.field-0-is at c.refused.ensures in
-    meant_refused c.args.setting.now c.args.macros.now t c.args.w.now (seen c.args.s) c.in-Err-Bad.cause c.refused.result
-    (subst (λ (f : LineFault Cause). FaultGiven f (meant c.args.macros.now c.args.w.now)) c.in-Err-Bad.field-0-is c.in-Err-Bad.ensures) why
+pub returns-clause-known : goal.returns-clause-known
+returns-clause-known c = λ are. c.others_taken.ensures.known c.args.macros.now are

@@ -5,5 +5,5 @@ use Rattle.fws_pf_read.proofs.whole_statement.rest_taken.Goals as goal
 
 pub returns-clause-known : goal.returns-clause-known
 returns-clause-known c = λ macros.
-    in_any_case c.words_taken.result (λ next. AreUses c.args.setting.now macros (items_of (seen next)) c.forget.new.uses)
+    in_any_case c.words_taken.result (λ next. AreUses c.args.setting.now macros (items_of (seen next)) c.forget.new.self)
     (λ next. c.forget.ensures c.args.setting.now macros (items_of (seen next)))
