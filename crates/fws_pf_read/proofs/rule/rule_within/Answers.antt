@@ -1,4 +1,4 @@
-use Rattle.std.proofs.Common.{◌≡◌, ℕ, Ok, List, take, IfOk, OnOk, subst}
+use Rattle.std.proofs.Common.{◌≡◌, ℕ, Ok, List, take, IfOk, OnOk, ap, ◌∙◌, subst}
 use Rattle.fws_pf.specs.declared.macros.Macro.{Macro}
 use Rattle.fws_pf.specs.declared.rule_draft.RuleDraft.{RuleDraft}
 use Rattle.fws_pf.specs.declared.statement.Statement.TheVariants as any
@@ -13,7 +13,7 @@ returns-clause-taken c =
     (λ (d : RuleDraft).
     (macros : List Macro) → ArePiece macros c.args.source c.args.name.now c.args.words.now → AreUses c.args.setting.now macros d.value.items c.args.uses.now
     → IfOk c.draft_within.result (λ n. (tags : List (List ℕ)) → words_taken c.args.setting.now tags (take n c.args.words.now) (any.Rule d) ≡ Ok (any.Rule (draft_of c.draft_within.new.d))))
-    c.rule.view_is c.draft_within.ensures.taken
+    (ap draft_of c.deref_mut.ensures.value ∙ c.rule.view_is) c.draft_within.ensures.taken
 
 pub returns-clause-known : goal.returns-clause-known
 returns-clause-known c =
@@ -21,4 +21,4 @@ returns-clause-known c =
     (λ (d : RuleDraft).
     (macros : List Macro) → ArePiece macros c.args.source c.args.name.now c.args.words.now → AreUses c.args.setting.now macros d.value.items c.args.uses.now
     → OnOk c.draft_within.result (AreUses c.args.setting.now macros c.draft_within.new.d.value.items c.draft_within.new.uses))
-    c.rule.view_is c.draft_within.ensures.known
+    (ap draft_of c.deref_mut.ensures.value ∙ c.rule.view_is) c.draft_within.ensures.known

@@ -6,8 +6,8 @@ returns-clause-given c = λ t macros tags are. c.piece_taken.ensures.given t mac
 pub returns-clause-known : goal.returns-clause-known
 returns-clause-known c = λ macros are. c.piece_taken.ensures.known macros tt are
 
-pub returns-then-is_in_list-clause-given : goal.returns-then-is_in_list-clause-given
-returns-then-is_in_list-clause-given c = λ t macros tags are. c.rest_taken.ensures.given t tags
+pub returns-then-not-is_in_list-clause-given : goal.returns-then-not-is_in_list-clause-given
+returns-then-not-is_in_list-clause-given c = λ t macros tags are. c.rest_taken.ensures.given t tags
 
-pub returns-then-is_in_list-clause-known : goal.returns-then-is_in_list-clause-known
-returns-then-is_in_list-clause-known c = λ macros are. c.rest_taken.ensures.known macros
+pub returns-then-not-is_in_list-clause-known : goal.returns-then-not-is_in_list-clause-known
+returns-then-not-is_in_list-clause-known c = λ macros are. c.rest_taken.ensures.known macros
