@@ -2,7 +2,6 @@
 use Rattle.std.proofs.Common.{◌≡◌, ℕ, Bool, true, false, cond, ◌&&◌, ◌||◌, not, Option, Some, None, IfSome, List, [], ◌∷◌, refl, sym, ◌∙◌, ap, subst}
 use Rattle.std.specs.List.{list_all}
 use Rattle.std.proofs.lemmas.Bool.{and_parts, false≢true}
-use Rattle.std.proofs.lemmas.Option.{same_Some}
 use Rattle.fws_iv.specs.declared.iv.Iv.{Iv}
 use Rattle.fws_iv.specs.Ivs.{has}
 use Rattle.fws_box.specs.declared.field.Field.TheVariants as fields
@@ -30,7 +29,7 @@ use Rattle.fws_exec.specs.Classes.{standing_by, transit_of}
 use Rattle.fws_exec.specs.Goings.{label_of}
 use Rattle.fws_exec.specs.Runs.{picked}
 use Rattle.fws_exec.specs.Sheets.{among, IsUsed}
-use Rattle.fws_exec.specs.Views.{is_of_src, is_of_dst, is_of_network, shows, shows_all, shows_code, end_if, seen_by, fits_tag, tags_fit, is_tag, is_tagless, AreAlike, AllFit}
+use Rattle.fws_exec.specs.Views.{is_of_src, is_of_dst, shows, shows_all, shows_code, end_if, seen_by, fits_tag, tags_fit, is_tag, is_tagless, AreAlike, AllFit}
 use Rattle.fws_exec.proofs.Moved.{same_used}
 
 -- an end that is looked at stands alike

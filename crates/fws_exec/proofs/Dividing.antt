@@ -1,9 +1,8 @@
 -- How classes are divided and split.
-use Rattle.std.proofs.Common.{◌≡◌, ℕ, suc, ◌≤◌, Bool, true, false, cond, ◌&&◌, ◌||◌, not, nat_eq, nat_le, List, [], ◌∷◌, length, refl, ◌∙◌, ap, arith}
+use Rattle.std.proofs.Common.{◌≡◌, ℕ, suc, ◌≤◌, Bool, true, false, ◌&&◌, ◌||◌, nat_le, List, [], ◌∷◌, length, refl, ◌∙◌, ap, arith}
 use Rattle.std.proofs.lemmas.Bool.Decides.{nat_tests}
 use Rattle.fws_iv.specs.Ivs.{has}
 use Rattle.fws_box.specs.Sides.{sides_have, whole_sides, IsWithin}
-use Rattle.fws_net.specs.declared.outcome.Outcome.{Outcome}
 use Rattle.fws_exec.specs.declared.spot.Spot.{Spot}
 use Rattle.fws_exec.specs.declared.spot.Spot.TheVariants.{Unused, Dropped, At, Before}
 use Rattle.fws_exec.specs.Classes.{is_before}

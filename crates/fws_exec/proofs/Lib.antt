@@ -1,7 +1,9 @@
 pub mod Alike
+pub mod Bounding
 pub mod Coursing
 pub mod Dividing
 pub mod Entering
+pub mod Hulled
 pub mod Listing
 pub mod Marking
 pub mod Meaning
@@ -16,3 +18,4 @@ pub mod Running
 pub mod Sent
 pub mod Turning
 pub mod Untested
+pub mod Valued

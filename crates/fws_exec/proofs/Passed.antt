@@ -1,8 +1,6 @@
 -- How points pass instructions one after another.
-use Rattle.std.proofs.Common.{◌≡◌, ◌≢◌, ℕ, ◌+◌, ◌≤◌, Bool, true, false, cond, ◌&&◌, ◌||◌, not, nat_eq, nat_lt, Option, Some, None, option_map, List, [], ◌∷◌, length, slice_get, inl, inr, ◌⊎◌, refl, sym, ◌∙◌, ap, subst, arith}
-use Rattle.std.specs.Option.{option_map_or}
-use Rattle.std.proofs.lemmas.Bool.{cases_Bool, eqb-true, false≢true}
-use Rattle.std.proofs.lemmas.Bool.Decides.{nat_tests}
+use Rattle.std.proofs.Common.{◌≡◌, ◌≢◌, ℕ, ◌+◌, ◌≤◌, Bool, true, false, cond, ◌&&◌, ◌||◌, not, Some, option_map, List, [], ◌∷◌, length, slice_get, inl, inr, ◌⊎◌, refl, sym, ◌∙◌, ap, subst, arith}
+use Rattle.std.proofs.lemmas.Bool.{cases_Bool, false≢true}
 use Rattle.std.proofs.lemmas.Option.{same_Some}
 use Rattle.std.proofs.Math.Nat.{le_refl, le_trans}
 use Rattle.fws_box.specs.Sides.{IsWithin}
@@ -23,7 +21,7 @@ use Rattle.fws_exec.specs.declared.roll.Roll.{Roll}
 use Rattle.fws_exec.specs.declared.sheet.Sheet.{Sheet}
 use Rattle.fws_exec.specs.declared.spot.Class.{Class}
 use Rattle.fws_exec.specs.declared.spot.Spot.{Spot}
-use Rattle.fws_exec.specs.declared.spot.Spot.TheVariants.{Unused, Dropped, At, Before}
+use Rattle.fws_exec.specs.declared.spot.Spot.TheVariants.{At}
 use Rattle.fws_exec.specs.declared.spot.Stage.{Stage}
 use Rattle.fws_exec.specs.Classes.{kind_of, meant, meant_behind, transit_of, future, is_before, is_unused}
 use Rattle.fws_exec.specs.Courses.{course, Obeys, Keeps}
@@ -31,11 +29,12 @@ use Rattle.fws_exec.specs.Divided.{AreMoved}
 use Rattle.fws_exec.specs.Goings.{lands, Goes, IsGone}
 use Rattle.fws_exec.specs.Moving.{IsGrown}
 use Rattle.fws_exec.specs.Passing.{is_apart, is_together, is_parted, HasPassed, Passed, IsOnward}
-use Rattle.fws_exec.specs.Sheets.{among, tops_in, class_at, stands, IsPut, IsUsed, Grows, IsSheet, StandsAt, AllAt, AreSent, KeepsFutures}
+use Rattle.fws_exec.specs.Sheets.{among, tops_in, class_at, IsPut, IsUsed, Grows, IsSheet, AllAt, AreSent, KeepsFutures}
 use Rattle.fws_exec.specs.Views.{is_in}
 use Rattle.fws_exec.proofs.Dividing.{before_less}
+use Rattle.fws_exec.proofs.Hulled.{same_hulled}
 use Rattle.fws_exec.proofs.Moved.{at_grows, behind_away, or_left, or_right, or_neither}
-use Rattle.fws_exec.proofs.Putting.{future_of, future_same, same_or_not, stands_of}
+use Rattle.fws_exec.proofs.Putting.{future_of, future_same, same_or_not}
 
 -- a point that went on stays where it is while the classes of others pass
 stays_on : (e : Errand) (next : Stage → Transit → Outcome) (p : List ℕ) (B : ℕ → Bool) (place at here : ℕ) (mid new : Sheet) (d : Class)
@@ -172,14 +171,17 @@ pub sent_away : (spot : Spot) (A : ℕ → Bool) (mid new : List Class) (n : ℕ
 sent_away spot A mid new n sent a = sent n ∙ ap (λ b. cond b (option_map {T = Class} (λ d. record d { spot = spot }) (slice_get mid n)) (slice_get mid n)) a
 
 -- a sheet whose classes are sent to a spot is one
-pub sent_sheet : (spot : Spot) (A : ℕ → Bool) (mid new : Sheet) → is_unused spot ≡ false → new.canvas ≡ mid.canvas → AreSent spot A mid.roll.classes.items new.roll.classes.items → IsSheet mid → IsSheet new
-sent_sheet spot A mid new used canvas sent sheet p w =
-    let same : class_at new p ≡ class_at mid p = ap (λ k. painted.value_at k p) canvas in
-    let old = sheet p (subst (λ (k : Canvas). IsWithin (painted.tops_of k) p) canvas w) in
-    elim (cases_Bool (A (class_at mid p))) [
-      | inl a ↦ (record old.0 { spot = spot }, subst (λ n. IsUsed new.roll.classes.items n (record old.0 { spot = spot })) (sym same) (sent_at spot A mid.roll.classes.items new.roll.classes.items (class_at mid p) old.0 sent a old.1.0, used))
-      | inr a ↦ (old.0, subst (λ n. IsUsed new.roll.classes.items n old.0) (sym same) (sent_away spot A mid.roll.classes.items new.roll.classes.items (class_at mid p) sent a ∙ old.1.0, old.1.1))
-    ]
+pub sent_sheet : (spot : Spot) (A : ℕ → Bool) (mid new : Sheet) → is_unused spot ≡ false → new.canvas ≡ mid.canvas → new.hulls.items ≡ mid.hulls.items → AreSent spot A mid.roll.classes.items new.roll.classes.items → IsSheet mid → IsSheet new
+sent_sheet spot A mid new used canvas hulls sent sheet = record { used = sent_used; hulled = same_hulled mid new canvas hulls sheet }
+  where
+    sent_used : (p : List ℕ) → IsWithin (tops_in new) p → (c : Class) × IsUsed new.roll.classes.items (class_at new p) c
+    sent_used p w =
+        let same : class_at new p ≡ class_at mid p = ap (λ k. painted.value_at k p) canvas in
+        let old = sheet.used p (subst (λ (k : Canvas). IsWithin (painted.tops_of k) p) canvas w) in
+        elim (cases_Bool (A (class_at mid p))) [
+          | inl a ↦ (record old.0 { spot = spot }, subst (λ n. IsUsed new.roll.classes.items n (record old.0 { spot = spot })) (sym same) (sent_at spot A mid.roll.classes.items new.roll.classes.items (class_at mid p) old.0 sent a old.1.0, used))
+          | inr a ↦ (old.0, subst (λ n. IsUsed new.roll.classes.items n old.0) (sym same) (sent_away spot A mid.roll.classes.items new.roll.classes.items (class_at mid p) sent a ∙ old.1.0, old.1.1))
+        ]
 
 -- what becomes of each packet stays, if the classes passed and those that stood at the place are sent on
 pub sent_kept : (e : Errand) (A : ℕ → Bool) (place at : ℕ) (old mid new : Sheet) → IsSheet old → tops_in old ≡ tops_of e.ground.site.now
@@ -187,8 +189,8 @@ pub sent_kept : (e : Errand) (A : ℕ → Bool) (place at : ℕ) (old mid new : 
     → new.canvas ≡ mid.canvas → AreSent (At at) A mid.roll.classes.items new.roll.classes.items → Keeps e old new
 sent_kept e A place at old mid new sheet tops grows stand passed canvas sent next p w =
     let inside : IsWithin (tops_in old) p = subst (λ ts. IsWithin ts p) (sym tops) w in
-    let c = (sheet p inside).0 in
-    let used = (sheet p inside).1 in
+    let c = (sheet.used p inside).0 in
+    let used = (sheet.used p inside).1 in
     ap (λ k. future (course e next p) next new.roll.classes.items (painted.value_at k p) p) canvas
     ∙ (elim (passed next p c inside used) [
       | inl h ↦ (
@@ -212,14 +214,17 @@ sent_kept e A place at old mid new sheet tops grows stand passed canvas sent nex
     ])
 
 -- a sheet one of whose classes is put in the place of another is one
-pub put_sheet : (number : ℕ) (d : Class) (old new : Sheet) → is_unused d.spot ≡ false → new.canvas ≡ old.canvas → IsPut number d old.roll.classes.items new.roll.classes.items → IsSheet old → IsSheet new
-put_sheet number d old new used canvas put sheet p w =
-    let same : class_at new p ≡ class_at old p = ap (λ k. painted.value_at k p) canvas in
-    let before = sheet p (subst (λ (k : Canvas). IsWithin (painted.tops_of k) p) canvas w) in
-    elim (same_or_not (class_at old p) number) [
-      | inl e ↦ (d, subst (λ n. IsUsed new.roll.classes.items n d) (sym (same ∙ e)) (put.0, used))
-      | inr away ↦ (before.0, subst (λ n. IsUsed new.roll.classes.items n before.0) (sym same) (put.1 (class_at old p) away ∙ before.1.0, before.1.1))
-    ]
+pub put_sheet : (number : ℕ) (d : Class) (old new : Sheet) → is_unused d.spot ≡ false → new.canvas ≡ old.canvas → new.hulls.items ≡ old.hulls.items → IsPut number d old.roll.classes.items new.roll.classes.items → IsSheet old → IsSheet new
+put_sheet number d old new used canvas hulls put sheet = record { used = put_used; hulled = same_hulled old new canvas hulls sheet }
+  where
+    put_used : (p : List ℕ) → IsWithin (tops_in new) p → (c : Class) × IsUsed new.roll.classes.items (class_at new p) c
+    put_used p w =
+        let same : class_at new p ≡ class_at old p = ap (λ k. painted.value_at k p) canvas in
+        let before = sheet.used p (subst (λ (k : Canvas). IsWithin (painted.tops_of k) p) canvas w) in
+        elim (same_or_not (class_at old p) number) [
+          | inl e ↦ (d, subst (λ n. IsUsed new.roll.classes.items n d) (sym (same ∙ e)) (put.0, used))
+          | inr away ↦ (before.0, subst (λ n. IsUsed new.roll.classes.items n before.0) (sym same) (put.1 (class_at old p) away ∙ before.1.0, before.1.1))
+        ]
 
 -- what becomes of each packet stays, if a class passes an instruction as a whole
 pub whole_kept : (e : Errand) (place : ℕ) (ins : Ins) (number : ℕ) (c d : Class) (old new : Sheet)
@@ -261,10 +266,13 @@ in_parts crowded (g ∷ groups) n = by (is_apart crowded g) (among g.numbers.ite
     by false false i t q e = e
 
 -- a sheet with the same classes at the same points is one, and what becomes of each packet stays
-pub same_sheet : (old new : Sheet) → new.canvas ≡ old.canvas → new.roll.classes.items ≡ old.roll.classes.items → IsSheet old → IsSheet new
-same_sheet old new canvas classes sheet p w =
-    let before = sheet p (subst (λ (k : Canvas). IsWithin (painted.tops_of k) p) canvas w) in
-    (before.0, subst (λ n. IsUsed new.roll.classes.items n before.0) (sym (ap (λ k. painted.value_at k p) canvas)) (ap (λ cs. slice_get cs (class_at old p)) classes ∙ before.1.0, before.1.1))
+pub same_sheet : (old new : Sheet) → new.canvas ≡ old.canvas → new.hulls.items ≡ old.hulls.items → new.roll.classes.items ≡ old.roll.classes.items → IsSheet old → IsSheet new
+same_sheet old new canvas hulls classes sheet = record { used = same_used; hulled = same_hulled old new canvas hulls sheet }
+  where
+    same_used : (p : List ℕ) → IsWithin (tops_in new) p → (c : Class) × IsUsed new.roll.classes.items (class_at new p) c
+    same_used p w =
+        let before = sheet.used p (subst (λ (k : Canvas). IsWithin (painted.tops_of k) p) canvas w) in
+        (before.0, subst (λ n. IsUsed new.roll.classes.items n before.0) (sym (ap (λ k. painted.value_at k p) canvas)) (ap (λ cs. slice_get cs (class_at old p)) classes ∙ before.1.0, before.1.1))
 
 pub same_futures : (old new : Sheet) → new.canvas ≡ old.canvas → new.roll.classes.items ≡ old.roll.classes.items → KeepsFutures old new
 same_futures old new canvas classes at next p w =

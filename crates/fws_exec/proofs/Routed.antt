@@ -89,8 +89,8 @@ pub routed : (site : Site) (state : State) (part : Part) (lits : List Lit) (A : 
     → new.canvas ≡ mid.canvas → AreSent (onward_spot site.forwarding) A mid.roll.classes.items new.roll.classes.items → Becomes site old new (through_routing site)
 routed site state part lits A old mid new sheet tops local stand all grows moved canvas sent next p w =
     let inside : IsWithin (tops_in old) p = subst (λ ts. IsWithin ts p) (sym tops) w in
-    let c = (sheet p inside).0 in
-    let used = (sheet p inside).1 in
+    let c = (sheet.used p inside).0 in
+    let used = (sheet.used p inside).1 in
     ap (λ k. future nowhere next new.roll.classes.items (painted.value_at k p) p) canvas
     ∙ elim (moved p c inside used) [
       | inl h ↦ (

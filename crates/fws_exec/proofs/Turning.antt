@@ -6,7 +6,6 @@ use Rattle.std.proofs.lemmas.Bool.Decides.{nat_tests}
 use Rattle.fws_net.specs.declared.outcome.Outcome.{Outcome}
 use Rattle.fws_net.specs.declared.outcome.Outcome.TheVariants as outcomes
 use Rattle.fws_net.specs.declared.transit.Transit.{Transit}
-use Rattle.fws_net.specs.declared.site.Site.{Site}
 use Rattle.fws_net.specs.Points.{packet_of}
 use Rattle.fws_flat.specs.Walk.{code_walk, part_walk}
 use Rattle.fws_exec.specs.declared.errand.Errand.{Errand}
@@ -19,14 +18,15 @@ use Rattle.fws_exec.specs.declared.spot.Stage.TheVariants.{Arrive, Deliver, Forw
 use Rattle.fws_exec.specs.declared.turn.Turn.{Turn}
 use Rattle.fws_exec.specs.declared.turn.Turn.TheVariants.{Enter, Leave}
 use Rattle.fws_flat.specs.declared.code.Part.{Part}
-use Rattle.fws_exec.specs.Classes.{kind_of, meant, transit_of, future, same_stage, is_at_stage, is_inside, is_before, is_unused}
+use Rattle.fws_exec.specs.Classes.{kind_of, meant, transit_of, future, same_stage, is_inside, is_before, is_unused}
 use Rattle.fws_exec.specs.Courses.{left, course}
 use Rattle.fws_box.specs.Sides.{IsWithin}
 use Rattle.fws_tree.specs.declared.canvas.Canvas.{Canvas}
 use Rattle.fws_tree.specs.Painted as painted
 use Rattle.fws_exec.specs.declared.sheet.Sheet.{Sheet}
-use Rattle.fws_exec.specs.Sheets.{class_at, IsSheet, IsUsed, stands}
-use Rattle.fws_exec.specs.Stages.{turned, nowhere, through_part, through_routing}
+use Rattle.fws_exec.specs.Sheets.{tops_in, class_at, IsSheet, IsUsed, stands}
+use Rattle.fws_exec.proofs.Hulled.{same_hulled}
+use Rattle.fws_exec.specs.Stages.{turned, nowhere, through_part}
 
 pub same_stages : (a b : Stage) → same_stage a b ≡ true → b ≡ a
 same_stages Arrive Arrive h = refl
@@ -165,10 +165,13 @@ turn_unused (Enter part stage) c = enter_unused part stage c.spot c.progress
 turn_unused (Leave stage) c = leave_unused stage c.spot c.progress
 
 -- a sheet whose classes enter or leave is one
-pub turned_sheet : (turn : Turn) (old new : Sheet) → IsSheet old → new.canvas ≡ old.canvas
+pub turned_sheet : (turn : Turn) (old new : Sheet) → IsSheet old → new.canvas ≡ old.canvas → new.hulls.items ≡ old.hulls.items
     → ((n : ℕ) → slice_get new.roll.classes.items n ≡ option_map (turned turn) (slice_get old.roll.classes.items n)) → IsSheet new
-turned_sheet turn old new sheet canvas step p w =
-    let same : class_at new p ≡ class_at old p = ap (λ k. painted.value_at k p) canvas in
-    let before = sheet p (subst (λ (k : Canvas). IsWithin (painted.tops_of k) p) canvas w) in
-    let got : slice_get new.roll.classes.items (class_at old p) ≡ Some (turned turn before.0) = step (class_at old p) ∙ ap (option_map (turned turn)) before.1.0 in
-    (turned turn before.0, subst (λ n. IsUsed new.roll.classes.items n (turned turn before.0)) (sym same) (got, turn_unused turn before.0 ∙ before.1.1))
+turned_sheet turn old new sheet canvas hulls step = record { used = turned_used; hulled = same_hulled old new canvas hulls sheet }
+  where
+    turned_used : (p : List ℕ) → IsWithin (tops_in new) p → (c : Class) × IsUsed new.roll.classes.items (class_at new p) c
+    turned_used p w =
+        let same : class_at new p ≡ class_at old p = ap (λ k. painted.value_at k p) canvas in
+        let before = sheet.used p (subst (λ (k : Canvas). IsWithin (painted.tops_of k) p) canvas w) in
+        let got : slice_get new.roll.classes.items (class_at old p) ≡ Some (turned turn before.0) = step (class_at old p) ∙ ap (option_map (turned turn)) before.1.0 in
+        (turned turn before.0, subst (λ n. IsUsed new.roll.classes.items n (turned turn before.0)) (sym same) (got, turn_unused turn before.0 ∙ before.1.1))

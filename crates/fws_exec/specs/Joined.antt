@@ -8,9 +8,9 @@ use Rattle.fws_exec.specs.Sheets.{among, StandsAt}
 abbrev pub has_twin : List ℕ → ℕ → Bool
 has_twin twins n = not (nat_eq (slice_index_or twins n n) n)
 
--- class x becomes z: an equal one that stays, if it has a twin; else it stays
+-- class x becomes z: its twin, an equal one that stays, if it has one; else it stays
 abbrev pub IsJoined : List ℕ → List Class → ℕ → ℕ → Type 0
-IsJoined twins classes x z = MatchBool (has_twin twins x) ((has_twin twins z ≡ false) × (slice_get classes z ≡ slice_get classes x)) (z ≡ x)
+IsJoined twins classes x z = MatchBool (has_twin twins x) ((has_twin twins z ≡ false) × (slice_get classes z ≡ slice_get classes x) × (slice_index_or twins x x ≡ z)) (z ≡ x)
 
 -- a number is one of these, and has a twin
 abbrev pub is_joined : List ℕ → List ℕ → ℕ → Bool

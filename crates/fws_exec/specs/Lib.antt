@@ -3,6 +3,7 @@ pub mod Courses
 pub mod Divided
 pub mod Goings
 pub mod Grounds
+pub mod Hulls
 pub mod Idle
 pub mod Joined
 pub mod Moving

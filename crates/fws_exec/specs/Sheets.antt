@@ -12,6 +12,7 @@ use Rattle.fws_exec.specs.declared.spot.Stage.{Stage}
 use Rattle.fws_exec.specs.declared.spot.Class.{Class}
 use Rattle.fws_exec.specs.declared.sheet.Sheet.{Sheet}
 use Rattle.fws_exec.specs.Classes.{is_unused, future}
+use Rattle.fws_exec.specs.Hulls.{HasAt}
 
 -- the greatest values of the fields
 abbrev pub tops_in : Sheet → List ℕ
@@ -29,9 +30,10 @@ stands test classes n = option_map_or (λ c. test c.spot) (slice_get classes n) 
 abbrev pub IsUsed : List Class → ℕ → Class → Type 0
 IsUsed classes n c = (slice_get classes n ≡ Some c) × (is_unused c.spot ≡ false)
 
--- each point has a class that is used
-abbrev pub IsSheet : Sheet → Type 0
-IsSheet s = (p : List ℕ) → IsWithin (tops_in s) p → (c : Class) × IsUsed s.roll.classes.items (class_at s p) c
+-- each point has a class that is used, and lies in its hull
+pub record IsSheet (s : Sheet) : Type 0 where
+  pub used : (p : List ℕ) → IsWithin (tops_in s) p → (c : Class) × IsUsed s.roll.classes.items (class_at s p) c
+  pub hulled : (p : List ℕ) → IsWithin (tops_in s) p → HasAt s.hulls.items (class_at s p) p
 
 -- no point has the class with this number
 abbrev pub IsFree : Sheet → ℕ → Type 0

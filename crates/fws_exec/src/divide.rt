@@ -18,8 +18,11 @@ ghost use Rattle.fws_exec.specs.Views.{is_in, shows_all, AreAlike, AllFit};
 use crate::errand::Ground;
 use crate::going::Going;
 use crate::groups::Group;
+use crate::hulls::hull_of;
 use crate::marks::cond_marks;
+use crate::region::hull_part;
 use crate::sheet::Sheet;
+use crate::through::is_crowd;
 use crate::views::Sides;
 use fws_box::PBox;
 use fws_flat::Part;
@@ -28,6 +31,24 @@ use fws_num::Memory;
 use std::alloc::Global;
 
 impl Sheet {
+    /// The part of the whole area with the points of the group.
+    fn bounded<'b>(
+        &self,
+        alloc: Global,
+        ground: &Ground<'_, 'b>,
+        group: &Group,
+    ) -> Result<PBox<'b>, Memory>
+        requires sheet { IsSheet self.now }
+        requires ground { IsGround ground.now }
+        requires tops { tops_in self.now ≡ tops_of ground.now.site.now }
+        ensures within { IfOk result (λ area. IsOfSite ground.now.site.now (sides_of area)) }
+        ensures covers { IfOk result (λ area. (p : List ℕ) → IsWithin (tops_of ground.now.site.now) p → among group.now.numbers.items (class_at self.now p) ≡ true → sides_have (sides_of area) p ≡ true) }
+    {
+        let hull = hull_of(self.hulls.as_slice(), group.numbers.as_slice());
+        let area = hull_part(alloc, ground.bump, &ground.area, &hull)?;
+        Ok(area)
+    }
+
     /// An area with all points of the group, whose ends conditions look at as the sides say: where the end of a network is
     /// written over what is looked at, the group is one class, and the area its region.
     pub(crate) fn area<'b>(
@@ -53,7 +74,13 @@ impl Sheet {
                 let area = self.region(alloc, ground, number, group.view.wrote)?;
                 Ok(area)
             }
-            None => Ok(ground.area),
+            None => {
+                if is_crowd(group.numbers.len()) {
+                    return Ok(ground.area);
+                }
+                let area = self.bounded(alloc, ground, group)?;
+                Ok(area)
+            }
         }
     }
 

@@ -8,6 +8,8 @@ mod errand;
 mod execution;
 mod going;
 mod groups;
+mod hull;
+mod hulls;
 mod idle;
 mod joining;
 mod key;

@@ -1,18 +1,23 @@
 //! How equal classes become one.
 
-ghost use Rattle.std.specs.Prelude.{◌≡◌, ℕ, Bool, true, false, OnOk};
+ghost use Rattle.std.specs.Prelude.{◌≡◌, ◌≤◌, ℕ, Bool, List, true, false, slice_get, slice_index_or, OnOk};
+ghost use Rattle.fws_box.specs.Sides.{IsWithin};
 ghost use Rattle.fws_exec.specs.declared.spot.Spot.{Spot as AnySpot};
 ghost use Rattle.fws_exec.specs.declared.spot.Spot.TheVariants.{Unused};
+ghost use Rattle.fws_exec.specs.Hulls.{HasAt, HullsGrow};
 ghost use Rattle.fws_exec.specs.Joined.{is_joined, AreReleased};
-ghost use Rattle.fws_exec.specs.Sheets.{tops_in, IsFree, IsSheet, KeepsFutures, NoneComes};
+ghost use Rattle.fws_exec.specs.Sheets.{tops_in, class_at, IsFree, IsSheet, KeepsFutures, NoneComes};
 
 use crate::called::{bits_of, have_bits};
+use crate::hull::Hull;
+use crate::hulls::{hull_at, hull_of, widen};
 use crate::joining::{Joining, has_twin};
 use crate::key::Key;
 use crate::roll::Roll;
 use crate::sheet::Sheet;
 use crate::spot::Spot;
 use fws_num::Memory;
+use fws_tree::Mark;
 use std::alloc::Global;
 use std::collections::HashMap;
 
@@ -95,14 +100,52 @@ impl Roll {
     }
 }
 
+/// The hull with the number of the twin takes in the one at the place.
+fn take_one(hulls: &mut Vec<Hull>, place: usize, twin: u32) -> Result<(), Memory>
+    ensures grown { OnOk result (HullsGrow hulls.old.items hulls.new.items) }
+    ensures taken { OnOk result ((p : List ℕ) → HasAt hulls.old.items place p → HasAt hulls.new.items twin p) }
+{
+    let own = hull_at(hulls.as_slice(), place);
+    widen(hulls, twin, &own)?;
+    Ok(())
+}
+
+/// The hull of each class that has a twin is taken in by that of its twin.
+fn take_in(hulls: &mut Vec<Hull>, twins: &[u32]) -> Result<(), Memory>
+    ensures grown { OnOk result (HullsGrow hulls.old.items hulls.new.items) }
+    ensures taken { OnOk result ((n : ℕ) (p : List ℕ) → HasAt hulls.old.items n p → HasAt hulls.new.items (slice_index_or twins.now n n) p) }
+{
+    for place in 0..twins.len() {
+        if twins[place] as usize == place {
+            continue;
+        }
+        take_one(hulls, place, twins[place])?;
+    }
+    Ok(())
+}
+
+/// The classes with these numbers that have a twin have no points any more.
+fn forget(hulls: &mut Vec<Hull>, twins: &[u32], joined: &[u32])
+    ensures { (n : ℕ) → is_joined twins.now joined.now n ≡ false → slice_get hulls.new.items n ≡ slice_get hulls.old.items n }
+{
+    for number in joined {
+        if !has_twin(twins, *number) || (*number as usize) >= hulls.len() {
+            continue;
+        }
+        hulls[*number as usize] = Hull::none();
+    }
+}
+
 impl Sheet {
-    /// The classes that have a twin become it. An error is want of memory, and a twin that isn't one.
+    /// The classes that have a twin become it, whose hulls have their points already. An error is want of memory, and a twin that isn't one.
     fn join_all(&mut self, alloc: Global, twins: &[u32], joined: &[u32]) -> Result<(), Memory>
-        requires { IsSheet self.old }
+        requires sheet { IsSheet self.old }
+        requires taken { (p : List ℕ) → IsWithin (tops_in self.old) p → HasAt self.old.hulls.items (slice_index_or twins.now (class_at self.old p) (class_at self.old p)) p }
         ensures sheet { OnOk result (IsSheet self.new) }
         ensures kept { OnOk result (KeepsFutures self.old self.new) }
         ensures free { OnOk result ((n : ℕ) → is_joined twins.now joined.now n ≡ true → IsFree self.new n) }
         ensures roll { self.new.roll ≡ self.old.roll }
+        ensures hulls { self.new.hulls ≡ self.old.hulls }
         ensures tops { tops_in self.new ≡ tops_in self.old }
     {
         let wanted = bits_of(self.canvas.values(), joined);
@@ -113,7 +156,10 @@ impl Sheet {
             roll: &self.roll,
             twins,
         };
-        self.canvas.recolour(alloc, &[], 1, wanted, &mut joining)?;
+        let sets = hull_of(self.hulls.as_slice(), joined).sets(alloc)?;
+        let mark = Mark::of_sets(&sets, 1);
+        self.canvas
+            .recolour(alloc, &[mark], 0, wanted, &mut joining)?;
         Ok(())
     }
 
@@ -128,7 +174,9 @@ impl Sheet {
         if joined.is_empty() {
             return Ok(());
         }
+        take_in(&mut self.hulls, twins)?;
         self.join_all(alloc, twins, joined)?;
+        forget(&mut self.hulls, twins, joined);
         self.roll.release_all(alloc, twins, joined)?;
         Ok(())
     }

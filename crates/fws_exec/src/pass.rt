@@ -136,6 +136,7 @@ impl Sheet {
         requires { number < length self.old.roll.classes.items }
         ensures put { OnOk result (IsPut number class self.old.roll.classes.items self.new.roll.classes.items) }
         ensures same { self.new.canvas ≡ self.old.canvas }
+        ensures hulls { self.new.hulls ≡ self.old.hulls }
     {
         self.roll.arrive(number, class.spot)?;
         self.roll.classes[number as usize] = class;

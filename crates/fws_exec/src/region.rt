@@ -8,9 +8,11 @@ ghost use Rattle.fws_box.specs.Sides.{sides_have, IsWithin};
 ghost use Rattle.fws_net.specs.Points.{tops_of};
 ghost use Rattle.fws_scene.specs.Areas.{IsOfSite};
 ghost use Rattle.fws_exec.specs.Grounds.{IsGround};
+ghost use Rattle.fws_exec.specs.Hulls.{HasPoint};
 ghost use Rattle.fws_exec.specs.Sheets.{tops_in, class_at, IsSheet};
 
 use crate::errand::Ground;
+use crate::hull::Hull;
 use crate::sheet::Sheet;
 use crate::views::is_of_network;
 use bumpalo::Bump;
@@ -38,6 +40,24 @@ fn part_of<'b>(
         Some(part) => Ok(part),
         None => Ok(*area),
     }
+}
+
+/// The part of the area in the hull; where there is none, any part.
+pub(crate) fn hull_part<'b>(
+    alloc: Global,
+    bump: &'b Bump,
+    area: &PBox<'b>,
+    hull: &Hull,
+) -> Result<PBox<'b>, Memory>
+    ensures within { IfOk result (λ part. (p : List ℕ) → length p ≡ 12 → sides_have (sides_of part) p ≡ true → sides_have (sides_of area.now) p ≡ true) }
+    ensures covers { IfOk result (λ part. (p : List ℕ) → HasPoint hull.now p → sides_have (sides_of area.now) p ≡ true → sides_have (sides_of part) p ≡ true) }
+{
+    let sets = hull.sets(alloc)?;
+    let mut part = *area;
+    for k in 0..12 {
+        part = part_of(alloc, bump, &part, Field::at(k), &sets[k])?;
+    }
+    Ok(part)
 }
 
 impl Sheet {

@@ -21,6 +21,8 @@ ghost use Rattle.fws_exec.specs.Stages.{nowhere, Becomes, IsWhole, through_routi
 
 use crate::errand::Ground;
 use crate::going::Going;
+use crate::hull::Hull;
+use crate::hulls::only;
 use crate::progress::Progress;
 use crate::roll::{Roll, bit_of};
 use crate::sheet::Sheet;
@@ -83,11 +85,16 @@ impl Sheet {
         ensures class { IfOk result (λ s. IsWhole s.roll.classes.items) }
         ensures value { IfOk result (λ s. (p : List ℕ) → class_at s p ≡ 0) }
     {
+        let hulls = only(alloc, Hull::of_tops(&tops(site)))?;
         let mut canvas = Canvas::new(alloc, &tops(site), bit_of(0))?;
         let _next = canvas.add_value(bit_of(1))?;
         let class = Progress::entered(alloc).standing(Spot::Before(Stage::Arrive));
         let roll = Roll::of_one(alloc, class, places)?;
-        Ok(Sheet { canvas, roll })
+        Ok(Sheet {
+            canvas,
+            roll,
+            hulls,
+        })
     }
 
     /// The points of the one class become those of two, where their packets come in: those of the host stand before they

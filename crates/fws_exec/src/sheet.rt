@@ -9,6 +9,8 @@ ghost use Rattle.fws_exec.specs.Sheets.{among, tops_in, IsSheet};
 
 use crate::called::{bits_of, called_of, have_bits};
 use crate::going::Going;
+use crate::hull::Hull;
+use crate::hulls::settle;
 use crate::moving::Moving;
 use crate::roll::Roll;
 use fws_num::Memory;
@@ -24,6 +26,8 @@ pub(crate) struct Sheet {
     pub canvas: Canvas,
     /// The classes.
     pub roll: Roll,
+    /// Hulls of the classes, by number: each point lies in that of its class.
+    pub hulls: Vec<Hull>,
 }
 
 impl Sheet {
@@ -47,13 +51,17 @@ impl Sheet {
         if !have_bits(self.canvas.values(), numbers, wanted) {
             return Err(Memory);
         }
+        let mut changes = Vec::new(alloc);
         let mut moving = Moving {
             alloc,
             roll: &mut self.roll,
             going,
             called,
+            changes: &mut changes,
         };
         self.canvas.recolour(alloc, marks, 0, wanted, &mut moving)?;
+        let area = Hull::of_marks(marks);
+        settle(&mut self.hulls, changes.as_slice(), &area)?;
         Ok(())
     }
 

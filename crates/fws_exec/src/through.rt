@@ -32,7 +32,7 @@ use std::alloc::Global;
 const CROWD: usize = 16;
 
 /// Whether so many views at one place are a crowd.
-fn is_crowd(views: usize) -> bool {
+pub(crate) fn is_crowd(views: usize) -> bool {
     views > CROWD
 }
 

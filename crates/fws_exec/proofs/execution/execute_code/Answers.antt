@@ -19,13 +19,13 @@ pub tree-requires : goal.tree-requires
 tree-requires c p w =
     let all : length c.as_slice-5.result.now ≡ length c.in_ok-sheet.sheet.roll.classes.items =
     ap length c.as_slice-5.ensures.value ∙ ap length c.in_ok-leaves.ensures ∙ length-map c.in_ok-sheet.sheet.roll.classes.items (class_outcome c.args.state) in
-    subst (λ n. class_at c.in_ok-sheet.sheet p < n) (sym all) (slice_get_within c.in_ok-sheet.sheet.roll.classes.items (class_at c.in_ok-sheet.sheet p) (c.in_ok-sheet.ensures.sheet p w).0 (c.in_ok-sheet.ensures.sheet p w).1.0)
+    subst (λ n. class_at c.in_ok-sheet.sheet p < n) (sym all) (slice_get_within c.in_ok-sheet.sheet.roll.classes.items (class_at c.in_ok-sheet.sheet p) (c.in_ok-sheet.ensures.sheet.used p w).0 (c.in_ok-sheet.ensures.sheet.used p w).1.0)
 
 pub returns-clause-value : goal.returns-clause-value
 returns-clause-value c p w =
     let inside = subst (λ ts. IsWithin ts p) (sym c.in_ok-sheet.ensures.tops) w in
     c.in_ok-tree.ensures.value p inside
     ∙ ap (λ ls. slice_get ls (class_at c.in_ok-sheet.sheet p)) (c.as_slice-5.ensures.value ∙ c.in_ok-leaves.ensures)
-    ∙ outcome_meant c.args.state c.in_ok-sheet.sheet.roll.classes.items (class_at c.in_ok-sheet.sheet p) p (slice_get_within c.in_ok-sheet.sheet.roll.classes.items (class_at c.in_ok-sheet.sheet p) (c.in_ok-sheet.ensures.sheet p inside).0 (c.in_ok-sheet.ensures.sheet p inside).1.0)
+    ∙ outcome_meant c.args.state c.in_ok-sheet.sheet.roll.classes.items (class_at c.in_ok-sheet.sheet p) p (slice_get_within c.in_ok-sheet.sheet.roll.classes.items (class_at c.in_ok-sheet.sheet p) (c.in_ok-sheet.ensures.sheet.used p inside).0 (c.in_ok-sheet.ensures.sheet.used p inside).1.0)
     ∙ ap (λ o. Some o) (c.in_ok-sheet.ensures.meant p w
     ∙ ap (λ f. means f c.args.site.now (packet_of p) (kind_of c.args.state p)) (same_flat (record c.args.f.now { code = c.args.code.now }) c.args.code.now c.as_slice.result.now c.as_slice-2.result.now c.as_slice-3.result.now c.as_slice-4.result.now refl c.as_slice.ensures c.as_slice-2.ensures c.as_slice-3.ensures c.as_slice-4.ensures))

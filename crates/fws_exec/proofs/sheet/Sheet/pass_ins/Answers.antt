@@ -17,14 +17,14 @@ send_all-requires c n a =
     subst (λ cs. n < length cs) (ap (λ v. v.items) (sym c.wait_all.ensures)) (slice_get_within c.meet_ins.new.self.roll.classes.items n (record { spot = At c.args.place; progress = there.0 }) there.1)
 
 pub returns-clause-sheet : goal.returns-clause-sheet
-returns-clause-sheet c = sent_sheet (At (c.args.place + 1)) (among c.in_ok-movers.movers.items) c.meet_ins.new.self (record { canvas = c.meet_ins.new.self.canvas; roll = c.send_all.new.self }) refl refl
+returns-clause-sheet c = sent_sheet (At (c.args.place + 1)) (among c.in_ok-movers.movers.items) c.meet_ins.new.self (record { canvas = c.meet_ins.new.self.canvas; roll = c.send_all.new.self; hulls = c.meet_ins.new.self.hulls }) refl refl refl
     (subst (λ ns. AreSent (At (c.args.place + 1)) (among ns) c.meet_ins.new.self.roll.classes.items c.send_all.new.self.classes.items) c.as_slice-3.ensures.value
     (subst (λ cs. AreSent (At (c.args.place + 1)) (among c.as_slice-3.result.now) cs c.send_all.new.self.classes.items) (ap (λ v. v.items) c.wait_all.ensures) c.send_all.ensures.sent))
     c.in_ok-meet_ins.ensures.sheet
 
 pub returns-clause-kept : goal.returns-clause-kept
 returns-clause-kept c next p w =
-    sent_kept c.args.errand.now (among c.in_ok-movers.movers.items) c.args.place (c.args.place + 1) c.pass_stayers.new.self c.meet_ins.new.self (record { canvas = c.meet_ins.new.self.canvas; roll = c.send_all.new.self }) c.in_ok-pass_stayers.ensures.sheet (c.pass_stayers.ensures.tops ∙ c.requires.tops) c.in_ok-meet_ins.ensures.onward.grows c.in_ok-movers.ensures
+    sent_kept c.args.errand.now (among c.in_ok-movers.movers.items) c.args.place (c.args.place + 1) c.pass_stayers.new.self c.meet_ins.new.self (record { canvas = c.meet_ins.new.self.canvas; roll = c.send_all.new.self; hulls = c.meet_ins.new.self.hulls }) c.in_ok-pass_stayers.ensures.sheet (c.pass_stayers.ensures.tops ∙ c.requires.tops) c.in_ok-meet_ins.ensures.onward.grows c.in_ok-movers.ensures
     (subst (λ ns. Passed c.args.errand.now (among ns) c.args.place (c.args.place + 1) c.pass_stayers.new.self c.meet_ins.new.self) c.as_slice.ensures.value c.in_ok-meet_ins.ensures.passed) refl
     (subst (λ ns. AreSent (At (c.args.place + 1)) (among ns) c.meet_ins.new.self.roll.classes.items c.send_all.new.self.classes.items) c.as_slice-3.ensures.value
     (subst (λ cs. AreSent (At (c.args.place + 1)) (among c.as_slice-3.result.now) cs c.send_all.new.self.classes.items) (ap (λ v. v.items) c.wait_all.ensures) c.send_all.ensures.sent))

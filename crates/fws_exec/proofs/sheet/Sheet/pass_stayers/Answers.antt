@@ -18,16 +18,16 @@ send_all-requires c n a =
 
 pub returns-clause-sheet : goal.returns-clause-sheet
 returns-clause-sheet c =
-    same_sheet (record { canvas = c.args.self.now.canvas; roll = c.send_all.new.self }) (record { canvas = c.args.self.now.canvas; roll = c.find_all.new.self }) refl (ap (λ v. v.items) c.find_all.ensures)
-    (sent_sheet (At (c.args.place + 1)) (among c.in_ok-stayers.stayers.items) c.args.self.now (record { canvas = c.args.self.now.canvas; roll = c.send_all.new.self }) refl refl
+    same_sheet (record { canvas = c.args.self.now.canvas; roll = c.send_all.new.self; hulls = c.args.self.now.hulls }) (record { canvas = c.args.self.now.canvas; roll = c.find_all.new.self; hulls = c.args.self.now.hulls }) refl refl (ap (λ v. v.items) c.find_all.ensures)
+    (sent_sheet (At (c.args.place + 1)) (among c.in_ok-stayers.stayers.items) c.args.self.now (record { canvas = c.args.self.now.canvas; roll = c.send_all.new.self; hulls = c.args.self.now.hulls }) refl refl refl
     (subst (λ ns. AreSent (At (c.args.place + 1)) (among ns) c.args.self.now.roll.classes.items c.send_all.new.self.classes.items) c.as_slice-2.ensures.value
     (subst (λ cs. AreSent (At (c.args.place + 1)) (among c.as_slice-2.result.now) cs c.send_all.new.self.classes.items) (ap (λ v. v.items) c.wait_all.ensures) c.send_all.ensures.sent))
     c.requires.sheet)
 
 pub returns-clause-kept : goal.returns-clause-kept
 returns-clause-kept c next p w =
-    let sent : Sheet = record { canvas = c.args.self.now.canvas; roll = c.send_all.new.self } in
-    let found : Sheet = record { canvas = c.args.self.now.canvas; roll = c.find_all.new.self } in
+    let sent : Sheet = record { canvas = c.args.self.now.canvas; roll = c.send_all.new.self; hulls = c.args.self.now.hulls } in
+    let found : Sheet = record { canvas = c.args.self.now.canvas; roll = c.find_all.new.self; hulls = c.args.self.now.hulls } in
     let got = slice_get-get_or c.args.errand.now.code.now c.args.place c.index-errand-place.result (part_within c.args.errand.now.code.now c.args.errand.now.part c.args.place c.requires.part c.requires.high) in
     let jumps = part_jumps c.args.errand.now.code.now c.args.errand.now.part c.args.place (get_or c.args.errand.now.code.now c.args.place c.index-errand-place.result) c.requires.part c.requires.low c.requires.high got in
     same_futures sent found refl (ap (λ v. v.items) c.find_all.ensures) (course c.args.errand.now next p) next p (subst (λ ts. IsWithin ts p) (sym c.requires.tops) w)

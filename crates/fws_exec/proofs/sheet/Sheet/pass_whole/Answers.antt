@@ -8,7 +8,7 @@ use Rattle.fws_exec.proofs.Sent.{stands_at}
 use Rattle.fws_exec.proofs.sheet.Sheet.pass_whole.Goals as goal
 
 pub returns-clause-sheet : goal.returns-clause-sheet
-returns-clause-sheet c = put_sheet c.args.number c.in_ok-class.class c.args.self.now c.put.new.self c.in_ok-class.ensures.used c.put.ensures.same c.in_ok-put.ensures.put c.requires.sheet
+returns-clause-sheet c = put_sheet c.args.number c.in_ok-class.class c.args.self.now c.put.new.self c.in_ok-class.ensures.used c.put.ensures.same (ap (λ v. v.items) c.put.ensures.hulls) c.in_ok-put.ensures.put c.requires.sheet
 
 pub returns-clause-kept : goal.returns-clause-kept
 returns-clause-kept c =

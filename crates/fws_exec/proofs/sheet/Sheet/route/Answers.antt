@@ -20,7 +20,7 @@ send_all-requires c n a =
     slice_get_within c.divide_all.new.self.roll.classes.items n (record { spot = Before Arrive; progress = there.0 }) there.1
 
 pub returns-clause-sheet : goal.returns-clause-sheet
-returns-clause-sheet c = sent_sheet (onward_spot c.args.ground.now.site.now.forwarding) (among c.as_slice-2.result.now) c.divide_all.new.self (record { canvas = c.divide_all.new.self.canvas; roll = c.send_all.new.self }) (onward_used c.args.ground.now.site.now.forwarding) refl
+returns-clause-sheet c = sent_sheet (onward_spot c.args.ground.now.site.now.forwarding) (among c.as_slice-2.result.now) c.divide_all.new.self (record { canvas = c.divide_all.new.self.canvas; roll = c.send_all.new.self; hulls = c.divide_all.new.self.hulls }) (onward_used c.args.ground.now.site.now.forwarding) refl refl
     (subst (λ s. AreSent s (among c.as_slice-2.result.now) c.divide_all.new.self.roll.classes.items c.send_all.new.self.classes.items) c.onward_spot-onward.ensures c.send_all.ensures.sent) c.in_ok-divide_all.ensures.sheet
 
 pub returns-clause-between : goal.returns-clause-between
@@ -29,7 +29,7 @@ returns-clause-between c = routed_outside c.args.ground.now.site.now.forwarding 
 
 pub returns-clause-meant : goal.returns-clause-meant
 returns-clause-meant c =
-    routed c.args.ground.now.site.now c.args.ground.now.state between c.in_ok-cond.cond (among c.in_ok-numbers.numbers.items) c.args.self.now c.divide_all.new.self (record { canvas = c.divide_all.new.self.canvas; roll = c.send_all.new.self }) c.requires.sheet c.requires.tops
+    routed c.args.ground.now.site.now c.args.ground.now.state between c.in_ok-cond.cond (among c.in_ok-numbers.numbers.items) c.args.self.now c.divide_all.new.self (record { canvas = c.divide_all.new.self.canvas; roll = c.send_all.new.self; hulls = c.divide_all.new.self.hulls }) c.requires.sheet c.requires.tops
     (c.in_ok-cond.ensures c.args.ground.now.site.now c.requires.ground.ways) c.in_ok-numbers.ensures.here c.in_ok-numbers.ensures.all c.in_ok-divide_all.ensures.grown.grows
     (subst (λ ns. AreMoved (goings.To (Before Deliver)) (among ns) (held c.args.ground.now.site.now c.args.ground.now.state between c.in_ok-cond.cond) c.args.self.now c.divide_all.new.self) c.as_slice.ensures.value c.in_ok-divide_all.ensures.moved)
     refl

@@ -9,7 +9,7 @@ use Rattle.fws_exec.proofs.sheet.Sheet.turn.Goals as goal
 
 pub returns-clause-sheet : goal.returns-clause-sheet
 returns-clause-sheet c =
-    turned_sheet c.args.turn c.args.self.now c.loop-number.self c.requires c.loop-number.invariant.canvas
+    turned_sheet c.args.turn c.args.self.now c.loop-number.self c.requires c.loop-number.invariant.canvas (ap (λ v. v.items) c.loop-number.invariant.hulls)
     (λ n. elim (cases_Bool (nat_lt n c.loop-number.number)) [
       | inl t ↦ c.loop-number.invariant.done n (ltb-true n c.loop-number.number t)
       | inr f ↦ (

@@ -5,6 +5,7 @@ use Rattle.fws_exec.proofs.sheet.Sheet.turn.Given as goal
 abbrev pub invariant-loop-number : goal.invariant-loop-number
 invariant-loop-number l = record {
   canvas : l.self.canvas ≡ l.initial.self.canvas;
+  hulls : l.self.hulls ≡ l.initial.self.hulls;
   count : length l.self.roll.classes.items ≡ length l.initial.self.roll.classes.items;
   done : (n : ℕ) → n < l.number → slice_get l.self.roll.classes.items n ≡ option_map (turned l.turn) (slice_get l.initial.self.roll.classes.items n);
   left : (n : ℕ) → l.number ≤ n → slice_get l.self.roll.classes.items n ≡ slice_get l.initial.self.roll.classes.items n;
