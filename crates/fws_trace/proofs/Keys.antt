@@ -10,7 +10,7 @@ use Rattle.fws_net.specs.declared.connection.Tuple.{Tuple}
 use Rattle.fws_net.specs.Connections.{matches, inverse, class_of}
 use Rattle.fws_net.specs.Fates.{has_ports}
 use Rattle.fws_trace.specs.declared.classes.Key.{Key}
-use Rattle.fws_trace.specs.Classes.{key_of, key_eq, first_class, class_by}
+use Rattle.fws_trace.specs.Classes.{key_of, key_eq, first_class, class_by, settled}
 
 -- Keys
 
@@ -92,3 +92,57 @@ class_behind [] ys t = refl
 class_behind (c ∷ cs) ys t =
     ap (λ k. cond (matches c.orig t) (Est (inverse c.reply)) (cond (matches c.reply t) (Est (inverse c.orig)) k)) (class_behind cs ys t)
     ∙ chosen (matches c.orig t) (matches c.reply t) (inverse c.reply) (inverse c.orig) (class_of cs t) (class_of ys t)
+
+-- tuples that match are matched by the same tuples
+pub alike : (a b c : Tuple) → matches a b ≡ true → matches c a ≡ matches c b
+alike a b c m = sym (keys_match c a) ∙ ap (λ (k : Key). key_eq (key_of c) k) (same_key (key_of a) (key_of b) (keys_match a b ∙ m)) ∙ keys_match c b
+
+-- Settling
+
+to_new : (old new : Option Rec) (is : Bool) → new ≡ cond is None old → option_map_or Est new New ≡ settled is New (option_map_or Est old New)
+to_new None new true e = ap (λ o. option_map_or Est o New) e
+to_new None new false e = ap (λ o. option_map_or Est o New) e
+to_new (Some r) new true e = ap (λ o. option_map_or Est o New) e
+to_new (Some r) new false e = ap (λ o. option_map_or Est o New) e
+
+to_ends : (old new : Option Rec) (is : Bool) (ends r : Rec) → new ≡ cond is (Some ends) old → (is ≡ true → old ≡ Some r)
+    → option_map_or Est new New ≡ settled is (Est ends) (option_map_or Est old New)
+to_ends None new true ends r e known = let h = known refl in absurd (cc)
+to_ends None new false ends r e known = ap (λ o. option_map_or Est o New) e
+to_ends (Some s) new true ends r e known = ap (λ o. option_map_or Est o New) e
+to_ends (Some s) new false ends r e known = ap (λ o. option_map_or Est o New) e
+
+as_before : (old : Option Rec) (is : Bool) (k : Kind) → (is ≡ true → old ≡ None) → option_map_or Est old New ≡ settled is k (option_map_or Est old New)
+as_before None is k none = refl
+as_before (Some r) true k none = let h = none refl in absurd (cc)
+as_before (Some r) false k none = refl
+
+-- what is known of a tuple is known of those that match it
+found_alike : (find : Key → Option Rec) (own t : Tuple) → matches own t ≡ true → find (key_of own) ≡ find (key_of t)
+found_alike find own t m = ap find (same_key (key_of own) (key_of t) (keys_match own t ∙ m))
+
+pub settled_new : (find found : Key → Option Rec) (own t : Tuple) → found (key_of t) ≡ cond (key_eq (key_of own) (key_of t)) None (find (key_of t))
+    → option_map_or Est (found (key_of t)) New ≡ settled (matches own t) New (option_map_or Est (find (key_of t)) New)
+settled_new find found own t e = to_new (find (key_of t)) (found (key_of t)) (matches own t) (e ∙ ap (λ b. cond b None (find (key_of t))) (keys_match own t))
+
+pub settled_ends : (find found : Key → Option Rec) (own t : Tuple) (ends r : Rec) → find (key_of own) ≡ Some r
+    → found (key_of t) ≡ cond (key_eq (key_of own) (key_of t)) (Some ends) (find (key_of t))
+    → option_map_or Est (found (key_of t)) New ≡ settled (matches own t) (Est ends) (option_map_or Est (find (key_of t)) New)
+settled_ends find found own t ends r known e = to_ends (find (key_of t)) (found (key_of t)) (matches own t) ends r
+    (e ∙ ap (λ b. cond b (Some ends) (find (key_of t))) (keys_match own t)) (λ m. sym (found_alike find own t m) ∙ known)
+
+pub settled_none : (find : Key → Option Rec) (own t : Tuple) (k : Kind) → find (key_of own) ≡ None
+    → option_map_or Est (find (key_of t)) New ≡ settled (matches own t) k (option_map_or Est (find (key_of t)) New)
+settled_none find own t k none = as_before (find (key_of t)) (matches own t) k (λ m. sym (found_alike find own t m) ∙ none)
+
+back : (m : Bool) (old mid before : Kind) (ends : Rec) → (m ≡ true → before ≡ old) → mid ≡ first_class old (cond m (Est ends) New) → settled m before mid ≡ old
+back true New mid before ends same e = ap (λ k. settled true before k) e ∙ same refl
+back true (Est r) mid before ends same e = ap (λ k. settled true before k) e ∙ same refl
+back false New mid before ends same e = ap (λ k. settled false before k) e
+back false (Est r) mid before ends same e = ap (λ k. settled false before k) e
+
+-- a tuple that was noted and is settled as before
+pub restored : (find : Key → Option Rec) (own t : Tuple) (before mid : Kind) (ends : Rec) → before ≡ option_map_or Est (find (key_of own)) New
+    → mid ≡ first_class (option_map_or Est (find (key_of t)) New) (class_by own ends t) → settled (matches own t) before mid ≡ option_map_or Est (find (key_of t)) New
+restored find own t before mid ends known e = back (matches own t) (option_map_or Est (find (key_of t)) New) mid before ends
+    (λ m. known ∙ ap (λ o. option_map_or Est o New) (found_alike find own t m)) e

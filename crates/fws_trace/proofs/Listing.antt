@@ -7,7 +7,7 @@ use Rattle.fws_num.specs.declared.word.Word.{Word}
 use Rattle.fws_num.specs.Lines.{read_of}
 use Rattle.fws_net.specs.declared.answer.TextAnswer.{TextAnswer}
 use Rattle.fws_net.specs.declared.answer.TextAnswer.TheVariants as texts
-use Rattle.fws_net.specs.Reading.{Refusal, AnswerGiven, and_then, located, lines_read, text_read}
+use Rattle.fws_net.specs.Reading.{Refusal, AnswerGiven, ReadGiven, and_then, located, lines_read, text_read}
 use Rattle.fws_trace.specs.declared.answer.LineAnswer.{LineAnswer}
 use Rattle.fws_trace.specs.declared.answer.LineAnswer.TheVariants as answers
 use Rattle.fws_trace.specs.declared.answer.Malformed.{Malformed}
@@ -54,10 +54,11 @@ refused_at (Ok ys) line cause e = absurd (cc)
 refused_at (Err n) line cause e = ap Err (ap line_of e)
 
 -- a text that is read lists these values
-pub accepted : {A : Type 0} (spelled : List Word → Option A) (text : List ℕ) (start xs items : List A) → start ≡ []
-    → text_read HashLine (line_step spelled) (λ ys. Ok ys) start text ≡ Ok xs → items ≡ xs → text_listed spelled text ≡ Ok items
-accepted {A} spelled text start xs items none e same = listed_all (text_listed spelled text) items
-    (sym (by_text spelled text) ∙ ap (λ (ys : List A). text_read HashLine (line_step spelled) (λ zs. Ok zs) ys text) (sym none) ∙ e ∙ ap Ok (sym same))
+pub accepted : {A : Type 0} (spelled : List Word → Option A) (text : List ℕ) (read : Result (List A) (TextAnswer Malformed)) (xs items : List A) → read ≡ Ok xs
+    → ReadGiven read (text_read HashLine (line_step spelled) (λ ys. Ok ys) [] text) → items ≡ xs → text_listed spelled text ≡ Ok items
+accepted {A} spelled text read xs items is given same = listed_all (text_listed spelled text) items
+    (sym (by_text spelled text) ∙ subst (λ (r : Result (List A) (TextAnswer Malformed)). ReadGiven r (text_read HashLine (line_step spelled) (λ ys. Ok ys) [] text)) is given
+    ∙ ap Ok (sym same))
 
 refusal : {A : Type 0} (spelled : List Word → Option A) (text : List ℕ) (answer : TextAnswer Malformed) (told : LineAnswer)
     → AnswerGiven answer (text_read HashLine (line_step spelled) (λ ys. Ok ys) [] text)
@@ -69,10 +70,10 @@ refusal spelled text (texts.Refused line cause) told given is_line is_memory =
 refusal spelled text texts.Memory told given is_line is_memory = subst (λ t. IsGiven t (text_listed spelled text)) (sym (is_memory refl)) tt
 
 -- a text that is refused lists none, for its first line that spells none
-pub refused : {A : Type 0} (spelled : List Word → Option A) (text : List ℕ) (start : List A) (answer : TextAnswer Malformed) (told : LineAnswer) → start ≡ []
-    → AnswerGiven answer (text_read HashLine (line_step spelled) (λ ys. Ok ys) start text)
+pub refused : {A : Type 0} (spelled : List Word → Option A) (text : List ℕ) (read : Result (List A) (TextAnswer Malformed)) (answer : TextAnswer Malformed) (told : LineAnswer)
+    → read ≡ Err answer → ReadGiven read (text_read HashLine (line_step spelled) (λ ys. Ok ys) [] text)
     → ((line : ℕ) (cause : Malformed) → answer ≡ texts.Refused line cause → told ≡ answers.Refused line)
     → (answer ≡ texts.Memory → told ≡ answers.Memory)
     → IsGiven told (text_listed spelled text)
-refused {A} spelled text start answer told none given = refusal spelled text answer told
-    (subst (λ (ys : List A). AnswerGiven answer (text_read HashLine (line_step spelled) (λ zs. Ok zs) ys text)) none given)
+refused {A} spelled text read answer told is given = refusal spelled text answer told
+    (subst (λ (r : Result (List A) (TextAnswer Malformed)). ReadGiven r (text_read HashLine (line_step spelled) (λ ys. Ok ys) [] text)) is given)

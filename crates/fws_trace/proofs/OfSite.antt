@@ -1,6 +1,7 @@
 -- Packets that are read are packets of the site.
-use Rattle.std.proofs.Common.{◌≡◌, ℕ, suc, ◌+◌, ◌≤◌, Bool, true, false, cond, Option, Some, None, option_and_then, Result, Ok, Err, List, [], ◌∷◌, length, All, IfOk, IfSome, ◌&&◌, nat_le, refl, arith}
+use Rattle.std.proofs.Common.{◌≡◌, ℕ, suc, ◌+◌, ◌≤◌, Bool, true, false, cond, Option, Some, None, option_and_then, Result, Ok, Err, List, [], ◌∷◌, length, All, IfOk, IfSome, MatchResult, ◌&&◌, nat_le, refl, arith}
 use Rattle.std.proofs.lemmas.Bool.{and_parts, leb-true}
+use Rattle.std.proofs.lemmas.Result.{IfOk-at_ok}
 use Rattle.std.proofs.lemmas.List.Elements.{All-nil, All-cons}
 use Rattle.std.specs.Prelude.{codes}
 use Rattle.std.specs.Option.{option_map}
@@ -91,7 +92,7 @@ from_of_site site entry (a ∷ b ∷ c ∷ d ∷ e ∷ f ∷ g ∷ []) entered =
     (λ marks flagged. record { entered = entered; flagged = flagged }))
 from_of_site site entry (a ∷ b ∷ c ∷ d ∷ e ∷ f ∷ g ∷ h ∷ rest) entered = tt
 
-words_of_site : (site : Site) (words : List Word) → IfSome (spelled_packet site words) (IsOfSite site)
+pub words_of_site : (site : Site) (words : List Word) → IfSome (spelled_packet site words) (IsOfSite site)
 words_of_site site [] = tt
 words_of_site site (w ∷ words) = then_has (IsEntryOf site) (IsOfSite site) (spelled_entry site w.text) (λ from. spelled_from from words) (entry_of_site site w.text)
     (λ from entered. from_of_site site from words entered)
@@ -108,3 +109,9 @@ behind_of_site site n (Some p) (Err m) one all = tt
 pub listed_of_site : (site : Site) (ls : List Line) → IfOk (lines_listed (spelled_packet site) ls) (All (IsOfSite site))
 listed_of_site site [] = All-nil (IsOfSite site)
 listed_of_site site (l ∷ ls) = behind_of_site site l.number (spelled_line (spelled_packet site) l) (lines_listed (spelled_packet site) ls) (line_of_site site l) (listed_of_site site ls)
+
+-- what holds of all that a text lists holds of all that is read of it
+pub read_has : {V E A : Type 0} (r : Result V E) (items : V → List A) (read : Result (List A) ℕ) (P : List A → Type 0) (Q : E → Type 0)
+    → MatchResult r (λ v. read ≡ Ok (items v)) Q → IfOk read P → IfOk r (λ v. P (items v))
+read_has (Ok v) items read P Q e all = IfOk-at_ok P e all
+read_has (Err e) items read P Q f all = tt

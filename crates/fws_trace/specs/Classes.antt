@@ -40,3 +40,8 @@ first_class (Est r) k = Est r
 -- the class of the packets that match a tuple and leave with these ends
 abbrev pub class_by : Tuple → Rec → Tuple → Kind
 class_by own ends t = if matches own t then Est ends else New
+
+-- packets that have ends get another class where it is for them; those that have none keep none
+abbrev pub settled : Bool → Kind → Kind → Kind
+settled is_for k New = New
+settled is_for k (Est r) = if is_for then k else Est r

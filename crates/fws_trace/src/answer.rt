@@ -22,7 +22,7 @@ pub enum LineAnswer {
 
 /// A line that spells none: the one thing that can be wrong with it.
 #[derive(Clone, Copy, Debug, PartialEq, Eq)]
-pub(crate) struct Malformed;
+pub struct Malformed;
 
 impl From<Memory> for LineAnswer {
     ghost use Rattle.std.specs.Prelude.{◌≡◌};

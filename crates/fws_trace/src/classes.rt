@@ -1,11 +1,12 @@
 //! The classes of packets against a list of connections, looked up in place of searched.
 
-ghost use Rattle.std.specs.Prelude.{◌≡◌, [], ◌∷◌, IfOk, OnOk};
+ghost use Rattle.std.specs.Prelude.{◌≡◌, true, List, [], ◌∷◌, ◌++◌, IfOk, OnOk, OnErr};
 ghost use Rattle.std.specs.HashMap.{get};
+ghost use Rattle.fws_net.specs.declared.connection.Conn.{Conn};
 ghost use Rattle.fws_net.specs.declared.connection.Tuple.{Tuple};
-ghost use Rattle.fws_net.specs.Connections.{tuple_of, inverse, class_of};
+ghost use Rattle.fws_net.specs.Connections.{tuple_of, matches, inverse, class_of};
 ghost use Rattle.fws_net.specs.Fates.{has_ports};
-ghost use Rattle.fws_trace.specs.Classes.{key_of, key_eq, counted_port, class_in, first_class, class_by};
+ghost use Rattle.fws_trace.specs.Classes.{key_of, key_eq, counted_port, class_in, first_class, class_by, settled};
 
 use fws_net::{Conn, Kind, Packet, Rec, Tuple};
 use fws_num::Memory;
@@ -25,7 +26,7 @@ pub(crate) fn has_ports(proto: u8) -> bool
 
 /// What a tuple shares with those that match it, and with no other: ports that don't count are 0.
 #[derive(Clone, Copy, PartialEq, Eq, Hash)]
-pub(crate) struct Key {
+pub struct Key {
     proto: u8,
     dst: u32,
     dport: u16,
@@ -68,13 +69,14 @@ fn inverse(tuple: &Tuple) -> Rec
 
 /// The classes of packets: for each tuple of a connection, the ends with which matching packets leave.
 #[derive(Drop)]
-pub(crate) struct Classes {
-    ends: HashMap<Key, Rec>,
+pub struct Classes {
+    /// The ends, by what the tuple shares with those that match it.
+    pub ends: HashMap<Key, Rec>,
 }
 
 impl Classes {
     /// The classes against no connections.
-    fn none(alloc: Global) -> Classes
+    pub fn none(alloc: Global) -> Classes
         ensures { (t : Tuple) → class_in result t ≡ Kind.New }
     {
         Classes {
@@ -91,7 +93,8 @@ impl Classes {
 
     /// Notes the ends of packets that match the tuple, unless these have some already.
     fn note(&mut self, tuple: &Tuple, ends: Rec) -> Result<(), Memory>
-        ensures { OnOk result ((t : Tuple) → class_in self.new t ≡ first_class (class_in self.old t) (class_by tuple.now ends t)) }
+        ensures noted { OnOk result ((t : Tuple) → class_in self.new t ≡ first_class (class_in self.old t) (class_by tuple.now ends t)) }
+        ensures kept { OnErr result ((t : Tuple) → class_in self.new t ≡ class_in self.old t) }
     {
         let key = Key::of(tuple);
         match self.find(&key) {
@@ -103,12 +106,47 @@ impl Classes {
         }
     }
 
-    /// Notes a connection behind those that are known: its original tuple, and then its reply tuple.
-    fn add(&mut self, conn: &Conn) -> Result<(), Memory>
-        ensures { OnOk result ((t : Tuple) → class_in self.new t ≡ first_class (class_in self.old t) (class_of (conn.now ∷ []) t)) }
+    /// Gives packets whose tuples have the key other ends, if they have some now.
+    fn replace(&mut self, key: Key, ends: Rec)
+        ensures { (t : Tuple) → (k : Tuple) → key ≡ key_of k → class_in self.new t ≡ settled (matches k t) (Kind.Est ends) (class_in self.old t) }
     {
+        match self.find(&key) {
+            Some(_) => match self.ends.insert(key, ends) {
+                Ok(_) => {}
+                Err(_) => {}
+            },
+            None => {}
+        }
+    }
+
+    /// Gives packets that match the tuple another class, if they have ends now. It takes no memory.
+    pub fn settle(&mut self, tuple: &Tuple, kind: &Kind)
+        ensures { (t : Tuple) → class_in self.new t ≡ settled (matches tuple.now t) kind.now (class_in self.old t) }
+    {
+        let key = Key::of(tuple);
+        match kind {
+            Kind::New => {
+                self.ends.remove(&key);
+            }
+            Kind::Est(ends) => self.replace(key, *ends),
+        }
+    }
+
+    /// Notes a connection behind those that are known: its original tuple, and then its reply tuple. After
+    /// want of memory the classes are as before.
+    pub fn add(&mut self, conn: &Conn) -> Result<(), Memory>
+        ensures noted { OnOk result ((t : Tuple) → class_in self.new t ≡ first_class (class_in self.old t) (class_of (conn.now ∷ []) t)) }
+        ensures kept { OnErr result ((t : Tuple) → class_in self.new t ≡ class_in self.old t) }
+    {
+        let before = self.known(&conn.orig);
         self.note(&conn.orig, inverse(&conn.reply))?;
-        self.note(&conn.reply, inverse(&conn.orig))
+        match self.note(&conn.reply, inverse(&conn.orig)) {
+            Ok(()) => Ok(()),
+            Err(e) => {
+                self.settle(&conn.orig, &before);
+                Err(e)
+            }
+        }
     }
 
     /// The classes against the connections.
@@ -122,13 +160,27 @@ impl Classes {
         Ok(classes)
     }
 
-    /// The class of a packet as it enters.
-    pub(crate) fn class(&self, p: &Packet) -> Kind
-        ensures { result ≡ class_in self.now (tuple_of p.now) }
+    /// The class of packets that match the tuple.
+    fn known(&self, tuple: &Tuple) -> Kind
+        ensures { result ≡ class_in self.now tuple.now }
     {
-        match self.find(&Key::of(&p.tuple())) {
+        match self.find(&Key::of(tuple)) {
             Some(ends) => Kind::Est(ends),
             None => Kind::New,
         }
     }
+
+    /// The class of a packet as it enters.
+    pub fn class(&self, p: &Packet) -> Kind
+        ensures { result ≡ class_in self.now (tuple_of p.now) }
+    {
+        self.known(&p.tuple())
+    }
 }
+
+/// Does nothing: the clauses are laws of classes. Tuples that match are matched by the same tuples; and what
+/// a list gives with more connections behind it is the class by the list, or else by those behind it.
+pub fn classes_are_found_in_order()
+    ensures alike { (a b c : Tuple) → matches a b ≡ true → matches c a ≡ matches c b }
+    ensures behind { (xs ys : List Conn) (t : Tuple) → class_of (xs ++ ys) t ≡ first_class (class_of xs t) (class_of ys t) }
+{}

@@ -4,9 +4,9 @@ ghost use Rattle.std.specs.Prelude.{◌≡◌, MatchResult};
 ghost use Rattle.fws_trace.specs.Lines.{IsGiven, spelled_line};
 ghost use Rattle.fws_trace.specs.ConnectionText.{spelled_conn, conns_of};
 
-use crate::answer::{LineAnswer, Malformed, line_answer};
+use crate::answer::{LineAnswer, Malformed};
 use crate::ends::read_tuple;
-use crate::lines::put_spelled;
+use crate::lines::{listed, put_spelled};
 use fws_net::{Conn, LineFault, LineReader, read_text};
 use fws_num::{Comments, Items, Line, Word, are_sound};
 use std::alloc::Global;
@@ -87,8 +87,5 @@ pub fn read_conns(alloc: Global, text: &[u8]) -> Result<Vec<Conn>, LineAnswer>
     let reader = ConnReader {
         conns: Items::new(alloc),
     };
-    match read_text(alloc, Comments::HashLine, reader, &(), text) {
-        Ok(conns) => Ok(conns.into_vec()),
-        Err(answer) => Err(line_answer(answer)),
-    }
+    listed(read_text(alloc, Comments::HashLine, reader, &(), text))
 }

@@ -10,7 +10,10 @@ mod packets;
 mod spelling;
 mod tracing;
 
-pub use answer::LineAnswer;
+pub use answer::{LineAnswer, Malformed};
+pub use classes::{Classes, classes_are_found_in_order};
 pub use connections::read_conns;
-pub use packets::read_packets;
-pub use tracing::trace;
+pub use lines::{listed, put_spelled};
+pub use packets::{read_packet, read_packets, spelled_packets_are_of_site};
+pub use spelling::put_fate;
+pub use tracing::{outcome_by, trace};

@@ -1,14 +1,16 @@
 //! Texts of packets.
 
-ghost use Rattle.std.specs.Prelude.{◌≡◌, All, MatchResult, IfOk};
+ghost use Rattle.std.specs.Prelude.{◌≡◌, List, All, MatchResult, IfOk, IfSome};
+ghost use Rattle.fws_num.specs.declared.word.Word.{Word};
+ghost use Rattle.fws_net.specs.declared.site.Site.{Site};
 ghost use Rattle.fws_net.specs.Routes.{IsSound};
 ghost use Rattle.fws_net.specs.SiteLines.{entry_from};
 ghost use Rattle.fws_trace.specs.Lines.{IsGiven, spelled_line};
 ghost use Rattle.fws_trace.specs.PacketText.{spelled_entry, spelled_marks, spelled_from, spelled_packet, packets_of, IsOfSite};
 
-use crate::answer::{LineAnswer, Malformed, line_answer};
+use crate::answer::{LineAnswer, Malformed};
 use crate::ends::{read_byte, read_tuple};
-use crate::lines::put_spelled;
+use crate::lines::{listed, put_spelled};
 use fws_net::{LineFault, LineReader, Packet, Site, read_text};
 use fws_num::{Comments, Items, Line, Word, are_sound, read_dec};
 use std::alloc::Global;
@@ -84,8 +86,8 @@ fn read_from(entry: u8, words: &[Word]) -> Option<Packet>
     })
 }
 
-/// The packet that the words of a line spell.
-fn read_packet(site: &Site, words: &[Word]) -> Option<Packet>
+/// The packet that the words of a line spell: those of which `read_packets` says what they are.
+pub fn read_packet(site: &Site, words: &[Word]) -> Option<Packet>
     requires { IsSound site.now }
     ensures { result ≡ spelled_packet site.now words.now }
 {
@@ -165,8 +167,10 @@ pub fn read_packets(alloc: Global, text: &[u8], site: &Site) -> Result<Vec<Packe
     let reader = PacketReader {
         packets: Items::new(alloc),
     };
-    match read_text(alloc, Comments::HashLine, reader, site, text) {
-        Ok(packets) => Ok(packets.into_vec()),
-        Err(answer) => Err(line_answer(answer)),
-    }
+    listed(read_text(alloc, Comments::HashLine, reader, site, text))
 }
+
+/// Does nothing: the clause is a law. A packet that words spell is one of the site.
+pub fn spelled_packets_are_of_site()
+    ensures { (site : Site) (words : List Word) → IfSome (spelled_packet site words) (IsOfSite site) }
+{}

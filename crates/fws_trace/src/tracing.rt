@@ -50,8 +50,9 @@ fn point_with(site: &Site, p: Packet, ends: Rec) -> Point
     ]
 }
 
-/// The outcome that the table of its class has for a packet of the site.
-fn outcome_by(site: &Site, t: &Tables, p: &Packet, kind: &Kind) -> Outcome
+/// The outcome that the table of its class has for a packet of the site: the value at the packet's point, which
+/// lies within the tops.
+pub fn outcome_by(site: &Site, t: &Tables, p: &Packet, kind: &Kind) -> Outcome
     requires fresh_tops { t.now.fresh.0 ≡ tops_of site.now }
     requires est_tops { t.now.est.0 ≡ tops_of site.now }
     requires of_site { IsOfSite site.now p.now }

@@ -1,21 +1,21 @@
-use Rattle.std.proofs.Common.{All}
-use Rattle.std.proofs.lemmas.Result.{IfOk-at_ok}
+use Rattle.std.proofs.Common.{List, Ok, All, subst}
 use Rattle.fws_num.specs.declared.comments.Comments.TheVariants.{HashLine}
 use Rattle.fws_num.specs.Lines.{read_of}
-use Rattle.fws_trace.specs.PacketText.{spelled_packet, IsOfSite}
-use Rattle.fws_trace.proofs.Listing.{accepted, refused}
-use Rattle.fws_trace.proofs.OfSite.{listed_of_site}
+use Rattle.fws_net.specs.declared.packet.Packet.{Packet}
+use Rattle.fws_net.specs.Reading.{ReadGiven, text_read}
+use Rattle.fws_trace.specs.Lines.{IsGiven, line_step}
+use Rattle.fws_trace.specs.PacketText.{spelled_packet, packets_of, IsOfSite}
+use Rattle.fws_trace.proofs.OfSite.{listed_of_site, read_has}
 use Rattle.fws_trace.proofs.packets.read_packets.Goals as goal
 
-pub returns-in-Ok-clause-given : goal.returns-in-Ok-clause-given
-returns-in-Ok-clause-given c = accepted (spelled_packet c.args.site.now) c.args.text.now c.new.result c.in-Ok.packets c.into_vec.result.items
-    c.new.ensures c.in-Ok.ensures c.into_vec.ensures
+pub returns-clause-given : goal.returns-clause-given
+returns-clause-given c = c.listed.ensures (spelled_packet c.args.site.now) c.args.text.now
+    (subst (λ (xs : List Packet). ReadGiven c.read_text.result (text_read HashLine (line_step (spelled_packet c.args.site.now)) (λ ys. Ok ys) xs c.args.text.now))
+    c.new.ensures c.read_text.ensures)
 
-pub returns-in-Ok-clause-of_site : goal.returns-in-Ok-clause-of_site
-returns-in-Ok-clause-of_site c = IfOk-at_ok (All (IsOfSite c.args.site.now))
-    (accepted (spelled_packet c.args.site.now) c.args.text.now c.new.result c.in-Ok.packets c.into_vec.result.items c.new.ensures c.in-Ok.ensures c.into_vec.ensures)
-    (listed_of_site c.args.site.now (read_of HashLine c.args.text.now).lines)
-
-pub returns-in-Err-clause-given : goal.returns-in-Err-clause-given
-returns-in-Err-clause-given c = refused (spelled_packet c.args.site.now) c.args.text.now c.new.result c.in-Err.answer c.line_answer.result
-    c.new.ensures c.in-Err.ensures c.line_answer.ensures.refused c.line_answer.ensures.memory
+pub returns-clause-of_site : goal.returns-clause-of_site
+returns-clause-of_site c =
+    let site = c.args.site.now in
+    let text = c.args.text.now in
+    read_has c.listed.result (λ packets. packets.items) (packets_of text site) (All (IsOfSite site)) (λ answer. IsGiven answer (packets_of text site))
+    (returns-clause-given c) (listed_of_site site (read_of HashLine text).lines)

@@ -14,5 +14,5 @@ loop-conn-preserved c t =
     let conns = c.args.conns.now in
     let k = c.loop-conn.conn-index in
     let conn : Conn = get_or conns k other in
-    c.in_ok-add.ensures t ∙ ap (λ l. first_class l (class_of (conn ∷ []) t)) (c.loop-conn.invariant t) ∙ sym (class_behind (take k conns) (conn ∷ []) t)
+    c.in_ok-add.ensures.noted t ∙ ap (λ l. first_class l (class_of (conn ∷ []) t)) (c.loop-conn.invariant t) ∙ sym (class_behind (take k conns) (conn ∷ []) t)
     ∙ ap (λ xs. class_of xs t) (sym (take_more conns k other c.loop-conn-test.true))
