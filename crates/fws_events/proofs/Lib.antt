@@ -1,0 +1,7 @@
+mod Apart
+mod Entries
+mod EventsOfSite
+mod Fated
+mod KeepStep
+mod Removed
+mod Turns

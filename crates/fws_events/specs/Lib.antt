@@ -1,0 +1,4 @@
+pub mod EventText
+pub mod Listing
+pub mod RunText
+pub mod Runs
