@@ -22,6 +22,11 @@ pub(crate) fn is_within(inner: &[Iv], outer: &[Iv]) -> bool
     true
 }
 
+/// How many intervals the numbers that two sets share have at most. Nothing hangs on it but memory.
+fn room_for(side: &[Iv], set: &[Iv]) -> usize {
+    side.len().saturating_add(set.len()).saturating_sub(1)
+}
+
 /// The numbers of the side that are in the set: the side itself where all of them are. An error is want of
 /// memory.
 pub(crate) fn common<'b>(bump: &'b Bump, side: &'b [Iv], set: &[Iv]) -> Result<&'b [Iv], Memory>
@@ -33,7 +38,7 @@ pub(crate) fn common<'b>(bump: &'b Bump, side: &'b [Iv], set: &[Iv]) -> Result<&
     if is_within(side, set) {
         return Ok(side);
     }
-    let mut both = Vec::new(bump);
+    let mut both = Vec::with_capacity(bump, room_for(side, set))?;
     inter_into(&mut both, side, set)?;
     Ok(into_bump_slice(both))
 }
