@@ -2,3 +2,4 @@ pub mod Boxed
 pub mod Meeting
 pub mod Placed
 pub mod SideBySide
+pub mod Spans

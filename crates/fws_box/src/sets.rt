@@ -8,12 +8,32 @@ use bumpalo::collections::into_bump_slice;
 use fws_iv::{Iv, Overlap, inter_into, minus_into, overlap};
 use fws_num::Memory;
 
-/// Whether each number of `inner` is one of `outer`. Of n and m intervals the time is that of n log m steps.
+/// Whether all numbers from the least to the greatest of `inner` are ones of `outer`.
+fn is_spanned(inner: &[Iv], outer: &[Iv]) -> bool
+    requires inner { IsRegular inner.now }
+    requires outer { IsRegular outer.now }
+    ensures { result ≡ true → (v : ℕ) → has inner.now v ≡ true → has outer.now v ≡ true }
+{
+    let count = inner.len();
+    if count == 0 {
+        return true;
+    }
+    matches!(
+        overlap(outer, inner[0].lo, inner[count - 1].hi),
+        Overlap::Whole
+    )
+}
+
+/// Whether each number of `inner` is one of `outer`. Of n and m intervals the time is that of n log m steps, and of log m
+/// where one interval of `outer` has them all.
 pub(crate) fn is_within(inner: &[Iv], outer: &[Iv]) -> bool
     requires inner { IsRegular inner.now }
     requires outer { IsRegular outer.now }
     ensures { result ≡ true → (v : ℕ) → has inner.now v ≡ true → has outer.now v ≡ true }
 {
+    if is_spanned(inner, outer) {
+        return true;
+    }
     for part in inner {
         if overlap(outer, part.lo, part.hi) != Overlap::Whole {
             return false;
