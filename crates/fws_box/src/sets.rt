@@ -8,6 +8,13 @@ use bumpalo::collections::into_bump_slice;
 use fws_iv::{Iv, Overlap, inter_into, minus_into, overlap};
 use fws_num::Memory;
 
+/// Whether the sets are one: where they are, they have the same intervals.
+fn is_same(a: &[Iv], b: &[Iv]) -> bool
+    ensures { result ≡ true → a.now ≡ b.now }
+{
+    a == b
+}
+
 /// Whether all numbers from the least to the greatest of `inner` are ones of `outer`.
 fn is_spanned(inner: &[Iv], outer: &[Iv]) -> bool
     requires inner { IsRegular inner.now }
@@ -24,13 +31,16 @@ fn is_spanned(inner: &[Iv], outer: &[Iv]) -> bool
     )
 }
 
-/// Whether each number of `inner` is one of `outer`. Of n and m intervals the time is that of n log m steps, and of log m
-/// where one interval of `outer` has them all.
+/// Whether each number of `inner` is one of `outer`. Of n and m intervals the time is that of n log m steps; of n where the
+/// sets are one, and of log m where one interval of `outer` has all of `inner`.
 pub(crate) fn is_within(inner: &[Iv], outer: &[Iv]) -> bool
     requires inner { IsRegular inner.now }
     requires outer { IsRegular outer.now }
     ensures { result ≡ true → (v : ℕ) → has inner.now v ≡ true → has outer.now v ≡ true }
 {
+    if is_same(inner, outer) {
+        return true;
+    }
     if is_spanned(inner, outer) {
         return true;
     }

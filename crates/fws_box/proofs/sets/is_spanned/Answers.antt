@@ -1,4 +1,4 @@
-use Rattle.std.proofs.Common.{◌≡◌, ℕ, ◌-◌, arith, length, suc}
+use Rattle.std.proofs.Common.{◌≡◌, ◌-◌, arith, length, suc}
 use Rattle.fws_box.proofs.Spans.{span, from_first, to_last}
 use Rattle.fws_box.proofs.sets.is_spanned.Goals as goal
 
