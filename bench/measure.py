@@ -1,8 +1,8 @@
 """python3 measure.py FAMILY COUNT SECONDS MEGABYTES COMMAND WORDS..
 
 Runs the command, which is to end with status 0 within these bounds. Its first line is to be `table new N`,
-`table est N`, `execute N..`, `load COUNT N..` or `COUNT N..`; prints a line `FAMILY COUNT seconds megabytes N..`. Exit status 1 past the bounds, or where
-the command ends otherwise.
+`table est N`, `execute N..`, `load COUNT N..` or `COUNT N..`; prints a line `FAMILY COUNT seconds megabytes N..`. Exit status 1
+past the bounds, or where the command ends otherwise.
 """
 
 import resource

@@ -54,16 +54,20 @@ def literal(rng):
     return ('!' if rng.random() < 0.25 else '') + kinds[rng.choices(names, weights)[0]]()
 
 
+def end(rng):
+    """An end that is written: an address, an address and a port, or a network."""
+    return rng.choice([rng.choice(ADDRESSES), rng.choice(ADDRESSES) + ':' + rng.choice(PORTS), network(rng)])
+
+
 def act(rng, place, past):
     """An act of the instruction at a place of a part that ends ahead of the place past."""
-    end = lambda: rng.choice([rng.choice(ADDRESSES), rng.choice(ADDRESSES) + ':' + rng.choice(PORTS), network(rng)])
     kinds = {
         'accept': lambda: 'accept',
         'drop': lambda: 'drop',
         'hold': lambda: rng.choice(['hold-accept', 'hold-drop']),
         'jump': lambda: 'jump %d' % rng.randint(place + 1, past),
-        'src': lambda: 'src ' + end(),
-        'dst': lambda: 'dst ' + end(),
+        'src': lambda: 'src ' + end(rng),
+        'dst': lambda: 'dst ' + end(rng),
         'rec': lambda: rng.choice(['rec-src', 'rec-dst']),
         'add': lambda: 'add-tag %d' % rng.choice(TAGS),
         'only': lambda: 'only-tag %d' % rng.choice(TAGS),

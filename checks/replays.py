@@ -138,7 +138,8 @@ def main(seed):
                 lines = answers[0][1][1].splitlines()
                 events += EVENTS
                 tracked += sum(line.startswith(('new accept', 'est ')) for line in lines)
-    print('seed %d: %d pairs of texts, %d differ; %d events, %d of them opened a connection or belonged to one' % (seed, pairs, wrong, events, tracked))
+    print('replays: seed %d, %d pairs of texts, %d differ; %d events, of which %d opened a connection or belonged to one' % (
+        seed, pairs, wrong, events, tracked))
     return 0 if wrong == 0 and pairs >= LEAST_PAIRS else 1
 
 
