@@ -13,7 +13,9 @@ HERE = os.path.dirname(os.path.abspath(__file__))
 
 CRATES = {'top': 'mid itoa', 'mid': 'low', 'side': '', 'low': ''}
 
-SOURCE = '''use std::alloc::Global;
+SOURCE = '''ghost use Rattle.low.specs.Words.{word};
+
+use std::alloc::Global;
 
 /// Twice a number.
 pub fn double(n: u32) -> u32
@@ -129,7 +131,10 @@ class Room:
         self.write('crates.txt', ''.join('%s: %s\n' % pair for pair in CRATES.items()))
         for name in CRATES:
             self.write('crates/%s/src/lib.rt' % name, SOURCE)
-            self.write('crates/%s/specs/Lib.antt' % name, '-- nothing\n')
+            self.write('crates/%s/specs/Lib.antt' % name, 'pub mod Words\n')
+            self.write('crates/%s/specs/Words.antt' % name, '-- nothing\nuse Rattle.low.specs.deep.Letters.{letter}\n')
+            self.write('crates/%s/specs/deep/Letters.antt' % name, '-- a letter\n')
+            self.write('crates/%s/specs/Spare.antt' % name, '-- to spare\n')
             if name != 'side':
                 self.write('crates/%s/edits/%s-halves.edit' % (name, name), 'file: src/lib.rt\nold: + 1\nnew: + 2\n')
         os.makedirs(os.path.join(self.top, 'checks'))
@@ -245,7 +250,10 @@ CHANGED = (
     ('the clause of a private function below', 'crates/low/src/lib.rt', 'result ≡ n }', 'n ≡ result }', ['low']),
     ('a clause below', 'crates/low/src/lib.rt', 'n < 9', 'n < 8', ['low', 'mid', 'top']),
     ('a signature below', 'crates/mid/src/lib.rt', 'double(n: u32)', 'double(n: u64)', ['mid', 'top']),
-    ('a definition below', 'crates/low/specs/Lib.antt', 'nothing', 'nothing more', ['low', 'mid', 'top']),
+    ('a definition below', 'crates/low/specs/Words.antt', 'nothing', 'nothing more', ['low', 'mid', 'top']),
+    ('a definition below that another one names', 'crates/low/specs/deep/Letters.antt', 'letter', 'digit', ['low', 'mid', 'top']),
+    ('a definition below that nothing above names', 'crates/low/specs/Spare.antt', 'spare', 'keep', ['low']),
+    ('a definition of a crate between', 'crates/mid/specs/Words.antt', 'nothing', 'nothing more', ['mid']),
     ('a body', 'crates/top/src/lib.rt', 'half(n) + 1', '1 + half(n)', ['top']),
     ('an edit', 'crates/mid/edits/mid-halves.edit', '+ 2', '+ 3', ['mid']),
     ('a crate beside', 'crates/side/src/lib.rt', 'n < 9', 'n < 8', []),

@@ -3,6 +3,7 @@ checks/edits.sh says how it is called, what it prints and what the records hold.
 """
 
 import argparse
+import functools
 import hashlib
 import os
 import re
@@ -30,6 +31,9 @@ LITTLE = {
     'only because a proof file names what the edit took away': 'only because a proof file names what was taken away',
     'only by a limit of the prover': 'only by a limit',
 }
+
+# What names a module of a crate's specs.
+NAMED = re.compile(r'Rattle\s*\.\s*(\w+)\s*\.\s*specs((?:\s*\.\s*\w+)+)')
 
 # Asks rt's own library whether each library below a crate is built of the files that stand there; the status is 0 where it is. A
 # later toolchain may not be asked so: then the answer is no.
@@ -83,12 +87,10 @@ class Sum:
         return self.sum.hexdigest()
 
 
-def shown_sum(folder):
-    """The sum over what a crate shows to those above it."""
-    found = Sum()
-    found.add_files('specs', files_of(os.path.join(folder, 'specs')))
-    found.add('statements', statements_of(sources(folder)).encode('utf-8', 'surrogateescape'))
-    return found.text()
+@functools.lru_cache(maxsize=None)
+def named(text):
+    """The modules of specs that a text names, each as its crate and the words of its path, to which a name in the module may belong."""
+    return frozenset((crate, tuple(re.findall(r'\w+', path))) for crate, path in NAMED.findall(text))
 
 
 class Tree:
@@ -105,7 +107,7 @@ class Tree:
             self.lines[name], self.uses[name] = ' '.join(words), libraries.replace(',', ' ').split()
         for name, libraries in self.uses.items():
             self.uses[name] = [library for library in libraries if library in self.lines]
-        self.of_below = {}
+        self.of_below, self.of_statements, self.of_specs = {}, {}, {}
 
     def folder(self, name, *parts):
         return os.path.join(self.top, 'crates', name, *parts)
@@ -132,10 +134,39 @@ class Tree:
         path = self.folder(name, 'edits', RECORD)
         return read(path).decode(errors='replace') if os.path.isfile(path) else None
 
+    def statements(self, name):
+        """The statements of a crate's source."""
+        if name not in self.of_statements:
+            self.of_statements[name] = statements_of(sources(self.folder(name)))
+        return self.of_statements[name]
+
+    def spec(self, crate, words):
+        """The file of the module of specs that the words begin with, by its path in the crate, and its text; none where there is no such file."""
+        for count in range(len(words), 0, -1):
+            path = os.path.join('specs', *words[:count]) + '.antt'
+            if (crate, path) not in self.of_specs:
+                file = self.folder(crate, path)
+                self.of_specs[crate, path] = read(file).decode('utf-8', 'surrogateescape') if os.path.isfile(file) else None
+            if self.of_specs[crate, path] is not None:
+                return path, self.of_specs[crate, path]
+        return None
+
+    def specs_below(self, name):
+        """The files of specs of crates below that a crate's files name, or the statements of a crate below, or such a file itself, with their
+        texts, by their crates and paths."""
+        below, found = set(self.below(name)), {}
+        own = [read(file).decode('utf-8', 'surrogateescape') for part in PARTS for file in files_of(self.folder(name, part)).values()]
+        waiting = [one for text in own + [self.statements(low) for low in below] for one in named(text)]
+        while waiting:
+            crate, words = waiting.pop()
+            spec = self.spec(crate, words) if crate in below else None
+            if spec and (crate, spec[0]) not in found:
+                found[crate, spec[0]] = spec[1]
+                waiting += named(spec[1])
+        return found
+
     def sums(self, names, toolchain):
         """The sums of these crates, by their names."""
-        lows = {low for name in names for low in self.below(name)}
-        shown = {low: shown_sum(self.folder(low)) for low in lows}
         found = {}
         for name in names:
             own = Sum()
@@ -145,7 +176,9 @@ class Tree:
                 own.add_files(part, files_of(self.folder(name, part)))
             own.add_files('edits', self.edits(name))
             for low in sorted(self.below(name)):
-                own.add(low, shown[low].encode())
+                own.add(low, self.statements(low).encode('utf-8', 'surrogateescape'))
+            for (low, path), text in sorted(self.specs_below(name).items()):
+                own.add(low + '/' + path, text.encode('utf-8', 'surrogateescape'))
             found[name] = own.text()
         return found
 

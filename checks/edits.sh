@@ -11,9 +11,10 @@
 # --jobs N: how many crates are tried at a time, by itself as many as there are processors, and four at most.
 #
 # A crate is due where crates/NAME/edits/tried, its record, doesn't hold the sum over all that a verdict on its edits depends on: the
-# toolchain's line (`rt version`); the crate's line of crates.txt, its src, specs, proofs and edits, every byte; and of each crate below
-# it specs, every byte, and the statements of src, as checks/statements.py tells them. Bodies below aren't in it, since no crate
-# above sees them; nor are proofs below, since no statement changes with them.
+# toolchain's line (`rt version`); the crate's line of crates.txt, its src, specs, proofs and edits, every byte; of each crate below
+# it the statements of src, as checks/statements.py tells them; and each file of specs below that the crate's files name, or those
+# statements, or such a file itself. Bodies below aren't in it, since no crate above sees them; nor are proofs below, since no statement
+# changes with them; nor definitions that nothing of this names.
 #
 # A try happens in a copy of the crate and those below, in which edits stands as must-fail. Where out/ holds what `rt check` kept of the
 # crate, and of all below it as they stand, the copy gets it by links and runs `rt must-fail`: what is proved there isn't proved again.
