@@ -1,6 +1,7 @@
 -- What commands answer where every step gives its value, and where one stops them.
-use Rattle.std.proofs.Common.{◌≡◌, ℕ, true, Option, List, refl, sym, subst}
-use Rattle.fws_flat.specs.declared.code.Flat.{Flat}
+use Rattle.std.proofs.Common.{◌≡◌, ℕ, Bool, true, Option, List, refl, sym, subst}
+use Rattle.fws_events.specs.declared.events.Event.{Event}
+use Rattle.fws_events.specs.RunText.{run_text}
 use Rattle.fws_net.specs.declared.connection.Conn.{Conn}
 use Rattle.fws_net.specs.declared.connection.Kind.{Kind}
 use Rattle.fws_net.specs.declared.outcome.Outcome.{Outcome}
@@ -12,13 +13,14 @@ use Rattle.fws_top.specs.Asks.{are_known}
 use Rattle.fws_top.specs.declared.answer.Stop.{Stop}
 use Rattle.fws_top.specs.declared.lang.SourceLang.{SourceLang}
 use Rattle.fws_top.specs.declared.lang.TargetLang.{TargetLang}
+use Rattle.fws_top.specs.declared.policy.PolicyCode.{PolicyCode}
 use Rattle.fws_top.specs.declared.status.Status.{Status}
 use Rattle.fws_top.specs.declared.status.Status.TheVariants as status
 use Rattle.fws_top.specs.Forms.{site2}
 use Rattle.fws_top.specs.Judged.{Policy}
 use Rattle.fws_top.specs.Loads.{IsLoad}
-use Rattle.fws_top.specs.Parts.{load_part, packets_part, query_part, table_part, translation_part}
-use Rattle.fws_top.specs.Plan.{Plan, says, shows, plan_of, site_plan, source_plan, load_site_plan, load_text_plan, packets_plan}
+use Rattle.fws_top.specs.Parts.{events_part, load_part, packets_part, query_part, table_part, translation_part}
+use Rattle.fws_top.specs.Plan.{Plan, says, shows, plan_of, site_plan, source_plan, load_site_plan, load_text_plan, packets_plan, events_plan}
 use Rattle.fws_top.specs.Stops.{Answered, AsksStopped, Does, EndsIn, GoesOn, IsCode, IsTakenCode, Stopped, StopsAt}
 use Rattle.fws_top.specs.Tables.{IsTable, IsAskedTable, table, asked_table, translation, loaded}
 use Rattle.fws_top.specs.Translations.{IsTranslation}
@@ -26,29 +28,29 @@ use Rattle.fws_top.proofs.Chosen.{asks_on, asks_stopped, ended_at, stopped_on}
 use Rattle.fws_trace.specs.TraceText.{trace_text}
 
 -- the table of code is shown
-pub table_shown : (lang : SourceLang) (file : List ℕ) (site : Site) (state : State) (flat : Flat) (told : Option (List ℕ → List ℕ)) (old new : List ℕ → ℕ) (text : List ℕ)
-    → IsTakenCode (source_plan lang site file) told site flat → new ≡ old
-    → ((walk : Packet → Kind → Outcome) → Does flat site walk → IsTable site state walk text)
+pub table_shown : (lang : SourceLang) (file : List ℕ) (site : Site) (state : State) (source : PolicyCode) (told : Option (List ℕ → List ℕ)) (old new : List ℕ → ℕ) (text : List ℕ)
+    → IsTakenCode (source_plan lang site file) told site source → new ≡ old
+    → ((walk : Packet → Kind → Outcome) → Does source.flat site walk → IsTable site state walk text)
     → Answered (table_part lang site file state) told old new status.Ok text
-table_shown lang file site state flat told old new text code quiet made =
+table_shown lang file site state source told old new text code quiet made =
     code.goes_on (λ policy. shows (table site state policy.walk)) old new status.Ok text (quiet, (refl, made code.policy.walk code.does))
 
 -- the asked part of that table is shown
-pub asked_table_shown : (lang : SourceLang) (file : List ℕ) (site : Site) (state : State) (asks : List (List ℕ)) (flat : Flat) (told : Option (List ℕ → List ℕ)) (old new : List ℕ → ℕ) (text : List ℕ)
-    → are_known site asks ≡ true → IsTakenCode (source_plan lang site file) told site flat → new ≡ old
-    → ((walk : Packet → Kind → Outcome) → Does flat site walk → IsAskedTable site state asks walk text)
+pub asked_table_shown : (lang : SourceLang) (file : List ℕ) (site : Site) (state : State) (asks : List (List ℕ)) (source : PolicyCode) (told : Option (List ℕ → List ℕ)) (old new : List ℕ → ℕ) (text : List ℕ)
+    → are_known site asks ≡ true → IsTakenCode (source_plan lang site file) told site source → new ≡ old
+    → ((walk : Packet → Kind → Outcome) → Does source.flat site walk → IsAskedTable site state asks walk text)
     → Answered (query_part lang site file state asks) told old new status.Ok text
-asked_table_shown lang file site state asks flat told old new text known code quiet made =
+asked_table_shown lang file site state asks source told old new text known code quiet made =
     let shown : Policy → Plan = λ policy. shows (asked_table site state asks policy.walk) in
     subst (λ plan. Answered plan told old new status.Ok text) (sym (asks_on site asks (source_plan lang site file shown) known))
     (code.goes_on shown old new status.Ok text (quiet, (refl, made code.policy.walk code.does)))
 
 -- the translation of code is shown
-pub translation_shown : (from : SourceLang) (to : TargetLang) (file : List ℕ) (site : Site) (flat : Flat) (told : Option (List ℕ → List ℕ)) (old new : List ℕ → ℕ) (s : Status) (text : List ℕ)
-    → IsTakenCode (source_plan from site file) told site flat → new ≡ old
-    → ((walk : Packet → Kind → Outcome) → Does flat site walk → IsTranslation to site walk s text)
+pub translation_shown : (from : SourceLang) (to : TargetLang) (file : List ℕ) (site : Site) (source : PolicyCode) (told : Option (List ℕ → List ℕ)) (old new : List ℕ → ℕ) (s : Status) (text : List ℕ)
+    → IsTakenCode (source_plan from site file) told site source → new ≡ old
+    → ((walk : Packet → Kind → Outcome) → Does source.flat site walk → IsTranslation to site walk s text)
     → Answered (translation_part from to site file) told old new s text
-translation_shown from to file site flat told old new s text code quiet made =
+translation_shown from to file site source told old new s text code quiet made =
     code.goes_on (λ policy. shows (translation to site policy.walk)) old new s text (quiet, made code.policy.walk code.does)
 
 -- the trace is said
@@ -57,11 +59,17 @@ pub trace_said : (name : List ℕ) (site : Site) (walk : Packet → Kind → Out
 trace_said name site walk conns packets told old new text on quiet made =
     on (λ sent. says status.Ok (trace_text walk conns sent)) old new status.Ok text (tt, quiet, refl, made)
 
+-- the run is said
+pub run_said : (name : List ℕ) (site : Site) (tracks : Bool) (walk : Packet → Kind → Outcome) (events : List Event) (told : Option (List ℕ → List ℕ)) (old new : List ℕ → ℕ) (text : List ℕ)
+    → GoesOn (events_plan site name) told events → new ≡ old → text ≡ run_text tracks walk events → Answered (events_part site tracks walk name) told old new status.Ok text
+run_said name site tracks walk events told old new text on quiet made =
+    on (λ given. says status.Ok (run_text tracks walk given)) old new status.Ok text (tt, quiet, refl, made)
+
 -- what the generated policy comes to is shown
-pub load_shown : (n : ℕ) (site : Site) (flat : Flat) (told : Option (List ℕ → List ℕ)) (faults : List ℕ → ℕ) (text : List ℕ)
-    → IsCode (load_text_plan n site) site flat → ((walk : Packet → Kind → Outcome) → Does flat site walk → IsLoad n site walk text)
+pub load_shown : (n : ℕ) (site : Site) (source : PolicyCode) (told : Option (List ℕ → List ℕ)) (faults : List ℕ → ℕ) (text : List ℕ)
+    → IsCode (load_text_plan n site) site source → ((walk : Packet → Kind → Outcome) → Does source.flat site walk → IsLoad n site walk text)
     → Answered (load_part n site) told faults faults status.Ok text
-load_shown n site flat told faults text code made =
+load_shown n site source told faults text code made =
     subst (λ plan. Answered plan told faults faults status.Ok text) (sym (code.chooses (λ policy. shows (loaded n site policy.walk)))) (refl, (refl, made code.policy.walk code.does))
 
 -- the second form of a site is said

@@ -4,6 +4,7 @@ mod Asking
 mod Chosen
 mod Diagrams
 mod Holding
+mod KeepingStep
 mod LoadsShown
 mod Plans
 mod Points

@@ -1,5 +1,5 @@
 -- What the text of a configuration means at a site: it is refused, or it makes something of each packet.
-use Rattle.std.specs.Prelude.{◌≡◌, ℕ, ◌+◌, ◌≤◌, Option, Some, None, Result, Ok, Err, List, [], length, slice_get}
+use Rattle.std.specs.Prelude.{◌≡◌, ℕ, ◌+◌, ◌≤◌, Bool, Option, Some, None, Result, Ok, Err, List, [], length, slice_get}
 use Rattle.std.specs.Option.{option_map, option_map_or}
 use Rattle.fws_ifcl.specs.declared.diagram.Chain.{Chain}
 use Rattle.fws_ifcl.specs.declared.diagram.Ifcl.{Ifcl}
@@ -9,9 +9,11 @@ use Rattle.fws_ifcl.specs.Refusals.{refusal_of}
 use Rattle.fws_ios.specs.declared.config.IosConfig.{IosConfig}
 use Rattle.fws_ios.specs.FileText.{spelled as ios_spelled}
 use Rattle.fws_ios.specs.Walk.{walk as ios_walk}
+use Rattle.fws_ios_put.specs.Placed.{tracks as ios_tracks}
 use Rattle.fws_ipfw.specs.declared.config.IpfwConfig.{IpfwConfig}
 use Rattle.fws_ipfw.specs.FileText.{spelled as ipfw_spelled}
 use Rattle.fws_ipfw.specs.Walk.{walk as ipfw_walk}
+use Rattle.fws_ipfw_put.specs.Placed.{tracks as ipfw_tracks}
 use Rattle.fws_ipt.specs.declared.config.IptChain.{IptChain}
 use Rattle.fws_ipt.specs.declared.config.IptConfig.{IptConfig}
 use Rattle.fws_ipt.specs.declared.refusal.UnfoldRefusal.{UnfoldRefusal as IptRefusal}
@@ -19,6 +21,7 @@ use Rattle.fws_ipt.specs.declared.refusal.UnfoldRefusal.TheVariants as ipt
 use Rattle.fws_ipt.specs.FileText.{spelled as ipt_spelled}
 use Rattle.fws_ipt.specs.Refusals.{refusal_of as ipt_refusal_of}
 use Rattle.fws_ipt.specs.Walk.{walk as ipt_walk}
+use Rattle.fws_ipt_put.specs.Placed.{tracks as ipt_tracks}
 use Rattle.fws_net.specs.declared.cause.Cause.{Cause}
 use Rattle.fws_net.specs.declared.connection.Kind.{Kind}
 use Rattle.fws_net.specs.declared.outcome.Outcome.{Outcome}
@@ -28,6 +31,7 @@ use Rattle.fws_net.specs.Reading.{Refusal}
 use Rattle.fws_pf.specs.declared.config.PfConfig.{PfConfig}
 use Rattle.fws_pf.specs.FileText.{spelled as pf_spelled}
 use Rattle.fws_pf.specs.Walk.{walk as pf_walk}
+use Rattle.fws_pf_put.specs.Placed.{tracks as pf_tracks}
 use Rattle.fws_top.specs.declared.lang.SourceLang.{SourceLang}
 use Rattle.fws_top.specs.declared.lang.SourceLang.TheVariants.{Iptables, Ipfw, Pf, Ios}
 use Rattle.fws_top.specs.Lines.{line_words, loop_words, deep_words, long_words, cause_text}
@@ -92,9 +96,11 @@ ios_refusal site c = None
 abbrev pub IsPacketOf : Site → Packet → Type 0
 IsPacketOf site p = p.entry ≤ length site.faces + 1
 
--- what a configuration means at a site: what becomes of a packet of a class
+-- what a configuration means at a site: what becomes of a packet of a class, and whether the configuration keeps state where it
+-- accepts, so that a run lists a connection for each new packet that it accepts
 pub record Policy : Type 0 where
   pub walk : Packet → Kind → Outcome
+  pub tracks : Bool
 
 -- a text is refused with these words, or accepted with what it means
 pub data Judged : Type 0 where
@@ -106,10 +112,10 @@ abbrev pub judged_chains : Option ChainRefusal → Policy → Judged
 judged_chains None policy = accepted policy
 judged_chains (Some refusal) policy = refused (chain_words refusal)
 
--- the first bad line is refused, then the chains; what is left means what its walk says
-abbrev pub judged_by : {C : Type 0} → (C → Option ChainRefusal) → (C → Packet → Kind → Outcome) → Result C (Refusal Cause) → Judged
-judged_by refusal walk (Err r) = refused (line_words r.line (cause_text r.cause))
-judged_by refusal walk (Ok config) = judged_chains (refusal config) (record { walk = walk config })
+-- the first bad line is refused, then the chains; what is left means what its walk says, and tracks or doesn't
+abbrev pub judged_by : {C : Type 0} → (C → Option ChainRefusal) → (C → Bool) → (C → Packet → Kind → Outcome) → Result C (Refusal Cause) → Judged
+judged_by refusal tracks walk (Err r) = refused (line_words r.line (cause_text r.cause))
+judged_by refusal tracks walk (Ok config) = judged_chains (refusal config) (record { walk = walk config; tracks = tracks config })
 
 -- the configuration is that of some text
 abbrev pub HasText : {C : Type 0} → (List ℕ → Result C (Refusal Cause)) → C → Type 0
@@ -121,7 +127,7 @@ HasConfig {C} spelled text = (config : C) × (spelled text ≡ Ok config)
 
 -- what a text means in a language at a site
 abbrev pub judge : SourceLang → Site → List ℕ → Judged
-judge Iptables site text = judged_by (ipt_refusal site) (λ config. ipt_walk config site) (ipt_spelled site text)
-judge Ipfw site text = judged_by (ipfw_refusal site) (λ config. ipfw_walk config site) (ipfw_spelled site text)
-judge Pf site text = judged_by (pf_refusal site) (λ config. pf_walk config site) (pf_spelled site text)
-judge Ios site text = judged_by (ios_refusal site) (λ config. ios_walk config site) (ios_spelled site text)
+judge Iptables site text = judged_by (ipt_refusal site) (ipt_tracks site) (λ config. ipt_walk config site) (ipt_spelled site text)
+judge Ipfw site text = judged_by (ipfw_refusal site) (ipfw_tracks site) (λ config. ipfw_walk config site) (ipfw_spelled site text)
+judge Pf site text = judged_by (pf_refusal site) (pf_tracks site) (λ config. pf_walk config site) (pf_spelled site text)
+judge Ios site text = judged_by (ios_refusal site) (ios_tracks site) (λ config. ios_walk config site) (ios_spelled site text)

@@ -2,6 +2,7 @@ pub mod Asks
 pub mod Due
 pub mod Forms
 pub mod Judged
+pub mod KeepStep
 pub mod Lines
 pub mod LoadPlans
 pub mod Loads

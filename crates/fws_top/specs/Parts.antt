@@ -1,5 +1,6 @@
 -- Parts of plans: what commands do once they have a site, code or connections.
-use Rattle.std.specs.Prelude.{ℕ, List}
+use Rattle.std.specs.Prelude.{ℕ, Bool, List}
+use Rattle.fws_events.specs.RunText.{run_text}
 use Rattle.fws_net.specs.declared.connection.Conn.{Conn}
 use Rattle.fws_net.specs.declared.connection.Kind.{Kind}
 use Rattle.fws_net.specs.declared.outcome.Outcome.{Outcome}
@@ -9,7 +10,7 @@ use Rattle.fws_net.specs.declared.site.Site.{Site}
 use Rattle.fws_top.specs.declared.lang.SourceLang.{SourceLang}
 use Rattle.fws_top.specs.declared.lang.TargetLang.{TargetLang}
 use Rattle.fws_top.specs.declared.status.Status.TheVariants as status
-use Rattle.fws_top.specs.Plan.{Plan, says, shows, asks_plan, source_plan, conns_plan, packets_plan, load_text_plan}
+use Rattle.fws_top.specs.Plan.{Plan, says, shows, asks_plan, source_plan, conns_plan, packets_plan, events_plan, load_text_plan}
 use Rattle.fws_top.specs.Tables.{table, asked_table, translation, loaded}
 use Rattle.fws_trace.specs.TraceText.{trace_text}
 
@@ -40,3 +41,11 @@ conns_part site walk conns packets = conns_plan conns (λ tracked. packets_part 
 -- `trace` at a site
 abbrev pub trace_part : SourceLang → Site → List ℕ → List ℕ → List ℕ → Plan
 trace_part lang site file conns packets = source_plan lang site file (λ policy. conns_part site policy.walk conns packets)
+
+-- `run` of a walk, in a configuration that tracks or doesn't
+abbrev pub events_part : Site → Bool → (Packet → Kind → Outcome) → List ℕ → Plan
+events_part site tracks walk events = events_plan site events (λ given. says status.Ok (run_text tracks walk given))
+
+-- `run` at a site
+abbrev pub run_part : SourceLang → Site → List ℕ → List ℕ → Plan
+run_part lang site file events = source_plan lang site file (λ policy. events_part site policy.tracks policy.walk events)

@@ -1,5 +1,8 @@
 -- What a command does, step by step: it says something, or reads a file and goes on by what the file holds.
 use Rattle.std.specs.Prelude.{ℕ, Result, Ok, Err, List, length, nat_lt, codes, if◌then◌else◌}
+use Rattle.fws_events.specs.declared.events.Event.{Event}
+use Rattle.fws_events.specs.EventText.{events_of}
+use Rattle.fws_events.specs.RunText.{run_text}
 use Rattle.fws_load.specs.Load.{filter_text, site_text}
 use Rattle.fws_net.specs.declared.cause.SiteCause.{SiteCause}
 use Rattle.fws_net.specs.declared.connection.Conn.{Conn}
@@ -13,7 +16,7 @@ use Rattle.fws_top.specs.declared.lang.SourceLang.{SourceLang}
 use Rattle.fws_top.specs.declared.lang.SourceLang.TheVariants.{Iptables}
 use Rattle.fws_top.specs.declared.status.Status.{Status}
 use Rattle.fws_top.specs.declared.status.Status.TheVariants as status
-use Rattle.fws_top.specs.Forms.{Command, unknown, help, version, synth, query, translate, trace, load, site2}
+use Rattle.fws_top.specs.Forms.{Command, unknown, help, version, synth, query, translate, trace, run, load, site2}
 use Rattle.fws_top.specs.Judged.{Judged, Policy, refused, accepted, judge}
 use Rattle.fws_top.specs.Lines.{refused_line, too_long_words, line_words, syntax_words, site_cause_text}
 use Rattle.fws_top.specs.Tables.{Wanted, table, asked_table, translation, loaded}
@@ -65,6 +68,9 @@ conns_plan name next = file_plan name (λ bytes. listed name (conns_of bytes) ne
 abbrev pub packets_plan : Site → List ℕ → (List Packet → Plan) → Plan
 packets_plan site name next = file_plan name (λ bytes. listed name (packets_of bytes site) next)
 
+abbrev pub events_plan : Site → List ℕ → (List Event → Plan) → Plan
+events_plan site name next = file_plan name (λ bytes. listed name (events_of bytes site) next)
+
 -- the words of a query that name an entry which the site lacks are no form of the command line
 abbrev pub asks_plan : Site → List (List ℕ) → Plan → Plan
 asks_plan site asks next = if are_known site asks then next else says status.Usage usage_text
@@ -93,3 +99,6 @@ plan_of (load n) = load_site_plan (λ value. load_text_plan n value (λ policy. 
 plan_of (trace lang site file conns packets) =
     site_plan site (λ value. source_plan lang value file (λ policy. conns_plan conns (λ tracked. packets_plan value packets (λ sent.
     says status.Ok (trace_text policy.walk tracked sent)))))
+plan_of (run lang site file events) =
+    site_plan site (λ value. source_plan lang value file (λ policy. events_plan value events (λ given.
+    says status.Ok (run_text policy.tracks policy.walk given))))

@@ -13,6 +13,7 @@ use Rattle.fws_net.specs.declared.site.Site.{Site}
 use Rattle.fws_net.specs.RegularWalks.{IsRegularWalk}
 use Rattle.fws_top.specs.declared.answer.Stop.{Stop}
 use Rattle.fws_top.specs.declared.answer.Stop.TheVariants.{Due, Memory}
+use Rattle.fws_top.specs.declared.policy.PolicyCode.{PolicyCode}
 use Rattle.fws_top.specs.declared.status.Status.{Status}
 use Rattle.fws_top.specs.declared.status.Status.TheVariants as status
 use Rattle.fws_top.specs.Due.{IsFaultless}
@@ -89,18 +90,20 @@ pub record IsUnfolded (d : Ifcl) (flat : Flat) : Type 0 where
   pub unrefused : diagram_refusal d ≡ None
   pub does : (site : Site) (p : Packet) (k : Kind) → means flat site p k ≡ diagram_means d site p k
 
--- code that does what a policy with a regular walk means, for which the plan is what follows
-pub record IsCode (plan : (Policy → Plan) → Plan) (site : Site) (flat : Flat) : Type 0 where
-  pub ok : flat_ok flat ≡ true
+-- code that does what a policy with a regular walk means, and tracks as this does, for which the plan is what follows
+pub record IsCode (plan : (Policy → Plan) → Plan) (site : Site) (code : PolicyCode) : Type 0 where
+  pub ok : flat_ok code.flat ≡ true
   pub policy : Policy
   pub regular : IsRegularWalk site policy.walk
-  pub does : Does flat site policy.walk
+  pub does : Does code.flat site policy.walk
+  pub tracks : code.tracks ≡ policy.tracks
   pub chooses : Chooses plan policy
 
--- code that does what a policy with a regular walk means, with which the plan goes on
-pub record IsTakenCode (plan : (Policy → Plan) → Plan) (told : Option (List ℕ → List ℕ)) (site : Site) (flat : Flat) : Type 0 where
-  pub ok : flat_ok flat ≡ true
+-- code that does what a policy with a regular walk means, and tracks as this does, with which the plan goes on
+pub record IsTakenCode (plan : (Policy → Plan) → Plan) (told : Option (List ℕ → List ℕ)) (site : Site) (code : PolicyCode) : Type 0 where
+  pub ok : flat_ok code.flat ≡ true
   pub policy : Policy
   pub regular : IsRegularWalk site policy.walk
-  pub does : Does flat site policy.walk
+  pub does : Does code.flat site policy.walk
+  pub tracks : code.tracks ≡ policy.tracks
   pub goes_on : GoesOn plan told policy

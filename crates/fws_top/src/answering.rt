@@ -7,7 +7,7 @@ ghost use Rattle.fws_top.specs.Plan.{Plan, plan_of};
 ghost use Rattle.fws_top.specs.Stops.{Answered, Stopped};
 
 use crate::answer::{Answer, Stop, said};
-use crate::commands::{load, query, second_form, synth, trace, translate};
+use crate::commands::{load, query, run, second_form, synth, trace, translate};
 use crate::form::{Form, read_form};
 use crate::status::Status;
 use crate::texts::{HELP, USAGE, VERSION};
@@ -63,6 +63,7 @@ fn follow<S: Shelf>(alloc: Global, form: &Form<'_>, shelf: &mut S) -> Result<Ans
         Form::Trace(lang, site, file, conns, packets) => {
             ended(trace(alloc, shelf, lang, site, file, conns, packets))
         }
+        Form::Run(lang, site, file, events) => ended(run(alloc, shelf, lang, site, file, events)),
         Form::Load(n) => ended(load(alloc, n)),
         Form::SecondForm(site) => ended(second_form(alloc, shelf, site)),
     }

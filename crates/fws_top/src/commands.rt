@@ -9,19 +9,20 @@ ghost use Rattle.fws_net.specs.Routes.{IsSound};
 ghost use Rattle.fws_net.specs.SiteLaws.{IsOrderly};
 ghost use Rattle.fws_top.specs.Asks.{are_asks};
 ghost use Rattle.fws_top.specs.declared.status.Status.TheVariants as status;
-ghost use Rattle.fws_top.specs.Forms.{synth, query, translate, trace, load, site2};
-ghost use Rattle.fws_top.specs.Parts.{query_part, conns_part, load_part, packets_part, table_part, trace_part, translation_part};
+ghost use Rattle.fws_top.specs.Forms.{synth, query, translate, trace, run, load, site2};
+ghost use Rattle.fws_top.specs.Parts.{query_part, conns_part, events_part, load_part, packets_part, run_part, table_part, trace_part, translation_part};
 ghost use Rattle.fws_top.specs.Plan.{plan_of};
 ghost use Rattle.fws_top.specs.Stops.{Answered, Does, Stopped};
 
 use crate::answer::{Answer, Stop};
 use crate::lang::{SourceLang, TargetLang};
 use crate::loading::loaded;
+use crate::policy::PolicyCode;
 use crate::steps::{
-    generated_site, generated_source, know_entries, take_conns, take_packets, take_site,
-    take_source,
+    generated_site, generated_source, know_entries, take_conns, take_events, take_packets,
+    take_site, take_source,
 };
-use crate::tables::{asked_table, table, tables, traced};
+use crate::tables::{asked_table, replayed, table, traced};
 use crate::translating::translated;
 use fws_flat::Flat;
 use fws_io::Shelf;
@@ -44,7 +45,7 @@ fn synth_at<S: Shelf>(
     ensures stopped { IfErr result (Stopped (table_part lang site.now file_name.now state) (S.told shelf.old) (S.faults shelf.old) (S.faults shelf.new)) }
 {
     let code = take_source(alloc, shelf, lang, site, file_name)?;
-    let text = table(alloc, site, &code, state)?;
+    let text = table(alloc, site, &code.flat, state)?;
     Ok(text)
 }
 
@@ -83,7 +84,7 @@ fn query_at<S: Shelf>(
 {
     know_entries(alloc, site, asks)?;
     let code = take_source(alloc, shelf, lang, site, file_name)?;
-    let text = asked_table(alloc, site, &code, state, asks)?;
+    let text = asked_table(alloc, site, &code.flat, state, asks)?;
     Ok(text)
 }
 
@@ -122,7 +123,7 @@ fn translate_at<S: Shelf>(
     ensures stopped { IfErr result (Stopped (translation_part from to site.now file_name.now) (S.told shelf.old) (S.faults shelf.old) (S.faults shelf.new)) }
 {
     let code = take_source(alloc, shelf, from, site, file_name)?;
-    let answer = translated(alloc, to, site, &code)?;
+    let answer = translated(alloc, to, site, &code.flat)?;
     Ok(answer)
 }
 
@@ -203,7 +204,7 @@ fn trace_at<S: Shelf>(
     ensures stopped { IfErr result (Stopped (trace_part lang site.now file_name.now conns_name.now packets_name.now) (S.told shelf.old) (S.faults shelf.old) (S.faults shelf.new)) }
 {
     let code = take_source(alloc, shelf, lang, site, file_name)?;
-    trace_by(alloc, shelf, site, &code, conns_name, packets_name)
+    trace_by(alloc, shelf, site, &code.flat, conns_name, packets_name)
 }
 
 /// What becomes of listed packets against listed connections.
@@ -232,6 +233,62 @@ pub(crate) fn trace<S: Shelf>(
     )
 }
 
+/// What code makes of listed events.
+fn run_by<S: Shelf>(
+    alloc: Global,
+    shelf: &mut S,
+    site: &Site,
+    code: &PolicyCode,
+    events_name: &[u8],
+) -> Result<Text, Stop>
+    requires sound { IsSound site.now }
+    requires ok { flat_ok code.now.flat ≡ true }
+    ensures same { S.told shelf.new ≡ S.told shelf.old }
+    ensures answered { (walk : Packet → Kind → Outcome) → Does code.now.flat site.now walk
+        → IfOk result (Answered (events_part site.now code.now.tracks walk events_name.now) (S.told shelf.old) (S.faults shelf.old) (S.faults shelf.new) status.Ok) }
+    ensures stopped { (walk : Packet → Kind → Outcome)
+        → IfErr result (Stopped (events_part site.now code.now.tracks walk events_name.now) (S.told shelf.old) (S.faults shelf.old) (S.faults shelf.new)) }
+{
+    let events = take_events(alloc, shelf, site, events_name)?;
+    let text = replayed(alloc, site, code, events.as_slice())?;
+    Ok(text)
+}
+
+/// What becomes of listed events one after the other, at a site.
+fn run_at<S: Shelf>(
+    alloc: Global,
+    shelf: &mut S,
+    lang: SourceLang,
+    site: &Site,
+    file_name: &[u8],
+    events_name: &[u8],
+) -> Result<Text, Stop>
+    requires { IsSound site.now }
+    ensures same { S.told shelf.new ≡ S.told shelf.old }
+    ensures answered { IfOk result (Answered (run_part lang site.now file_name.now events_name.now) (S.told shelf.old) (S.faults shelf.old) (S.faults shelf.new) status.Ok) }
+    ensures stopped { IfErr result (Stopped (run_part lang site.now file_name.now events_name.now) (S.told shelf.old) (S.faults shelf.old) (S.faults shelf.new)) }
+{
+    let code = take_source(alloc, shelf, lang, site, file_name)?;
+    run_by(alloc, shelf, site, &code, events_name)
+}
+
+/// What becomes of listed events one after the other.
+pub(crate) fn run<S: Shelf>(
+    alloc: Global,
+    shelf: &mut S,
+    lang: SourceLang,
+    site_name: &[u8],
+    file_name: &[u8],
+    events_name: &[u8],
+) -> Result<Text, Stop>
+    ensures same { S.told shelf.new ≡ S.told shelf.old }
+    ensures answered { IfOk result (Answered (plan_of (run lang site_name.now file_name.now events_name.now)) (S.told shelf.old) (S.faults shelf.old) (S.faults shelf.new) status.Ok) }
+    ensures stopped { IfErr result (Stopped (plan_of (run lang site_name.now file_name.now events_name.now)) (S.told shelf.old) (S.faults shelf.old) (S.faults shelf.new)) }
+{
+    let site = take_site(alloc, shelf, site_name)?;
+    run_at(alloc, shelf, lang, &site, file_name, events_name)
+}
+
 /// What a generated policy of so many rules comes to, at a site.
 fn load_at(alloc: Global, n: u32, site: &Site) -> Result<Text, Stop>
     requires least { 1 ≤ n }
@@ -242,7 +299,7 @@ fn load_at(alloc: Global, n: u32, site: &Site) -> Result<Text, Stop>
     ensures stopped { (told : Option (List ℕ → List ℕ)) (faults : List ℕ → ℕ) → IfErr result (Stopped (load_part n site.now) told faults faults) }
 {
     let code = generated_source(alloc, n, site)?;
-    let text = loaded(alloc, n, site, &code)?;
+    let text = loaded(alloc, n, site, &code.flat)?;
     Ok(text)
 }
 

@@ -2,7 +2,7 @@
 
 ghost use Rattle.std.specs.Prelude.{◌≡◌};
 ghost use Rattle.std.specs.Str.{bytes_eq};
-ghost use Rattle.fws_top.specs.Forms.{lang_of, target_of, state_of, command_of, single_command, short_command, load_command, synth_command, query_command, state_command, table_command, translate_command, trace_command, source_command, asked, IsSpelled};
+ghost use Rattle.fws_top.specs.Forms.{lang_of, target_of, state_of, command_of, single_command, short_command, load_command, synth_command, query_command, state_command, table_command, translate_command, trace_command, run_command, source_command, asked, IsSpelled};
 
 use crate::ask::{are_asks, are_shown};
 use crate::lang::{SourceLang, TargetLang};
@@ -27,6 +27,8 @@ pub(crate) enum Form<'a> {
     /// What a configuration at a site makes of packets, against tracked connections: site, configuration, connections
     /// and packets.
     Trace(SourceLang, &'a [u8], &'a [u8], &'a [u8], &'a [u8]),
+    /// What a configuration at a site makes of events one after the other: site, configuration and events.
+    Run(SourceLang, &'a [u8], &'a [u8], &'a [u8]),
     /// What a generated policy comes to: the number of its rules.
     Load(u32),
     /// A site in its second form.
@@ -231,6 +233,17 @@ fn read_trace<'a>(lang: SourceLang, site: &'a [u8], file: &'a [u8], rest: &'a [T
     }
 }
 
+/// `run` takes one further name.
+fn read_run<'a>(lang: SourceLang, site: &'a [u8], file: &'a [u8], rest: &'a [Text]) -> Form<'a>
+    ensures asked { asked result ≡ run_command lang site.now file.now rest.now }
+    ensures spelled { IsSpelled result }
+{
+    match rest {
+        [events] => Form::Run(lang, site, file, events.as_slice()),
+        _ => Form::Unknown,
+    }
+}
+
 /// What a command asks of a configuration at a site.
 fn read_source_command<'a>(
     command: &Text,
@@ -246,6 +259,8 @@ fn read_source_command<'a>(
         read_translate(lang, site, file, rest)
     } else if is(command, b"trace") {
         read_trace(lang, site, file, rest)
+    } else if is(command, b"run") {
+        read_run(lang, site, file, rest)
     } else {
         read_table_command(command, lang, site, file, rest)
     }

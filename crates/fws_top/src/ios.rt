@@ -38,6 +38,10 @@ impl Source for Ios {
         Ok(diagram)
     }
 
+    fn tracks(c: &IosConfig, site: &Site) -> bool {
+        fws_ios_put::tracks(c, site)
+    }
+
     fn spelled_walks_are_regular() {
         fws_ios::spelled_walks_are_regular();
     }

@@ -40,6 +40,10 @@ impl Source for Ipfw {
         Ok(diagram)
     }
 
+    fn tracks(c: &IpfwConfig, site: &Site) -> bool {
+        fws_ipfw_put::tracks(c, site)
+    }
+
     fn spelled_walks_are_regular() {
         fws_ipfw::spelled_walks_are_regular();
     }

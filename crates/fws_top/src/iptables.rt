@@ -41,6 +41,10 @@ impl Source for Iptables {
         Ok(diagram)
     }
 
+    fn tracks(c: &IptConfig, site: &Site) -> bool {
+        fws_ipt_put::tracks(c, site)
+    }
+
     fn spelled_walks_are_regular() {
         fws_ipt::spelled_walks_are_regular();
     }

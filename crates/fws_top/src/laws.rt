@@ -4,11 +4,13 @@ ghost use Rattle.std.specs.Prelude.{◌≡◌, ℕ, List, Ok};
 ghost use Rattle.fws_net.specs.declared.site.Site.{Site};
 ghost use Rattle.fws_tree.specs.declared.tables.Tables.{Tables};
 ghost use Rattle.fws_tree.specs.Regular.{AreRegular};
+ghost use Rattle.fws_top.specs.KeepStep.{TranslationsKeepStep};
 ghost use Rattle.fws_top.specs.LoadPlans.{LoadWordsAreShown, LoadsAreShown};
 ghost use Rattle.fws_top.specs.RegularTables.{RegularWalksMakeRegularTables};
 ghost use Rattle.fws_top.specs.Walked.{AreTablesOf};
 
 use crate::source::Source;
+use fws_events::runs_keep_step_at_sites;
 use fws_load_laws::{load_configs_are_not_refused, load_site_is_read, load_texts_are_read};
 
 /// The tables of a regular walk are regular: a law, with nothing to do.
@@ -41,4 +43,15 @@ pub fn load_words_are_shown()
     ensures { LoadWordsAreShown }
 {
     loads_are_shown();
+}
+
+/// What is emitted for a configuration keeps step with it. Where an accepted text has this meaning, and its configuration
+/// tracks, every text that `Emits` says of its tables, as each does that `translate` writes, spells a configuration that tracks
+/// too; and for every list of events this gives the same answers, and the same list of connections behind each of them and at the
+/// end, from whatever list both begin with. So from no connections the texts of their runs are the same. A law, with nothing to
+/// do.
+pub fn translations_keep_step()
+    ensures { TranslationsKeepStep }
+{
+    runs_keep_step_at_sites();
 }

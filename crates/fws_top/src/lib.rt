@@ -32,7 +32,7 @@ pub use lang::{SourceLang, TargetLang};
 pub use language::Language;
 pub use laws::{
     load_words_are_shown, loads_are_shown, regular_walks_make_regular_tables,
-    spelled_tables_are_regular,
+    spelled_tables_are_regular, translations_keep_step,
 };
 pub use pf::Pf;
 pub use running::run;

@@ -38,6 +38,10 @@ impl Source for Pf {
         Ok(diagram)
     }
 
+    fn tracks(c: &PfConfig, site: &Site) -> bool {
+        fws_pf_put::tracks(c, site)
+    }
+
     fn spelled_walks_are_regular() {
         fws_pf::spelled_walks_are_regular();
     }

@@ -17,6 +17,15 @@ use fws_num::Memory;
 use fws_unfold::{UnfoldAnswer, unfold};
 use std::alloc::Global;
 
+/// What is made of the text of a configuration.
+#[derive(Drop)]
+pub(crate) struct PolicyCode {
+    /// Flat code that does what the configuration does.
+    pub(crate) flat: Flat,
+    /// Whether it keeps state where it accepts.
+    pub(crate) tracks: bool,
+}
+
 /// The configuration that the bytes spell, or the refusal of a line.
 fn take_config<L: Source>(
     alloc: Global,
@@ -26,7 +35,7 @@ fn take_config<L: Source>(
 ) -> Result<L::Config, Stop>
     requires { IsSound site.now }
     ensures given { IfOk result (λ config. L.spelled site.now bytes.now ≡ Ok config) }
-    ensures refused { IfErr result (EndsIn (judged name.now (judged_by (L.refusal site.now) (λ config. L.walk config site.now) (L.spelled site.now bytes.now)))) }
+    ensures refused { IfErr result (EndsIn (judged name.now (judged_by (L.refusal site.now) (L.tracks site.now) (λ config. L.walk config site.now) (L.spelled site.now bytes.now)))) }
 {
     match L::read(alloc, bytes, site) {
         Ok(config) => Ok(config),
@@ -80,20 +89,24 @@ fn take_code(alloc: Global, name: &[u8], diagram: &Ifcl) -> Result<Flat, Stop>
     }
 }
 
-/// Flat code that does what the configuration in the bytes does at the site, or the refusal of one of its lines or chains.
+/// What is made of the configuration in the bytes: code that does at the site what this does, and whether it tracks; or the refusal
+/// of one of its lines or chains.
 pub(crate) fn take_policy<L: Source>(
     alloc: Global,
     site: &Site,
     name: &[u8],
     bytes: &[u8],
-) -> Result<Flat, Stop>
+) -> Result<PolicyCode, Stop>
     requires { IsSound site.now }
-    ensures code { IfOk result (IsCode (judged name.now (judged_by (L.refusal site.now) (λ config. L.walk config site.now) (L.spelled site.now bytes.now))) site.now) }
-    ensures refused { IfErr result (EndsIn (judged name.now (judged_by (L.refusal site.now) (λ config. L.walk config site.now) (L.spelled site.now bytes.now)))) }
+    ensures code { IfOk result (IsCode (judged name.now (judged_by (L.refusal site.now) (L.tracks site.now) (λ config. L.walk config site.now) (L.spelled site.now bytes.now))) site.now) }
+    ensures refused { IfErr result (EndsIn (judged name.now (judged_by (L.refusal site.now) (L.tracks site.now) (λ config. L.walk config site.now) (L.spelled site.now bytes.now)))) }
 {
     L::spelled_walks_are_regular();
     let config = take_config::<L>(alloc, site, name, bytes)?;
     let diagram = L::to_ifcl(alloc, &config, site)?;
-    let code = take_code(alloc, name, &diagram)?;
-    Ok(code)
+    let flat = take_code(alloc, name, &diagram)?;
+    Ok(PolicyCode {
+        flat,
+        tracks: L::tracks(&config, site),
+    })
 }

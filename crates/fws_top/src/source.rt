@@ -33,7 +33,8 @@ pub trait Source {
     // What becomes of a packet of a class at a site.
     ghost walk: { Self.Config → Site → Packet → Kind → Outcome };
 
-    // Whether a configuration keeps state where it accepts, at a site.
+    // Whether a configuration keeps state where it accepts, at a site: its runs list a connection for each new packet that it
+    // accepts.
     ghost tracks: { Site → Self.Config → Bool };
 
     /// The configuration that a text spells at a site. `Refused` comes exactly where a line is refused, and has the first
@@ -51,6 +52,11 @@ pub trait Source {
         ensures ok { IfOk result (λ d. ifcl_ok d ≡ true) }
         ensures refused { IfOk result (λ d. diagram_refusal d ≡ refusal site.now c.now) }
         ensures means { IfOk result (λ d. refusal site.now c.now ≡ None → (p : Packet) (k : Kind) → IsPacketOf site.now p → means d site.now p k ≡ walk c.now site.now p k) };
+
+    /// Whether the configuration keeps state where it accepts, so that a connection is listed for each new packet that it
+    /// accepts. It takes no memory.
+    fn tracks(c: &Self::Config, site: &Site) -> bool
+        ensures { result ≡ tracks site.now c.now };
 
     /// The walk of every configuration that a text spells is regular: a law, with nothing to do.
     fn spelled_walks_are_regular()

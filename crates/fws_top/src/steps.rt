@@ -1,12 +1,14 @@
 //! The steps of commands: files that are read and judged.
 
 ghost use Rattle.std.specs.Prelude.{◌≡◌, ◌≤◌, All, true, IfOk, IfErr, OnOk};
+ghost use Rattle.fws_events.specs.EventText.{events_of};
+ghost use Rattle.fws_events.specs.Runs.{IsEventOf};
 ghost use Rattle.fws_net.specs.Routes.{IsSound};
 ghost use Rattle.fws_net.specs.SiteLaws.{IsRead};
 ghost use Rattle.fws_net.specs.SiteText.{site_of};
 ghost use Rattle.fws_top.specs.Asks.{are_known};
 ghost use Rattle.fws_top.specs.Judged.{judge};
-ghost use Rattle.fws_top.specs.Plan.{file_plan, site_plan, source_plan, conns_plan, packets_plan, spelled_site, judged, listed, load_site_plan, load_text_plan};
+ghost use Rattle.fws_top.specs.Plan.{file_plan, site_plan, source_plan, conns_plan, packets_plan, events_plan, spelled_site, judged, listed, load_site_plan, load_text_plan};
 ghost use Rattle.fws_top.specs.Stops.{AsksStopped, Chooses, EndsIn, GoesOn, IsCode, IsTakenCode, StopsAt};
 ghost use Rattle.fws_trace.specs.ConnectionText.{conns_of};
 ghost use Rattle.fws_trace.specs.PacketText.{packets_of, IsOfSite};
@@ -19,10 +21,10 @@ use crate::iptables::Iptables;
 use crate::lang::SourceLang;
 use crate::lines::{cannot_read_line, site_cause_text};
 use crate::pf::Pf;
-use crate::policy::take_policy;
+use crate::policy::{PolicyCode, take_policy};
 use crate::status::Status;
 use crate::texts::{FILE_LIMIT, USAGE};
-use fws_flat::Flat;
+use fws_events::{Event, read_events};
 use fws_io::{Shelf, ShelfAnswer};
 use fws_load::{load_site, load_text};
 use fws_net::{Conn, Packet, Site, SiteAnswer, read_site};
@@ -85,14 +87,14 @@ pub(crate) fn take_site<S: Shelf>(alloc: Global, shelf: &mut S, name: &[u8]) -> 
     Ok(site)
 }
 
-/// Flat code of the configuration that the bytes spell in a language, or its refusal.
+/// What is made of the configuration that the bytes spell in a language, or its refusal.
 fn judge_source(
     alloc: Global,
     lang: SourceLang,
     site: &Site,
     name: &[u8],
     bytes: &[u8],
-) -> Result<Flat, Stop>
+) -> Result<PolicyCode, Stop>
     requires { IsSound site.now }
     ensures code { IfOk result (IsCode (judged name.now (judge lang site.now bytes.now)) site.now) }
     ensures refused { IfErr result (EndsIn (judged name.now (judge lang site.now bytes.now))) }
@@ -105,14 +107,14 @@ fn judge_source(
     }
 }
 
-/// Flat code of the configuration of a file in a language.
+/// What is made of the configuration of a file in a language.
 pub(crate) fn take_source<S: Shelf>(
     alloc: Global,
     shelf: &mut S,
     lang: SourceLang,
     site: &Site,
     name: &[u8],
-) -> Result<Flat, Stop>
+) -> Result<PolicyCode, Stop>
     requires { IsSound site.now }
     ensures same { S.told shelf.new ≡ S.told shelf.old }
     ensures quiet { OnOk result (S.faults shelf.new ≡ S.faults shelf.old) }
@@ -136,8 +138,8 @@ pub(crate) fn generated_site(alloc: Global) -> Result<Site, Stop>
     Ok(site)
 }
 
-/// Flat code of its filter with so many rules.
-pub(crate) fn generated_source(alloc: Global, n: u32, site: &Site) -> Result<Flat, Stop>
+/// What is made of its filter with so many rules.
+pub(crate) fn generated_source(alloc: Global, n: u32, site: &Site) -> Result<PolicyCode, Stop>
     requires least { 1 ≤ n }
     requires most { n ≤ 4000 }
     requires sound { IsSound site.now }
@@ -218,6 +220,41 @@ pub(crate) fn take_packets<S: Shelf>(
     let bytes = take(alloc, shelf, name)?;
     let packets = judge_packets(alloc, site, name, bytes.as_slice())?;
     Ok(packets)
+}
+
+/// The events that the bytes list, or their refusal.
+fn judge_events(alloc: Global, site: &Site, name: &[u8], bytes: &[u8]) -> Result<Vec<Event>, Stop>
+    requires { IsSound site.now }
+    ensures of_site { IfOk result (λ events. All (IsEventOf site.now) events.items) }
+    ensures chooses { IfOk result (λ events. Chooses (listed name.now (events_of bytes.now site.now)) events.items) }
+    ensures refused { IfErr result (EndsIn (listed name.now (events_of bytes.now site.now))) }
+{
+    match read_events(alloc, bytes, site) {
+        Ok(events) => Ok(events),
+        Err(LineAnswer::Memory) => Err(Stop::Memory),
+        Err(LineAnswer::Refused { line }) => {
+            Err(Stop::Due(refused_for_line(alloc, name, line, b"syntax")?))
+        }
+    }
+}
+
+/// The events of a file.
+pub(crate) fn take_events<S: Shelf>(
+    alloc: Global,
+    shelf: &mut S,
+    site: &Site,
+    name: &[u8],
+) -> Result<Vec<Event>, Stop>
+    requires { IsSound site.now }
+    ensures same { S.told shelf.new ≡ S.told shelf.old }
+    ensures quiet { OnOk result (S.faults shelf.new ≡ S.faults shelf.old) }
+    ensures of_site { IfOk result (λ events. All (IsEventOf site.now) events.items) }
+    ensures goes_on { IfOk result (λ events. GoesOn (events_plan site.now name.now) (S.told shelf.old) events.items) }
+    ensures stopped { IfErr result (StopsAt (events_plan site.now name.now) (S.told shelf.old) (S.faults shelf.old) (S.faults shelf.new)) }
+{
+    let bytes = take(alloc, shelf, name)?;
+    let events = judge_events(alloc, site, name, bytes.as_slice())?;
+    Ok(events)
 }
 
 /// A site that lacks an entry that the words name makes them no command.

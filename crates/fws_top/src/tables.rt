@@ -2,6 +2,8 @@
 
 ghost use Rattle.std.specs.Prelude.{◌≡◌, ℕ, List, Some, All, true, IfOk};
 ghost use Rattle.fws_box.specs.Sides.{IsWithin};
+ghost use Rattle.fws_events.specs.Runs.{IsEventOf};
+ghost use Rattle.fws_events.specs.RunText.{run_text};
 ghost use Rattle.fws_flat.specs.Soundness.{flat_ok};
 ghost use Rattle.fws_net.specs.declared.connection.Kind.{Kind};
 ghost use Rattle.fws_net.specs.declared.outcome.Outcome.{Outcome};
@@ -20,6 +22,8 @@ ghost use Rattle.fws_tree.specs.Regular.{AreRegular};
 
 use crate::ask_set::read_ask;
 use crate::laws::regular_walks_make_regular_tables;
+use crate::policy::PolicyCode;
+use fws_events::{Event, put_run};
 use fws_exec::execute_tree;
 use fws_flat::Flat;
 use fws_net::{Conn, Outcome, Packet, Site, State};
@@ -120,5 +124,22 @@ pub(crate) fn traced(
 {
     let tables = tables(alloc, site, code)?;
     let text = trace(alloc, site, &tables, conns, packets)?;
+    Ok(text)
+}
+
+/// What code makes of events one after the other, in a run that begins with no connections.
+pub(crate) fn replayed(
+    alloc: Global,
+    site: &Site,
+    code: &PolicyCode,
+    events: &[Event],
+) -> Result<Text, Memory>
+    requires sound { IsSound site.now }
+    requires ok { flat_ok code.now.flat ≡ true }
+    requires of_site { All (IsEventOf site.now) events.now }
+    ensures { (walk : Packet → Kind → Outcome) → Does code.now.flat site.now walk → IfOk result (λ text. text ≡ run_text code.now.tracks walk events.now) }
+{
+    let tables = tables(alloc, site, &code.flat)?;
+    let text = put_run(alloc, site, events, &tables, code.tracks)?;
     Ok(text)
 }

@@ -1,9 +1,20 @@
-use Rattle.std.proofs.Common.{IfOk, subst, sym}
+use Rattle.std.proofs.Common.{◌≡◌, IfOk, refl, subst, sym}
+use Rattle.std.proofs.lemmas.Result.{IfOk-weaker}
 use Rattle.fws_top.specs.declared.form.Form.{Form}
-use Rattle.fws_top.specs.Forms.{asked, synth, query, translate, trace, load}
+use Rattle.fws_top.specs.declared.status.Status.TheVariants as status
+use Rattle.fws_top.specs.Forms.{asked, help, synth, query, translate, trace, run, load}
 use Rattle.fws_top.specs.Plan.{plan_of}
 use Rattle.fws_top.specs.Stops.{Answered}
+use Rattle.fws_top.specs.Texts.{help_text}
 use Rattle.fws_top.proofs.answering.follow.Goals as goal
+
+pub returns-in-Help-clause-answered : goal.returns-in-Help-clause-answered
+returns-in-Help-clause-answered g c =
+    let told = g.S.Shelf.told c.args.shelf.now in
+    let faults = g.S.Shelf.faults c.args.shelf.now in
+    subst (λ (form : Form). IfOk c.said-in-Help.result (λ answer. Answered (plan_of (asked form)) told faults faults answer.status answer.text)) (sym c.in-Help.is)
+    (IfOk-weaker c.said-in-Help.result (λ answer. (answer.status ≡ status.Ok) × (answer.text ≡ help_text)) (λ answer. Answered (plan_of help) told faults faults answer.status answer.text)
+    (λ answer is. (tt, refl, is.0, is.1)) c.said-in-Help.ensures)
 
 pub returns-in-Synth-clause-answered : goal.returns-in-Synth-clause-answered
 returns-in-Synth-clause-answered g c =
@@ -31,6 +42,15 @@ returns-in-Trace-clause-answered g c =
     let new = g.S.Shelf.faults c.trace.new.shelf in
     subst (λ (form : Form). IfOk c.ended-in-Trace.result (λ answer. Answered (plan_of (asked form)) told old new answer.status answer.text)) (sym w.is)
     (c.ended-in-Trace.ensures (plan_of (trace w.lang w.site.now w.file.now w.conns.now w.packets.now)) told old new c.trace.ensures.answered c.trace.ensures.stopped)
+
+pub returns-in-Run-clause-answered : goal.returns-in-Run-clause-answered
+returns-in-Run-clause-answered g c =
+    let w = c.in-Run in
+    let told = g.S.Shelf.told c.args.shelf.now in
+    let old = g.S.Shelf.faults c.args.shelf.now in
+    let new = g.S.Shelf.faults c.run.new.shelf in
+    subst (λ (form : Form). IfOk c.ended-in-Run.result (λ answer. Answered (plan_of (asked form)) told old new answer.status answer.text)) (sym w.is)
+    (c.ended-in-Run.ensures (plan_of (run w.lang w.site.now w.file.now w.events.now)) told old new c.run.ensures.answered c.run.ensures.stopped)
 
 pub returns-in-Translate-clause-answered : goal.returns-in-Translate-clause-answered
 returns-in-Translate-clause-answered g c =

@@ -25,6 +25,7 @@ returns-clause-code g c =
       policy = code.policy;
       regular = code.regular;
       does = code.does;
+      tracks = code.tracks;
       goes_on = chosen c.args.name.now c.in_ok-bytes.bytes c.as_slice.result.now (g.S.Shelf.told c.args.shelf.now) (λ b. judged c.args.name.now (judge c.args.lang c.args.site.now b)) code.policy
           c.as_slice.ensures c.in_ok-bytes.ensures.goes_on code.chooses;
     }
