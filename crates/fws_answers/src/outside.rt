@@ -164,6 +164,15 @@ impl Outside {
         self.find_over(over, words.as_slice())
     }
 
+    /// Gives both shelves under the name what a command line writes, which has to end with status 0.
+    pub fn hold_answer(&mut self, name: &Word, command: &Word) -> Result<(), Stop> {
+        let found = self.find_run(Over::Shelf, command.text.as_slice())?;
+        if found.status != 0 {
+            return Err(Stop::Malformed);
+        }
+        Ok(self.hold(name, &found.text)?)
+    }
+
     /// What the command comes to in this kind of case.
     pub fn find(&mut self, kind: &Word, command: &Word) -> Result<Found, Stop> {
         let command = command.text.as_slice();

@@ -195,6 +195,7 @@ fn follow<S: Shelf>(
     match words {
         [kind, read] if kind.is(b"shelf") => empty_shelves(alloc, outside, read),
         [kind, most, put] if kind.is(b"sink") => set_sink(outside, most, put),
+        [kind, name, command] if kind.is(b"answer") => outside.hold_answer(name, command),
         [kind, name, what] => hold(alloc, files, outside, kind, name, what),
         [kind, command, status, wanted @ ..] => {
             try_case(alloc, files, outside, said, kind, command, status, wanted)
