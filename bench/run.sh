@@ -2,7 +2,7 @@
 # Runs the built programs over growing inputs, and prints a line `family size seconds megabytes counts` for each:
 # filter files of growing length, files with chains of the user's and with rules of nat and mangle, an instance of ipfw with
 # many redirects, the same rules in ipfw, pf or Cisco IOS and in iptables, lists of pf that stand for many rules, 400 rules
-# at sites of growing size, the writing of these sites by the command site2, translations, the command load, texts of up to
+# at sites of growing size, the writing of these sites by the command site2, translations, the command load, runs of events, texts of up to
 # 4 MiB that are read and not executed, execution alone and that of established packets, trees that are made of rows or
 # recoloured, and diagrams that are unfolded or refused. Exit status 1 where a bound is passed. Build first: ./fws --build
 set -u
@@ -143,6 +143,16 @@ times=6 translated loaded 4000 iptables ios /40
 echo 'command rules seconds megabytes counts'
 measure load 400 5 4096 "$program" load 400
 measure load 4000 60 4096 "$program" load 4000
+
+running() { # family connections seconds megabytes
+    python3 "$top/bench/running.py" "$@" "$program" "$site" "$top/examples/router.saved" || status=1
+}
+
+echo 'family connections seconds megabytes events listed'
+running answered 10000 5 1024
+running renewed 10000 5 1024
+running expired 40000 5 1024
+running crossed 10000 5 1024
 
 echo 'family mebibytes seconds megabytes'
 for size in 0.5 1 2 4; do

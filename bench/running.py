@@ -1,0 +1,73 @@
+"""python3 running.py FAMILY COUNT SECONDS MEGABYTES PROGRAM SITE FILE
+
+Runs the command `run` over events of a family, which is to answer each of them and to list as many connections at the end as the
+family leaves, within these bounds; FILE is a configuration of iptables at SITE that accepts what a host of lan sends to other networks.
+Prints a line `FAMILY COUNT seconds megabytes events listed`. Exit status 1 past the bounds, or where the answer is another one.
+
+answered: COUNT connections are opened, and a packet of each comes nine times more.
+renewed: COUNT connections are opened, then four times as many, and for each of these the first of the list expires.
+expired: COUNT connections are opened, and expire from the first to the last, so that each expiry moves all that are left.
+crossed: the same, but two of them come from another host and are sent on as one, so that each expiry also looks through the rest.
+"""
+
+import resource
+import subprocess
+import sys
+import tempfile
+import time
+
+
+def packet(number, flags, host=7):
+    """A packet of the connection with this number, from a host of lan."""
+    return 'lan 6 9.9.%d.9 443 10.0.0.%d %d %d 0\n' % (number // 50000, host, 10000 + number % 50000, flags)
+
+
+def answered(count):
+    opened, more = ([packet(number, flags) for number in range(count)] for flags in (2, 16))
+    return opened + 9 * more, count
+
+
+def renewed(count):
+    events = [packet(number, 2) for number in range(count)]
+    for number in range(count, 5 * count):
+        events += [packet(number, 2), 'expire 0\n']
+    return events, count
+
+
+def expired(count):
+    return [packet(number, 2) for number in range(count)] + count * ['expire 0\n'], 0
+
+
+def crossed(count):
+    events, listed = expired(count - 1)
+    return [packet(count - 2, 2, host=8)] + events + ['expire 0\n'], listed
+
+
+FAMILIES = {'answered': answered, 'renewed': renewed, 'expired': expired, 'crossed': crossed}
+
+
+def main(family, count, seconds, megabytes, program, site, rules):
+    events, listed = FAMILIES[family](int(count))
+    with tempfile.NamedTemporaryFile('w') as file:
+        file.writelines(events)
+        file.flush()
+        begun = time.monotonic()
+        try:
+            ended = subprocess.run([program, 'run', 'iptables', site, rules, file.name], stdout=subprocess.PIPE, timeout=2 * seconds + 10)
+        except subprocess.TimeoutExpired:
+            print(family, count, 'more than %g seconds' % (2 * seconds + 10))
+            return 1
+    taken = time.monotonic() - begun
+    used = resource.getrusage(resource.RUSAGE_CHILDREN).ru_maxrss / 1024
+    lines = ended.stdout.decode().splitlines()
+    if ended.returncode != 0 or len(lines) != len(events) + 1 + listed or lines[len(events)] != 'conns %d' % listed:
+        print(family, count, 'ended with status', ended.returncode, *lines[:1])
+        return 1
+    print(family, count, '%.2f' % taken, '%.0f' % used, len(events), listed)
+    if taken <= seconds and used <= megabytes:
+        return 0
+    print(family, count, 'is past %g seconds or %g megabytes' % (seconds, megabytes))
+    return 1
+
+
+sys.exit(main(*sys.argv[1:3], *map(float, sys.argv[3:5]), *sys.argv[5:]))
