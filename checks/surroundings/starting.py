@@ -208,6 +208,9 @@ def check_streams(tally, checkout):
     words = ('run', 'iptables', './S', os.path.join(EXAMPLES, 'router.saved'), 'a=b')
     wanted = run(PROGRAM, *words, cwd=checkout.work)[:2]
     tally.check('the quick run: three files', wanted, checkout.run(*words)[:2])
+    words = ('same', 'iptables', './S', os.path.join(EXAMPLES, 'router.saved'), 'iptables', os.path.join(EXAMPLES, 'open.rules'))
+    wanted = run(PROGRAM, *words, cwd=checkout.work)[:2]
+    tally.check('the quick run: two files behind languages', wanted, checkout.run(*words)[:2])
     words = ('translate', 'iptables', 'pf', '../below/S', os.path.join(EXAMPLES, 'router.saved'))
     tally.check('the quick run: a translation', run(PROGRAM, *words, cwd=checkout.work)[:2], checkout.run(*words)[:2])
 

@@ -19,10 +19,10 @@ use Rattle.fws_top.specs.declared.status.Status.TheVariants as status
 use Rattle.fws_top.specs.Forms.{site2}
 use Rattle.fws_top.specs.Judged.{Policy}
 use Rattle.fws_top.specs.Loads.{IsLoad}
-use Rattle.fws_top.specs.Parts.{events_part, load_part, packets_part, query_part, table_part, translation_part}
+use Rattle.fws_top.specs.Parts.{events_part, load_part, other_part, packets_part, query_part, table_part, translation_part}
 use Rattle.fws_top.specs.Plan.{Plan, says, shows, plan_of, site_plan, source_plan, load_site_plan, load_text_plan, packets_plan, events_plan}
 use Rattle.fws_top.specs.Stops.{Answered, AsksStopped, Does, EndsIn, GoesOn, IsCode, IsTakenCode, Stopped, StopsAt}
-use Rattle.fws_top.specs.Tables.{IsTable, IsAskedTable, table, asked_table, translation, loaded}
+use Rattle.fws_top.specs.Tables.{IsTable, IsAskedTable, IsCompared, table, asked_table, translation, comparison, loaded}
 use Rattle.fws_top.specs.Translations.{IsTranslation}
 use Rattle.fws_top.proofs.Chosen.{asks_on, asks_stopped, ended_at, stopped_on}
 use Rattle.fws_trace.specs.TraceText.{trace_text}
@@ -64,6 +64,14 @@ pub run_said : (name : List ℕ) (site : Site) (tracks : Bool) (walk : Packet �
     → GoesOn (events_plan site name) told events → new ≡ old → text ≡ run_text tracks walk events → Answered (events_part site tracks walk name) told old new status.Ok text
 run_said name site tracks walk events told old new text on quiet made =
     on (λ given. says status.Ok (run_text tracks walk given)) old new status.Ok text (tt, quiet, refl, made)
+
+-- the comparison with code is shown
+pub comparison_shown : (lang : SourceLang) (file : List ℕ) (site : Site) (walk : Packet → Kind → Outcome) (source : PolicyCode) (told : Option (List ℕ → List ℕ)) (old new : List ℕ → ℕ) (text : List ℕ)
+    → IsTakenCode (source_plan lang site file) told site source → new ≡ old
+    → ((other : Packet → Kind → Outcome) → Does source.flat site other → IsCompared site walk other text)
+    → Answered (other_part site walk lang file) told old new status.Ok text
+comparison_shown lang file site walk source told old new text code quiet made =
+    code.goes_on (λ policy. shows (comparison site walk policy.walk)) old new status.Ok text (quiet, (refl, made code.policy.walk code.does))
 
 -- what the generated policy comes to is shown
 pub load_shown : (n : ℕ) (site : Site) (source : PolicyCode) (told : Option (List ℕ → List ℕ)) (faults : List ℕ → ℕ) (text : List ℕ)

@@ -11,7 +11,7 @@ use Rattle.fws_top.specs.declared.lang.SourceLang.{SourceLang}
 use Rattle.fws_top.specs.declared.lang.TargetLang.{TargetLang}
 use Rattle.fws_top.specs.declared.status.Status.TheVariants as status
 use Rattle.fws_top.specs.Plan.{Plan, says, shows, asks_plan, source_plan, conns_plan, packets_plan, events_plan, load_text_plan}
-use Rattle.fws_top.specs.Tables.{table, asked_table, translation, loaded}
+use Rattle.fws_top.specs.Tables.{table, asked_table, translation, comparison, loaded}
 use Rattle.fws_trace.specs.TraceText.{trace_text}
 
 -- `synth` at a site
@@ -49,3 +49,11 @@ events_part site tracks walk events = events_plan site events (λ given. says st
 -- `run` at a site
 abbrev pub run_part : SourceLang → Site → List ℕ → List ℕ → Plan
 run_part lang site file events = source_plan lang site file (λ policy. events_part site policy.tracks policy.walk events)
+
+-- `same` of a walk
+abbrev pub other_part : Site → (Packet → Kind → Outcome) → SourceLang → List ℕ → Plan
+other_part site walk lang file = source_plan lang site file (λ policy. shows (comparison site walk policy.walk))
+
+-- `same` at a site
+abbrev pub same_part : SourceLang → Site → List ℕ → SourceLang → List ℕ → Plan
+same_part lang site file other_lang other = source_plan lang site file (λ policy. other_part site policy.walk other_lang other)

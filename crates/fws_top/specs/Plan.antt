@@ -16,10 +16,10 @@ use Rattle.fws_top.specs.declared.lang.SourceLang.{SourceLang}
 use Rattle.fws_top.specs.declared.lang.SourceLang.TheVariants.{Iptables}
 use Rattle.fws_top.specs.declared.status.Status.{Status}
 use Rattle.fws_top.specs.declared.status.Status.TheVariants as status
-use Rattle.fws_top.specs.Forms.{Command, unknown, help, version, synth, query, translate, trace, run, load, site2}
+use Rattle.fws_top.specs.Forms.{Command, unknown, help, version, synth, query, translate, trace, run, same, load, site2}
 use Rattle.fws_top.specs.Judged.{Judged, Policy, refused, accepted, judge}
 use Rattle.fws_top.specs.Lines.{refused_line, too_long_words, line_words, syntax_words, site_cause_text}
-use Rattle.fws_top.specs.Tables.{Wanted, table, asked_table, translation, loaded}
+use Rattle.fws_top.specs.Tables.{Wanted, table, asked_table, translation, comparison, loaded}
 use Rattle.fws_top.specs.Texts.{file_limit, help_text, usage_text, version_text}
 use Rattle.fws_trace.specs.ConnectionText.{conns_of}
 use Rattle.fws_trace.specs.PacketText.{packets_of}
@@ -102,3 +102,6 @@ plan_of (trace lang site file conns packets) =
 plan_of (run lang site file events) =
     site_plan site (λ value. source_plan lang value file (λ policy. events_plan value events (λ given.
     says status.Ok (run_text policy.tracks policy.walk given))))
+plan_of (same lang site file other_lang other) =
+    site_plan site (λ value. source_plan lang value file (λ policy. source_plan other_lang value other (λ second.
+    shows (comparison value policy.walk second.walk))))

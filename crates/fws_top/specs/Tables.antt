@@ -1,6 +1,9 @@
 -- The texts that show walks.
 use Rattle.std.specs.Prelude.{◌≡◌, ◌⊎◌, ℕ, Option, Some, None, List, if◌then◌else◌}
 use Rattle.fws_box.specs.Sides.{IsWithin}
+use Rattle.fws_dead.specs.declared.compare.Compare.{Compare}
+use Rattle.fws_dead.specs.Compared.{IsComparison}
+use Rattle.fws_dead.specs.ComparisonText.{comparison_text}
 use Rattle.fws_net.specs.declared.connection.Kind.{Kind}
 use Rattle.fws_net.specs.declared.outcome.Outcome.{Outcome}
 use Rattle.fws_net.specs.declared.packet.Packet.{Packet}
@@ -36,12 +39,20 @@ pub record IsAskedTable (site : Site) (state : State) (asks : List (List ℕ)) (
   pub asked : (p : List ℕ) → IsWithin (tops_of site) p → value tree p ≡ Some (asked_part site asks p (walked_at walk state p))
   pub spelled : t ≡ query_text site state tree
 
+-- what is said of two walks: that both give every packet of the site and every class the same fate, or a packet with the two fates
+-- that they give it, which differ
+pub record IsCompared (site : Site) (walk other : Packet → Kind → Outcome) (t : List ℕ) : Type 0 where
+  pub comparison : Compare
+  pub compared : IsComparison site walk other comparison
+  pub spelled : t ≡ comparison_text site comparison
+
 -- what shows a walk at a site: its table for the packets of a state, whole or of what the words of a query ask for; the
--- same policy in another language; or what so many rules come to
+-- same policy in another language; whether another walk does the same; or what so many rules come to
 pub data Wanted : Type 0 where
   table : Site → State → (Packet → Kind → Outcome) → Wanted
   asked_table : Site → State → List (List ℕ) → (Packet → Kind → Outcome) → Wanted
   translation : TargetLang → Site → (Packet → Kind → Outcome) → Wanted
+  comparison : Site → (Packet → Kind → Outcome) → (Packet → Kind → Outcome) → Wanted
   loaded : ℕ → Site → (Packet → Kind → Outcome) → Wanted
 
 -- a text that is shown with this status is the wanted one
@@ -49,6 +60,7 @@ abbrev pub IsWanted : Wanted → Status → List ℕ → Type 0
 IsWanted (table site state walk) s t = (s ≡ status.Ok) × IsTable site state walk t
 IsWanted (asked_table site state asks walk) s t = (s ≡ status.Ok) × IsAskedTable site state asks walk t
 IsWanted (translation target site walk) s t = IsTranslation target site walk s t
+IsWanted (comparison site walk other) s t = (s ≡ status.Ok) × IsCompared site walk other t
 IsWanted (loaded n site walk) s t = (s ≡ status.Ok) × IsLoad n site walk t
 
 -- a status with which it may be shown
@@ -56,4 +68,5 @@ abbrev pub CanBeShown : Wanted → Status → Type 0
 CanBeShown (table site state walk) s = s ≡ status.Ok
 CanBeShown (asked_table site state asks walk) s = s ≡ status.Ok
 CanBeShown (translation target site walk) s = (s ≡ status.Ok) ⊎ (s ≡ status.NotPlaceable)
+CanBeShown (comparison site walk other) s = s ≡ status.Ok
 CanBeShown (loaded n site walk) s = s ≡ status.Ok

@@ -7,7 +7,7 @@ ghost use Rattle.fws_top.specs.Plan.{Plan, plan_of};
 ghost use Rattle.fws_top.specs.Stops.{Answered, Stopped};
 
 use crate::answer::{Answer, Stop, said};
-use crate::commands::{load, query, run, second_form, synth, trace, translate};
+use crate::commands::{load, query, run, same, second_form, synth, trace, translate};
 use crate::form::{Form, read_form};
 use crate::status::Status;
 use crate::texts::{HELP, USAGE, VERSION};
@@ -64,6 +64,9 @@ fn follow<S: Shelf>(alloc: Global, form: &Form<'_>, shelf: &mut S) -> Result<Ans
             ended(trace(alloc, shelf, lang, site, file, conns, packets))
         }
         Form::Run(lang, site, file, events) => ended(run(alloc, shelf, lang, site, file, events)),
+        Form::Same(lang, site, file, other_lang, other) => {
+            ended(same(alloc, shelf, lang, site, file, other_lang, other))
+        }
         Form::Load(n) => ended(load(alloc, n)),
         Form::SecondForm(site) => ended(second_form(alloc, shelf, site)),
     }

@@ -9,10 +9,10 @@ ghost use Rattle.fws_net.specs.Routes.{IsSound};
 ghost use Rattle.fws_net.specs.SiteLaws.{IsOrderly};
 ghost use Rattle.fws_top.specs.Asks.{are_asks};
 ghost use Rattle.fws_top.specs.declared.status.Status.TheVariants as status;
-ghost use Rattle.fws_top.specs.Forms.{synth, query, translate, trace, run, load, site2};
-ghost use Rattle.fws_top.specs.Parts.{query_part, conns_part, events_part, load_part, packets_part, run_part, table_part, trace_part, translation_part};
+ghost use Rattle.fws_top.specs.Forms.{synth, query, translate, trace, run, same, load, site2};
+ghost use Rattle.fws_top.specs.Parts.{query_part, conns_part, events_part, load_part, other_part, packets_part, run_part, same_part, table_part, trace_part, translation_part};
 ghost use Rattle.fws_top.specs.Plan.{plan_of};
-ghost use Rattle.fws_top.specs.Stops.{Answered, Does, Stopped};
+ghost use Rattle.fws_top.specs.Stops.{Answered, Does, DoesRegularly, Stopped};
 
 use crate::answer::{Answer, Stop};
 use crate::lang::{SourceLang, TargetLang};
@@ -22,7 +22,7 @@ use crate::steps::{
     generated_site, generated_source, know_entries, take_conns, take_events, take_packets,
     take_site, take_source,
 };
-use crate::tables::{asked_table, replayed, table, traced};
+use crate::tables::{asked_table, compared, replayed, table, traced};
 use crate::translating::translated;
 use fws_flat::Flat;
 use fws_io::Shelf;
@@ -287,6 +287,66 @@ pub(crate) fn run<S: Shelf>(
 {
     let site = take_site(alloc, shelf, site_name)?;
     run_at(alloc, shelf, lang, &site, file_name, events_name)
+}
+
+/// Whether code does the same as a configuration at a site.
+fn same_by<S: Shelf>(
+    alloc: Global,
+    shelf: &mut S,
+    site: &Site,
+    code: &Flat,
+    other_lang: SourceLang,
+    other_name: &[u8],
+) -> Result<Text, Stop>
+    requires sound { IsSound site.now }
+    requires ok { flat_ok code.now ≡ true }
+    requires regular { DoesRegularly code.now site.now }
+    ensures same { S.told shelf.new ≡ S.told shelf.old }
+    ensures answered { (walk : Packet → Kind → Outcome) → Does code.now site.now walk
+        → IfOk result (Answered (other_part site.now walk other_lang other_name.now) (S.told shelf.old) (S.faults shelf.old) (S.faults shelf.new) status.Ok) }
+    ensures stopped { (walk : Packet → Kind → Outcome)
+        → IfErr result (Stopped (other_part site.now walk other_lang other_name.now) (S.told shelf.old) (S.faults shelf.old) (S.faults shelf.new)) }
+{
+    let other = take_source(alloc, shelf, other_lang, site, other_name)?;
+    let text = compared(alloc, site, code, &other.flat)?;
+    Ok(text)
+}
+
+/// Whether two configurations do the same, at a site.
+fn same_at<S: Shelf>(
+    alloc: Global,
+    shelf: &mut S,
+    lang: SourceLang,
+    site: &Site,
+    file_name: &[u8],
+    other_lang: SourceLang,
+    other_name: &[u8],
+) -> Result<Text, Stop>
+    requires { IsSound site.now }
+    ensures same { S.told shelf.new ≡ S.told shelf.old }
+    ensures answered { IfOk result (Answered (same_part lang site.now file_name.now other_lang other_name.now) (S.told shelf.old) (S.faults shelf.old) (S.faults shelf.new) status.Ok) }
+    ensures stopped { IfErr result (Stopped (same_part lang site.now file_name.now other_lang other_name.now) (S.told shelf.old) (S.faults shelf.old) (S.faults shelf.new)) }
+{
+    let code = take_source(alloc, shelf, lang, site, file_name)?;
+    same_by(alloc, shelf, site, &code.flat, other_lang, other_name)
+}
+
+/// Whether two configurations do the same, or a packet with which they don't.
+pub(crate) fn same<S: Shelf>(
+    alloc: Global,
+    shelf: &mut S,
+    lang: SourceLang,
+    site_name: &[u8],
+    file_name: &[u8],
+    other_lang: SourceLang,
+    other_name: &[u8],
+) -> Result<Text, Stop>
+    ensures same { S.told shelf.new ≡ S.told shelf.old }
+    ensures answered { IfOk result (Answered (plan_of (same lang site_name.now file_name.now other_lang other_name.now)) (S.told shelf.old) (S.faults shelf.old) (S.faults shelf.new) status.Ok) }
+    ensures stopped { IfErr result (Stopped (plan_of (same lang site_name.now file_name.now other_lang other_name.now)) (S.told shelf.old) (S.faults shelf.old) (S.faults shelf.new)) }
+{
+    let site = take_site(alloc, shelf, site_name)?;
+    same_at(alloc, shelf, lang, &site, file_name, other_lang, other_name)
 }
 
 /// What a generated policy of so many rules comes to, at a site.

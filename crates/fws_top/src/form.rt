@@ -2,7 +2,7 @@
 
 ghost use Rattle.std.specs.Prelude.{◌≡◌};
 ghost use Rattle.std.specs.Str.{bytes_eq};
-ghost use Rattle.fws_top.specs.Forms.{lang_of, target_of, state_of, command_of, single_command, short_command, load_command, synth_command, query_command, state_command, table_command, translate_command, trace_command, run_command, source_command, asked, IsSpelled};
+ghost use Rattle.fws_top.specs.Forms.{lang_of, target_of, state_of, command_of, single_command, short_command, load_command, synth_command, query_command, state_command, table_command, translate_command, trace_command, run_command, same_command, source_command, asked, IsSpelled};
 
 use crate::ask::{are_asks, are_shown};
 use crate::lang::{SourceLang, TargetLang};
@@ -29,6 +29,8 @@ pub(crate) enum Form<'a> {
     Trace(SourceLang, &'a [u8], &'a [u8], &'a [u8], &'a [u8]),
     /// What a configuration at a site makes of events one after the other: site, configuration and events.
     Run(SourceLang, &'a [u8], &'a [u8], &'a [u8]),
+    /// Whether two configurations do the same at a site: site and configuration, then the other language and configuration.
+    Same(SourceLang, &'a [u8], &'a [u8], SourceLang, &'a [u8]),
     /// What a generated policy comes to: the number of its rules.
     Load(u32),
     /// A site in its second form.
@@ -244,6 +246,20 @@ fn read_run<'a>(lang: SourceLang, site: &'a [u8], file: &'a [u8], rest: &'a [Tex
     }
 }
 
+/// `same` takes another language and another name.
+fn read_same<'a>(lang: SourceLang, site: &'a [u8], file: &'a [u8], rest: &'a [Text]) -> Form<'a>
+    ensures asked { asked result ≡ same_command lang site.now file.now rest.now }
+    ensures spelled { IsSpelled result }
+{
+    let [word, other] = rest else {
+        return Form::Unknown;
+    };
+    match read_lang(word) {
+        Some(other_lang) => Form::Same(lang, site, file, other_lang, other.as_slice()),
+        None => Form::Unknown,
+    }
+}
+
 /// What a command asks of a configuration at a site.
 fn read_source_command<'a>(
     command: &Text,
@@ -261,6 +277,8 @@ fn read_source_command<'a>(
         read_trace(lang, site, file, rest)
     } else if is(command, b"run") {
         read_run(lang, site, file, rest)
+    } else if is(command, b"same") {
+        read_same(lang, site, file, rest)
     } else {
         read_table_command(command, lang, site, file, rest)
     }

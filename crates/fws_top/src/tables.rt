@@ -12,8 +12,8 @@ ghost use Rattle.fws_net.specs.Points.{tops_of};
 ghost use Rattle.fws_net.specs.RegularWalks.{IsRegularWalk};
 ghost use Rattle.fws_net.specs.Routes.{IsSound};
 ghost use Rattle.fws_top.specs.Asks.{are_asks};
-ghost use Rattle.fws_top.specs.Stops.{Does};
-ghost use Rattle.fws_top.specs.Tables.{IsAskedTable, IsTable};
+ghost use Rattle.fws_top.specs.Stops.{Does, DoesRegularly};
+ghost use Rattle.fws_top.specs.Tables.{IsAskedTable, IsCompared, IsTable};
 ghost use Rattle.fws_top.specs.Walked.{AreTablesOf, walked_at};
 ghost use Rattle.fws_trace.specs.PacketText.{IsOfSite};
 ghost use Rattle.fws_trace.specs.TraceText.{trace_text};
@@ -23,6 +23,7 @@ ghost use Rattle.fws_tree.specs.Regular.{AreRegular};
 use crate::ask_set::read_ask;
 use crate::laws::regular_walks_make_regular_tables;
 use crate::policy::PolicyCode;
+use fws_dead::{put_comparison, same};
 use fws_events::{Event, put_run};
 use fws_exec::execute_tree;
 use fws_flat::Flat;
@@ -141,5 +142,26 @@ pub(crate) fn replayed(
 {
     let tables = tables(alloc, site, &code.flat)?;
     let text = put_run(alloc, site, events, &tables, code.tracks)?;
+    Ok(text)
+}
+
+/// Whether two codes do the same, or a packet with which they don't.
+pub(crate) fn compared(
+    alloc: Global,
+    site: &Site,
+    code: &Flat,
+    other: &Flat,
+) -> Result<Text, Memory>
+    requires sound { IsSound site.now }
+    requires ok { flat_ok code.now ≡ true }
+    requires other_ok { flat_ok other.now ≡ true }
+    requires regular { DoesRegularly code.now site.now }
+    requires other_regular { DoesRegularly other.now site.now }
+    ensures { (walk second : Packet → Kind → Outcome) → Does code.now site.now walk → Does other.now site.now second → IfOk result (IsCompared site.now walk second) }
+{
+    let one = tables(alloc, site, code)?;
+    let two = tables(alloc, site, other)?;
+    let comparison = same(alloc, site, &one, &two)?;
+    let text = put_comparison(alloc, site, &comparison)?;
     Ok(text)
 }

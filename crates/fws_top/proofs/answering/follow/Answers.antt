@@ -2,7 +2,7 @@ use Rattle.std.proofs.Common.{◌≡◌, IfOk, refl, subst, sym}
 use Rattle.std.proofs.lemmas.Result.{IfOk-weaker}
 use Rattle.fws_top.specs.declared.form.Form.{Form}
 use Rattle.fws_top.specs.declared.status.Status.TheVariants as status
-use Rattle.fws_top.specs.Forms.{asked, help, synth, query, translate, trace, run, load}
+use Rattle.fws_top.specs.Forms.{asked, help, synth, query, translate, trace, run, same, load}
 use Rattle.fws_top.specs.Plan.{plan_of}
 use Rattle.fws_top.specs.Stops.{Answered}
 use Rattle.fws_top.specs.Texts.{help_text}
@@ -51,6 +51,15 @@ returns-in-Run-clause-answered g c =
     let new = g.S.Shelf.faults c.run.new.shelf in
     subst (λ (form : Form). IfOk c.ended-in-Run.result (λ answer. Answered (plan_of (asked form)) told old new answer.status answer.text)) (sym w.is)
     (c.ended-in-Run.ensures (plan_of (run w.lang w.site.now w.file.now w.events.now)) told old new c.run.ensures.answered c.run.ensures.stopped)
+
+pub returns-in-Same-clause-answered : goal.returns-in-Same-clause-answered
+returns-in-Same-clause-answered g c =
+    let w = c.in-Same in
+    let told = g.S.Shelf.told c.args.shelf.now in
+    let old = g.S.Shelf.faults c.args.shelf.now in
+    let new = g.S.Shelf.faults c.same.new.shelf in
+    subst (λ (form : Form). IfOk c.ended-in-Same.result (λ answer. Answered (plan_of (asked form)) told old new answer.status answer.text)) (sym w.is)
+    (c.ended-in-Same.ensures (plan_of (same w.lang w.site.now w.file.now w.other_lang w.other.now)) told old new c.same.ensures.answered c.same.ensures.stopped)
 
 pub returns-in-Translate-clause-answered : goal.returns-in-Translate-clause-answered
 returns-in-Translate-clause-answered g c =
