@@ -2,8 +2,8 @@
 # Runs the built programs over growing inputs, and prints a line `family size seconds megabytes counts` for each:
 # filter files of growing length, files with chains of the user's and with rules of nat and mangle, an instance of ipfw with
 # many redirects, the same rules in ipfw, pf or Cisco IOS and in iptables, lists of pf that stand for many rules, 400 rules
-# at sites of growing size, the writing of these sites by the command site2, translations, the command load, runs of events, texts of up to
-# 4 MiB that are read and not executed, execution alone and that of established packets, trees that are made of rows or
+# at sites of growing size, the writing of these sites by the command site2, translations, the command load, runs of events, comparisons of
+# two texts, texts of up to 4 MiB that are read and not executed, execution alone and that of established packets, trees that are made of rows or
 # recoloured, and diagrams that are unfolded or refused. Exit status 1 where a bound is passed. Build first: ./fws --build
 set -u
 top=$(cd "$(dirname "$0")/.." && pwd)
@@ -153,6 +153,17 @@ running answered 10000 5 1024
 running renewed 10000 5 1024
 running expired 40000 5 1024
 running crossed 10000 5 1024
+
+compared() { # family rules other answer: at most twice as long as both tables of both texts
+    python3 "$top/bench/comparing.py" "$1" "$2" "$3" "$4" 2 "$program" "$site" || status=1
+}
+
+echo 'family rules other seconds times answer'
+compared listed 4000 shorter differ
+compared partial 4000 shorter differ
+compared loaded 4000 shorter differ
+compared loaded 4000 pf same
+compared loaded 4000 ipfw same
 
 echo 'family mebibytes seconds megabytes'
 for size in 0.5 1 2 4; do
