@@ -160,10 +160,10 @@ compared() { # family rules other answer: at most twice as long as both tables o
 
 echo 'family rules other seconds times answer'
 compared listed 4000 shorter differ
-compared partial 4000 shorter differ
+compared partial 4000 shorter same
 compared loaded 4000 shorter differ
-compared loaded 4000 pf same
-compared loaded 4000 ipfw same
+compared loaded 400 pf same
+compared loaded 400 ipfw same
 
 echo 'family mebibytes seconds megabytes'
 for size in 0.5 1 2 4; do
