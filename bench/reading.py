@@ -58,4 +58,5 @@ def main(mebibytes, seconds, megabytes, program, site):
     return 0 if taken <= seconds and used <= megabytes else 1
 
 
-sys.exit(main(float(sys.argv[1]), float(sys.argv[2]), float(sys.argv[3]), sys.argv[4], sys.argv[5]))
+if __name__ == '__main__':
+    sys.exit(main(float(sys.argv[1]), float(sys.argv[2]), float(sys.argv[3]), sys.argv[4], sys.argv[5]))

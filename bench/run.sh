@@ -2,9 +2,10 @@
 # Runs the built programs over growing inputs, and prints a line `family size seconds megabytes counts` for each:
 # filter files of growing length, files with chains of the user's and with rules of nat and mangle, an instance of ipfw with
 # many redirects, the same rules in ipfw, pf or Cisco IOS and in iptables, lists of pf that stand for many rules, 400 rules
-# at sites of growing size, the writing of these sites by the command site2, translations, the command load, runs of events, comparisons of
-# two texts, texts of up to 4 MiB that are read and not executed, execution alone and that of established packets, trees that are made of rows or
-# recoloured, and diagrams that are unfolded or refused. Exit status 1 where a bound is passed. Build first: ./fws --build
+# at sites of growing size, the writing of these sites by the command site2, translations, the command load, runs of events,
+# comparisons of two texts, texts of up to 4 MiB that are read and not executed, in all four languages, execution alone and that of
+# established packets, trees that are made of rows or recoloured, and diagrams that are unfolded or refused. Exit status 1 where a
+# bound is passed. Build first: ./fws --build
 set -u
 top=$(cd "$(dirname "$0")/.." && pwd)
 program=$top/crates/fws/out/fws
@@ -169,6 +170,9 @@ echo 'family mebibytes seconds megabytes'
 for size in 0.5 1 2 4; do
     python3 "$top/bench/reading.py" "$size" 10 2048 "$program" "$site" || status=1
 done
+
+echo 'language lines seconds microseconds nanoseconds'
+python3 "$top/bench/readers.py" 4 2 "$program" "$site" || status=1
 
 echo 'family rules state seconds instructions nodes'
 python3 "$top/bench/execution.py" listed 4000 new 0.1 "$trees" "$site" || status=1
