@@ -1,5 +1,5 @@
 -- The places of a rule: what they ask for, and how many conditions they make.
-use Rattle.std.specs.Prelude.{ℕ, ◌*◌, Option, None, Some, List, [], ◌++◌}
+use Rattle.std.specs.Prelude.{ℕ, ◌*◌, Option, None, Some, List, ◌++◌}
 use Rattle.fws_net.specs.declared.condition.Test.TheVariants as tests
 use Rattle.fws_pf.specs.declared.rule_draft.Choice.{Choice}
 use Rattle.fws_pf.specs.declared.rule_draft.Expects.{Expects}
@@ -15,15 +15,12 @@ abbrev pub value_place : Expects → Option Place
 value_place (expect.Value place) = Some place
 value_place _ = None
 
--- what a rule asks for by its interfaces, protocols, addresses and ports, behind the rest
+-- what a rule asks for by its interfaces, protocols, addresses and ports, ahead of the rest
 abbrev pub with_places : List Table → RuleDraft → List Choice → List Choice
-with_places tables d all =
-    all ++ value_choices tables tests.Via d.faces ++ value_choices tables tests.Proto d.protocols
+with_places tables d rest =
+    value_choices tables tests.Via d.faces ++ value_choices tables tests.Proto d.protocols
     ++ value_choices tables tests.Src d.sources ++ value_choices tables tests.Sport d.source_ports
-    ++ value_choices tables tests.Dst d.destinations ++ value_choices tables tests.Dport d.destination_ports
-
-abbrev pub place_choices : List Table → RuleDraft → List Choice
-place_choices tables d = with_places tables d []
+    ++ value_choices tables tests.Dst d.destinations ++ value_choices tables tests.Dport d.destination_ports ++ rest
 
 -- how many conditions a rule has, by its lists
 abbrev pub draft_count : RuleDraft → ℕ

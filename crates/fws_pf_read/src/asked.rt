@@ -1,15 +1,17 @@
 //! What the options of a rule ask for.
 
-ghost use Rattle.std.specs.Prelude.{◌≡◌, [], ◌∷◌, ◌++◌, length, map, min, IfOk, OnOk};
+ghost use Rattle.std.specs.Prelude.{◌≡◌, List, [], ◌∷◌, ◌++◌, length, map, min, IfOk, OnOk};
 ghost use Rattle.fws_net.specs.declared.condition.Test.TheVariants as tests;
+ghost use Rattle.fws_pf.specs.declared.rule_draft.Choice.{Choice as AnyChoice};
 ghost use Rattle.fws_pf.specs.Drawn.{condition_count};
 ghost use Rattle.fws_pf.specs.RuleText.{choice_of, only};
+ghost use Rattle.fws_pf_words.specs.Drawings.{drawn};
 ghost use Rattle.fws_pf_read.specs.Asked.{asked_choice};
 
 use fws_net::Cond;
 use fws_num::{Items, Memory};
 use fws_pf::{Choice, Item, Place};
-use fws_pf_words::{ItemList, Tables, choice_of, only, times};
+use fws_pf_words::{Drawing, ItemList, Tables, choice_of, times};
 use std::alloc::Global;
 use std::marker::Model;
 
@@ -39,14 +41,6 @@ impl Model for OptionChoices {
     ghost view = { λ o. map asked_choice o.asked };
 }
 
-/// The choice of this condition.
-fn one_choice(alloc: Global, cond: &Cond) -> Result<Choice, Memory>
-    ensures { IfOk result (λ c. c ≡ only cond.now) }
-{
-    let cond = cond.copy(alloc)?;
-    only(alloc, cond)
-}
-
 /// The choice of these types of ICMP messages.
 fn icmp_choice(alloc: Global, types: &[Item]) -> Result<Choice, Memory>
     ensures { IfOk result (λ c. c ≡ choice_of [] tests.Icmp types.now) }
@@ -63,13 +57,13 @@ fn types_choice(alloc: Global, types: &ItemList) -> Result<Choice, Memory>
     icmp_choice(alloc, items.as_slice())
 }
 
-/// The choice for which an option asks.
-fn asked_choice(alloc: Global, asked: &Asked) -> Result<Choice, Memory>
-    ensures { IfOk result (λ c. c ≡ asked_choice asked.now) }
+/// Puts the choice for which an option asks behind others.
+fn put_choice(alloc: Global, asked: &Asked, all: &mut Drawing) -> Result<(), Memory>
+    ensures { OnOk result ((rest : List AnyChoice) → drawn all.new rest ≡ drawn all.old (asked_choice asked.now ∷ rest)) }
 {
     match asked {
-        Asked::One(cond) => one_choice(alloc, cond),
-        Asked::Types(types) => types_choice(alloc, types),
+        Asked::One(cond) => all.put_cond(alloc, cond),
+        Asked::Types(types) => all.put(types_choice(alloc, types)?),
     }
 }
 
@@ -94,11 +88,11 @@ fn count_of(asked: &[Asked]) -> u64
 }
 
 /// Puts the choices of options behind others.
-fn put_asked(alloc: Global, asked: &[Asked], all: &mut Items<Choice>) -> Result<(), Memory>
-    ensures { OnOk result (all.new ≡ all.old ++ map asked_choice asked.now) }
+fn put_asked(alloc: Global, asked: &[Asked], all: &mut Drawing) -> Result<(), Memory>
+    ensures { OnOk result ((rest : List AnyChoice) → drawn all.new rest ≡ drawn all.old (map asked_choice asked.now ++ rest)) }
 {
     for option in asked {
-        all.put(asked_choice(alloc, option)?)?;
+        put_choice(alloc, option, all)?;
     }
     Ok(())
 }
@@ -137,8 +131,8 @@ impl OptionChoices {
     }
 
     /// Puts the choices behind others. An error is want of memory.
-    pub(crate) fn put_to(&self, alloc: Global, all: &mut Items<Choice>) -> Result<(), Memory>
-        ensures { OnOk result (all.new ≡ all.old ++ self.now) }
+    pub(crate) fn put_to(&self, alloc: Global, all: &mut Drawing) -> Result<(), Memory>
+        ensures { OnOk result ((rest : List AnyChoice) → drawn all.new rest ≡ drawn all.old (self.now ++ rest)) }
     {
         put_asked(alloc, self.asked.as_slice(), all)
     }

@@ -40,11 +40,11 @@ fn table_said(alloc: Global, name: Text, s: Statement) -> Result<KnownTable, Mem
             dismiss_rule(rule);
             Ok(empty_table(alloc, name))
         }
-        Statement::Table(d) => table_filled(alloc, name, d),
+        Statement::Table(d) => table_filled(alloc, name, d.into_table()),
         Statement::Set => Ok(empty_table(alloc, name)),
         Statement::Skip => Ok(empty_table(alloc, name)),
         Statement::SkipOn(v) => {
-            dismiss_value(v);
+            dismiss_value(v.into_value());
             Ok(empty_table(alloc, name))
         }
         Statement::Idle => Ok(empty_table(alloc, name)),

@@ -1,16 +1,19 @@
 //! What a rule asks for.
 
-ghost use Rattle.std.specs.Prelude.{◌≡◌, [], ◌∷◌, ◌++◌, min, IfOk, OnOk, if◌then◌else◌};
-ghost use Rattle.fws_pf.specs.Drawn.{choices, implied_flags, implies_flags, value_choices};
+ghost use Rattle.std.specs.Prelude.{◌≡◌, List, [], ◌∷◌, ◌++◌, min, IfOk, OnOk, if◌then◌else◌};
+ghost use Rattle.fws_pf.specs.declared.rule_draft.Choice.{Choice as AnyChoice};
+ghost use Rattle.fws_pf.specs.Drawn.{choices, conditions, implied_flags, implies_flags, value_choices};
 ghost use Rattle.fws_pf.specs.RuleText.{only};
+ghost use Rattle.fws_pf_words.specs.Drawings.{drawn};
 ghost use Rattle.fws_pf_words.specs.Tests.{test_at};
-ghost use Rattle.fws_pf_read.specs.Places.{draft_count, place_choices, with_places};
+ghost use Rattle.fws_pf_read.specs.Places.{draft_count, with_places};
 ghost use Rattle.fws_pf_read.specs.Views.{draft_of};
 
 use crate::draft::{Draft, passes};
+use fws_net::Cond;
 use fws_num::{Items, Memory};
-use fws_pf::{Choice, Place};
-use fws_pf_words::{ItemList, Tables, implied_flags, only, place_size, put_choice, times};
+use fws_pf::Place;
+use fws_pf_words::{Drawing, ItemList, Tables, implied_flags, place_size, times};
 use std::alloc::Global;
 
 /// Whether a rule is, of TCP, for the first packets of connections alone, since it keeps state and has no flags.
@@ -26,12 +29,12 @@ fn put_unfolded(
     tables: &Tables,
     place: Place,
     list: &ItemList,
-    all: &mut Items<Choice>,
+    all: &mut Drawing,
 ) -> Result<(), Memory>
-    ensures { OnOk result (all.new ≡ all.old ++ value_choices tables.now (test_at place) list.now) }
+    ensures { OnOk result ((rest : List AnyChoice) → drawn all.new rest ≡ drawn all.old (value_choices tables.now (test_at place) list.now ++ rest)) }
 {
     let items = list.to_items(alloc)?;
-    put_choice(alloc, tables, place, items.as_slice(), all)
+    all.put_values(alloc, tables, place, items.as_slice())
 }
 
 /// Puts what a place asks for behind the rest, if values stand at it.
@@ -40,24 +43,19 @@ fn put_place(
     tables: &Tables,
     place: Place,
     list: &ItemList,
-    all: &mut Items<Choice>,
+    all: &mut Drawing,
 ) -> Result<(), Memory>
-    ensures { OnOk result (all.new ≡ all.old ++ value_choices tables.now (test_at place) list.now) }
+    ensures { OnOk result ((rest : List AnyChoice) → drawn all.new rest ≡ drawn all.old (value_choices tables.now (test_at place) list.now ++ rest)) }
 {
     match list.once() {
-        Some(items) => put_choice(alloc, tables, place, items, all),
+        Some(items) => all.put_values(alloc, tables, place, items),
         None => put_unfolded(alloc, tables, place, list, all),
     }
 }
 
 /// Puts the values of its places behind the rest.
-fn put_places(
-    alloc: Global,
-    tables: &Tables,
-    d: &Draft,
-    all: &mut Items<Choice>,
-) -> Result<(), Memory>
-    ensures { OnOk result (all.new ≡ with_places tables.now (draft_of d.now) all.old) }
+fn put_places(alloc: Global, tables: &Tables, d: &Draft, all: &mut Drawing) -> Result<(), Memory>
+    ensures { OnOk result ((rest : List AnyChoice) → drawn all.new rest ≡ drawn all.old (with_places tables.now (draft_of d.now) rest)) }
 {
     put_place(alloc, tables, Place::On, &d.faces, all)?;
     put_place(alloc, tables, Place::Proto, &d.protocols, all)?;
@@ -74,53 +72,37 @@ fn put_places(
     Ok(())
 }
 
-/// The values of its places.
-fn place_choices(alloc: Global, tables: &Tables, d: &Draft) -> Result<Items<Choice>, Memory>
-    ensures { IfOk result (λ cs. cs ≡ place_choices tables.now (draft_of d.now)) }
-{
-    let mut all = Items::new(alloc);
-    put_places(alloc, tables, d, &mut all)?;
-    Ok(all)
-}
-
-/// The choice of the flags that a rule implies.
-fn implied_choice(alloc: Global) -> Result<Choice, Memory>
-    ensures { IfOk result (λ c. c ≡ only implied_flags) }
-{
-    let cond = implied_flags(alloc)?;
-    only(alloc, cond)
-}
-
 /// Puts what a rule implies behind the rest.
-fn put_implied(alloc: Global, d: &Draft, all: &mut Items<Choice>) -> Result<(), Memory>
-    ensures { OnOk result (all.new ≡ all.old ++ (if implies_flags (draft_of d.now) then only implied_flags ∷ [] else [])) }
+fn put_implied(alloc: Global, d: &Draft, all: &mut Drawing) -> Result<(), Memory>
+    ensures { OnOk result ((rest : List AnyChoice) → drawn all.new rest ≡ drawn all.old ((if implies_flags (draft_of d.now) then only implied_flags ∷ [] else []) ++ rest)) }
 {
     if implies_flags(d) {
-        all.put(implied_choice(alloc)?)?;
+        all.put_cond(alloc, &implied_flags(alloc)?)?;
     }
     Ok(())
 }
 
-/// Puts what the options of a rule ask for behind the rest, and last what it implies.
-fn put_options(alloc: Global, d: &Draft, all: &mut Items<Choice>) -> Result<(), Memory>
-    ensures { OnOk result (all.new ≡ all.old ++ d.now.options ++ (if implies_flags (draft_of d.now) then only implied_flags ∷ [] else [])) }
+/// Puts what a rule asks for behind the rest, in the order of its words, and last what it implies.
+fn put_choices(alloc: Global, tables: &Tables, d: &Draft, all: &mut Drawing) -> Result<(), Memory>
+    ensures { OnOk result (drawn all.new [] ≡ drawn all.old (choices tables.now (draft_of d.now))) }
 {
+    put_places(alloc, tables, d, all)?;
     d.options.put_to(alloc, all)?;
     put_implied(alloc, d, all)?;
     Ok(())
 }
 
-/// What a rule asks for, in the order of its words, and last what it implies.
-pub(crate) fn draft_choices(
+/// The conditions of the rules for which a rule stands.
+pub(crate) fn draft_conditions(
     alloc: Global,
     tables: &Tables,
     d: &Draft,
-) -> Result<Items<Choice>, Memory>
-    ensures { IfOk result (λ cs. cs ≡ choices tables.now (draft_of d.now)) }
+) -> Result<Items<Cond>, Memory>
+    ensures { IfOk result (λ conds. conds ≡ conditions (choices tables.now (draft_of d.now))) }
 {
-    let mut all = place_choices(alloc, tables, d)?;
-    put_options(alloc, d, &mut all)?;
-    Ok(all)
+    let mut all = Drawing::new(alloc);
+    put_choices(alloc, tables, d, &mut all)?;
+    all.into_conditions(alloc)
 }
 
 /// How many conditions a rule has, where they are no more than 400,000, and else 400,000.

@@ -7,6 +7,7 @@ mod definitions;
 mod draft;
 mod drawn;
 mod ended;
+mod held;
 mod keywords;
 mod made;
 mod options;

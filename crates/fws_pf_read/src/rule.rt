@@ -3,7 +3,7 @@
 ghost use Rattle.std.specs.Prelude.{◌≡◌, ℕ, ◌≤◌, Ok, List, length, take, IfOk, OnOk};
 ghost use Rattle.fws_net.specs.Reading.{CauseGiven, StepGiven};
 ghost use Rattle.fws_net.specs.Routes.{IsSound};
-ghost use Rattle.fws_pf.specs.Drawn.{choices, filter_rule, rule_checks, rule_ended, translation};
+ghost use Rattle.fws_pf.specs.Drawn.{choices, conditions, filter_rule, rule_checks, rule_ended, translation};
 ghost use Rattle.fws_pf.specs.declared.macros.Macro.{Macro as AnyMacro};
 ghost use Rattle.fws_pf.specs.declared.statement.Statement.TheVariants as any;
 ghost use Rattle.fws_pf.specs.RuleText.{fresh_rule, rule_step};
@@ -14,13 +14,13 @@ ghost use Rattle.fws_pf_read.specs.Views.{draft_of};
 use crate::asked::OptionChoices;
 use crate::checks::draft_checks;
 use crate::draft::{Draft, dismiss_draft};
-use crate::drawn::draft_choices;
+use crate::drawn::draft_conditions;
 use crate::ended::draft_ended;
 use crate::made;
 use crate::steps::{draft_step, draft_within};
 use fws_net::{Checks, Cond, ReadFault};
 use fws_num::{Items, Memory, Text, Word};
-use fws_pf::{Choice, Expects, PfNat, PfRule, ValueKind, Verb, Way};
+use fws_pf::{Expects, PfNat, PfRule, ValueKind, Verb, Way};
 use fws_pf_words::{ItemList, KnownUses, LongValue, Setting, Source, Tables, Tags};
 use std::alloc::Global;
 use std::marker::Model;
@@ -191,11 +191,15 @@ pub(crate) fn rule_ended(alloc: Global, rule: Rule) -> Result<Rule, ReadFault>
     }
 }
 
-/// What a rule asks for, in the order of its words, and last what it implies. An error is want of memory.
-pub(crate) fn choices(alloc: Global, tables: &Tables, rule: &Rule) -> Result<Items<Choice>, Memory>
-    ensures { IfOk result (λ cs. cs ≡ choices tables.now rule.now) }
+/// The conditions of the rules for which a rule stands. An error is want of memory.
+pub(crate) fn rule_conditions(
+    alloc: Global,
+    tables: &Tables,
+    rule: &Rule,
+) -> Result<Items<Cond>, Memory>
+    ensures { IfOk result (λ conds. conds ≡ conditions (choices tables.now rule.now)) }
 {
-    draft_choices(alloc, tables, &*rule.draft)
+    draft_conditions(alloc, tables, &*rule.draft)
 }
 
 /// The checks of a whole rule, behind statements that made so many rules where they made more than one. An error is want

@@ -14,13 +14,13 @@ ghost use Rattle.fws_pf_words.specs.TableSteps.{table_seen};
 ghost use Rattle.fws_pf_words.specs.UsesKnown.{AreUses, ArePiece};
 ghost use Rattle.fws_pf_read.specs.Statements.{AreTags, StatementGiven, items_of, seen};
 
-use crate::draft::dismiss_value;
+use crate::held::{HeldTable, HeldValue};
 use crate::keywords::{action_word, misplaced};
 use crate::rule::{Rule, dismiss_rule, fresh_rule, rule_step, rule_within};
 use fws_net::{Cause, ReadFault};
 use fws_num::{Memory, Text, Word};
 use fws_pf::{ActionWord, Expects, TableExpects, ValueKind, Verb};
-use fws_pf_words::{KnownUses, LongTable, LongValue, Setting, Source, Tags, fresh_table};
+use fws_pf_words::{KnownUses, LongValue, Setting, Source, Tags, fresh_table};
 use fws_rule::is;
 use std::alloc::Global;
 
@@ -34,19 +34,22 @@ pub(crate) enum Statement {
     /// A filter rule or a translation.
     Rule(Rule),
     /// A table.
-    Table(LongTable),
+    Table(HeldTable),
     /// `set`
     Set,
     /// `set skip`, behind which `on` stands.
     Skip,
     /// The interfaces that are skipped.
-    SkipOn(LongValue),
+    SkipOn(HeldValue),
     /// A statement that has no effect.
     Idle,
 }
 
 /// Drops a table.
-fn dismiss_table(_d: LongTable) {}
+fn dismiss_table(_d: HeldTable) {}
+
+/// Drops a value.
+fn dismiss_skipped(_v: HeldValue) {}
 
 /// Drops a statement: in a function of its own, since each function that drops one has to walk through all that it owns.
 pub(crate) fn dismiss(s: Statement) {
@@ -57,7 +60,7 @@ pub(crate) fn dismiss(s: Statement) {
         Statement::Table(d) => dismiss_table(d),
         Statement::Set => {}
         Statement::Skip => {}
-        Statement::SkipOn(v) => dismiss_value(v),
+        Statement::SkipOn(v) => dismiss_skipped(v),
         Statement::Idle => {}
     }
 }
@@ -100,7 +103,7 @@ fn other_begun(alloc: Global, tags: &Tags, w: &Word) -> Result<Statement, ReadFa
         return Ok(Statement::Negated);
     }
     if is(text, b"table") {
-        return Ok(Statement::Table(fresh_table(alloc)));
+        return Ok(Statement::Table(HeldTable::new(alloc, fresh_table(alloc))?));
     }
     if is(text, b"set") {
         return Ok(Statement::Set);
@@ -162,12 +165,12 @@ fn table_step(
     alloc: Global,
     setting: &Setting,
     w: &Word,
-    d: &mut LongTable,
+    d: &mut HeldTable,
 ) -> Result<(), ReadFault>
     requires { IsSound setting.now.site }
     ensures { StepGiven result (table_seen d.new) (table_step setting.now w.now (table_seen d.old)) }
 {
-    fws_pf_words::table_step(alloc, setting, misplaced(w.text.as_slice()), w, d)
+    d.step(alloc, setting, misplaced(w.text.as_slice()), w)
 }
 
 /// Takes a word of a table.
@@ -175,7 +178,7 @@ fn table_taken(
     alloc: Global,
     setting: &Setting,
     w: &Word,
-    mut d: LongTable,
+    mut d: HeldTable,
 ) -> Result<Statement, ReadFault>
     requires { IsSound setting.now.site }
     ensures { StatementGiven result (and_then (table_step setting.now w.now (table_seen d)) (λ next. Ok (any.Table next))) }
@@ -202,7 +205,8 @@ fn skip_step(alloc: Global, w: &Word) -> Result<Statement, ReadFault>
     if !is(text, b"on") {
         return Err(ReadFault::Bad(misplaced(text)));
     }
-    Ok(Statement::SkipOn(LongValue::new(alloc, ValueKind::Interface)))
+    let value = LongValue::new(alloc, ValueKind::Interface);
+    Ok(Statement::SkipOn(HeldValue::new(alloc, value)?))
 }
 
 /// Takes a word of the interfaces that are skipped; nothing stands behind them.
@@ -210,7 +214,7 @@ fn skip_on_step(
     alloc: Global,
     setting: &Setting,
     w: &Word,
-    mut v: LongValue,
+    mut v: HeldValue,
 ) -> Result<Statement, ReadFault>
     requires { IsSound setting.now.site }
     ensures { StatementGiven result (skip_on_step setting.now w.now v) }
@@ -298,8 +302,8 @@ pub(crate) fn are_printed(text: &[u8]) -> bool
 pub(crate) fn is_in_list(s: &Statement) -> bool {
     match s {
         Statement::Rule(rule) => rule.is_in_list(),
-        Statement::Table(d) => d.members.spot().in_list,
-        Statement::SkipOn(v) => v.spot().in_list,
+        Statement::Table(d) => d.is_in_list(),
+        Statement::SkipOn(v) => v.is_in_list(),
         _ => false,
     }
 }
@@ -374,7 +378,7 @@ fn table_piece(
     source: Source,
     name: &Text,
     words: &[Word],
-    mut d: LongTable,
+    d: HeldTable,
 ) -> Result<(Statement, usize), Memory>
     requires { IsSound setting.now.site }
     ensures few { IfOk result (λ r. r.1 ≤ length words.now) }
@@ -384,10 +388,11 @@ fn table_piece(
         → IfOk result (λ r. AreUses setting.now macros (items_of (seen r.0)) uses.new) }
     ensures kept { IfOk result (λ r. (t k : List (List ℕ)) → k ≡ t → AreTags t r.0 k) }
 {
-    match d.expects {
+    match d.expects() {
         TableExpects::Members => {
-            let n = uses.take(alloc, setting, source, name, words, &mut d.members)?;
-            Ok((Statement::Table(d), n))
+            let mut table = d.into_table();
+            let n = uses.take(alloc, setting, source, name, words, &mut table.members)?;
+            Ok((Statement::Table(HeldTable::new(alloc, table)?), n))
         }
         _ => Ok((Statement::Table(d), 0)),
     }
@@ -401,7 +406,7 @@ fn skip_piece(
     source: Source,
     name: &Text,
     words: &[Word],
-    mut v: LongValue,
+    v: HeldValue,
 ) -> Result<(Statement, usize), Memory>
     requires { IsSound setting.now.site }
     ensures few { IfOk result (λ r. r.1 ≤ length words.now) }
@@ -411,8 +416,9 @@ fn skip_piece(
         → IfOk result (λ r. AreUses setting.now macros (items_of (seen r.0)) uses.new) }
     ensures kept { IfOk result (λ r. (t k : List (List ℕ)) → k ≡ t → AreTags t r.0 k) }
 {
-    let n = uses.take(alloc, setting, source, name, words, &mut v)?;
-    Ok((Statement::SkipOn(v), n))
+    let mut value = v.into_value();
+    let n = uses.take(alloc, setting, source, name, words, &mut value)?;
+    Ok((Statement::SkipOn(HeldValue::new(alloc, value)?), n))
 }
 
 /// Takes words that belong to the value at which the statement is and don't end it, up to the first other word, and tells how

@@ -6,29 +6,21 @@ ghost use Rattle.fws_net.specs.Reading.{StepGiven};
 ghost use Rattle.fws_net.specs.Routes.{IsSound};
 ghost use Rattle.fws_pf.specs.declared.text_draft.PfDraft.{PfDraft};
 ghost use Rattle.fws_pf.specs.FileText.{definition_step, rule_put, statement_put, with_rule, with_skipped, words_step};
-ghost use Rattle.fws_pf.specs.Drawn.{choices, conditions, rule_checks};
+ghost use Rattle.fws_pf.specs.Drawn.{choices, rule_checks};
 ghost use Rattle.fws_pf_read.specs.Statements.{AreTags, seen};
 ghost use Rattle.fws_pf_read.specs.Texts.{plain_step, with_tags};
 
 use crate::progress::Progress;
-use crate::rule::{Rule, choices, dismiss_rule, rule_checks};
+use crate::rule::{Rule, dismiss_rule, rule_checks, rule_conditions};
 use crate::statement::Statement;
 use crate::whole_statement::statement_read;
-use fws_net::{Cause, Cond, ReadFault, Site};
-use fws_num::{Items, Memory, Text, Word};
+use fws_net::{Cause, ReadFault, Site};
+use fws_num::{Memory, Text, Word};
 use fws_pf_words::{
-    LongTable, LongValue, Tables, conditions, is_definition, name_defined, value_behind,
-    value_defined, with_skipped,
+    LongTable, LongValue, Tables, is_definition, name_defined, value_behind, value_defined,
+    with_skipped,
 };
 use std::alloc::Global;
-
-/// The conditions of the rules for which a rule stands.
-fn rule_conditions(alloc: Global, tables: &Tables, rule: &Rule) -> Result<Items<Cond>, Memory>
-    ensures { IfOk result (λ conds. conds ≡ conditions (choices tables.now rule.now)) }
-{
-    let choices = choices(alloc, tables, rule)?;
-    conditions(alloc, choices.as_slice())
-}
 
 /// Takes a rule without a check that fails. The tags so far don't matter, since it has its own.
 fn put_rule(alloc: Global, tables: &Tables, rule: Rule, reader: &mut Progress) -> Result<(), Memory>
@@ -124,10 +116,10 @@ fn statement_put(
         Statement::Begun => Ok(()),
         Statement::Negated => Ok(()),
         Statement::Rule(rule) => rule_put(alloc, tables, rule, reader),
-        Statement::Table(d) => put_table(alloc, d, reader),
+        Statement::Table(d) => put_table(alloc, d.into_table(), reader),
         Statement::Set => Ok(()),
         Statement::Skip => Ok(()),
-        Statement::SkipOn(v) => put_skip(alloc, site, v, reader),
+        Statement::SkipOn(v) => put_skip(alloc, site, v.into_value(), reader),
         Statement::Idle => Ok(()),
     }
 }

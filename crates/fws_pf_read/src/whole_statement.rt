@@ -1,6 +1,6 @@
 //! Whole statements: their words, with those of the macros that they use, and what their ends say.
 
-ghost use Rattle.std.specs.Prelude.{◌≡◌, ℕ, true, List, [], IfOk};
+ghost use Rattle.std.specs.Prelude.{◌≡◌, ℕ, true, Ok, List, [], IfOk};
 ghost use Rattle.std.specs.List.{list_all};
 ghost use Rattle.fws_num.specs.Words.{is_sound};
 ghost use Rattle.fws_net.specs.Routes.{IsSound};
@@ -14,6 +14,7 @@ ghost use Rattle.fws_pf_words.specs.Uses.{behind_name, joined_words, last_joined
 ghost use Rattle.fws_pf_words.specs.UsesKnown.{AreUses, ArePiece};
 ghost use Rattle.fws_pf_read.specs.Statements.{AreTags, StatementGiven, items_of, seen};
 
+use crate::held::{HeldTable, HeldValue};
 use crate::rule::{Rule, rule_ended};
 use crate::statement::{
     Statement, are_printed, dismiss, is_in_list, passes_over, refused, statement_within,
@@ -23,8 +24,8 @@ use fws_net::{Cause, ReadFault};
 use fws_num::{Memory, Text, Word};
 use fws_pf::TableExpects;
 use fws_pf_words::{
-    KnownUses, LongTable, LongValue, Macros, Setting, Source, Tags, front_words, is_use,
-    last_joined, meant, nothing_is_joined, split_name, used_text,
+    KnownUses, LongTable, Macros, Setting, Source, Tags, front_words, is_use, last_joined, meant,
+    nothing_is_joined, split_name, used_text,
 };
 use std::alloc::Global;
 use std::slice;
@@ -395,22 +396,32 @@ fn raws_taken(
     raws_from(alloc, setting, macros, &mut uses, tags, words)
 }
 
+/// A table as a statement.
+fn whole_table(alloc: Global, d: LongTable) -> Result<Statement, ReadFault>
+    ensures { StatementGiven result (Ok (any.Table (table_seen d))) }
+{
+    Ok(Statement::Table(HeldTable::new(alloc, d)?))
+}
+
 /// The whole table.
-fn table_ended(alloc: Global, d: LongTable) -> Result<Statement, ReadFault>
+fn table_ended(alloc: Global, d: HeldTable) -> Result<Statement, ReadFault>
     ensures given { StatementGiven result (table_ended d.expects (table_seen d)) }
 {
     let LongTable {
         name,
         expects,
         members,
-    } = d;
+    } = d.into_table();
     match expects {
         TableExpects::Members => match members.ended(alloc)? {
-            Some(members) => Ok(Statement::Table(LongTable {
-                name,
-                expects,
-                members,
-            })),
+            Some(members) => whole_table(
+                alloc,
+                LongTable {
+                    name,
+                    expects,
+                    members,
+                },
+            ),
             None => Err(ReadFault::Bad(Cause::Syntax)),
         },
         _ => Err(ReadFault::Bad(Cause::Syntax)),
@@ -418,11 +429,11 @@ fn table_ended(alloc: Global, d: LongTable) -> Result<Statement, ReadFault>
 }
 
 /// All the interfaces that are skipped.
-fn skip_on_ended(alloc: Global, v: LongValue) -> Result<Statement, ReadFault>
+fn skip_on_ended(alloc: Global, v: HeldValue) -> Result<Statement, ReadFault>
     ensures { StatementGiven result (statement_ended (any.SkipOn v)) }
 {
-    match v.ended(alloc)? {
-        Some(whole) => Ok(Statement::SkipOn(whole)),
+    match v.into_value().ended(alloc)? {
+        Some(whole) => Ok(Statement::SkipOn(HeldValue::new(alloc, whole)?)),
         None => Err(ReadFault::Bad(Cause::Syntax)),
     }
 }

@@ -1,19 +1,11 @@
 -- Conditions of several choices.
-use Rattle.std.proofs.Common.{◌≡◌, ℕ, ◌+◌, ◌<◌, ◌≤◌, List, [], ◌∷◌, ◌++◌, length, drop, get_or, map, refl, sym, ap, ◌∙◌, append-nil, append_assoc}
-use Rattle.std.proofs.lemmas.List.{at_drop_more, drop_all}
+use Rattle.std.proofs.Common.{◌≡◌, ℕ, ◌+◌, ◌<◌, List, [], ◌∷◌, ◌++◌, length, drop, get_or, map, refl, sym, ap, ◌∙◌, append-nil, append_assoc}
+use Rattle.std.proofs.lemmas.List.{at_drop_more}
 use Rattle.fws_net.specs.declared.condition.Lit.{Lit}
 use Rattle.fws_pf.specs.declared.rule_draft.Choice.{Choice}
 use Rattle.fws_pf.specs.Drawn.{conditions, crossed}
-
--- the conditions that begin with one more
-pub crossed_more : (fronts rests all new : List (List Lit)) (i : ℕ) (front : List Lit) → i < length fronts → front ≡ get_or fronts i front →
-    new ≡ all ++ map (λ rest. front ++ rest) rests → all ++ crossed (drop i fronts) rests ≡ crossed fronts rests →
-    new ++ crossed (drop (i + 1) fronts) rests ≡ crossed fronts rests
-crossed_more fronts rests all new i front within at made before =
-    let behind = crossed (drop (i + 1) fronts) rests in
-    let more : crossed (drop i fronts) rests ≡ map (λ rest. front ++ rest) rests ++ behind =
-    at_drop_more (λ fs. crossed fs rests) fronts i front within ∙ ap (λ (f : List Lit). map (λ rest. f ++ rest) rests ++ behind) (sym at) in
-    ap (λ (l : List (List Lit)). l ++ behind) made ∙ append_assoc all (map (λ rest. front ++ rest) rests) behind ∙ sym (ap (λ (l : List (List Lit)). all ++ l) more) ∙ before
+use Rattle.fws_pf_words.specs.declared.drawing.Drawing.{Drawing}
+use Rattle.fws_pf_words.specs.Drawings.{drawn}
 
 -- Choices of one condition each
 
@@ -24,20 +16,38 @@ both_ahead f c (rest ∷ rests) = λ i. sym (append_assoc f c rest) i ∷ both_a
 one_ahead : (f c : List Lit) (rests : List (List Lit)) → crossed (f ∷ []) (crossed (c ∷ []) rests) ≡ crossed ((f ++ c) ∷ []) rests
 one_ahead f c rests = ap (λ (l : List (List Lit)). l ++ []) (ap (map (λ (rest : List Lit). f ++ rest)) (append-nil (map (λ rest. c ++ rest) rests)) ∙ both_ahead f c rests)
 
--- a choice of one condition goes on with it
-pub one_more : (choices : List Choice) (i : ℕ) (choice : Choice) (so_far c new : List Lit) (total : List (List Lit)) → i < length choices → choice ≡ get_or choices i choice →
-    choice.conds ≡ c ∷ [] → new ≡ so_far ++ c → crossed (so_far ∷ []) (conditions (drop i choices)) ≡ total → crossed (new ∷ []) (conditions (drop (i + 1) choices)) ≡ total
-one_more choices i choice so_far c new total within at one made before =
-    let rests = conditions (drop (i + 1) choices) in
-    let next : conditions (drop i choices) ≡ crossed (c ∷ []) rests =
-    at_drop_more conditions choices i choice within ∙ ap (λ (x : Choice). crossed x.conds rests) (sym at) ∙ ap (λ (cs : List (List Lit)). crossed cs rests) one in
-    ap (λ (l : List Lit). crossed (l ∷ []) rests) made ∙ sym (one_ahead so_far c rests) ∙ sym (ap (crossed (so_far ∷ [])) next) ∙ before
+-- a condition goes on with the one condition of a choice
+pub goes_on_with : (front one new : List Lit) (choice : Choice) (rest : List Choice) → choice.conds ≡ one ∷ [] → new ≡ front ++ one
+    → crossed (new ∷ []) (conditions rest) ≡ crossed (front ∷ []) (conditions (choice ∷ rest))
+goes_on_with front one new choice rest only made =
+    ap (λ (l : List Lit). crossed (l ∷ []) (conditions rest)) made ∙ sym (one_ahead front one (conditions rest))
+    ∙ sym (ap (λ (cs : List (List Lit)). crossed (front ∷ []) (crossed cs (conditions rest))) only)
 
--- behind the last choice stands the condition so far
-pub one_left : (choices : List Choice) (i : ℕ) (so_far : List Lit) (total : List (List Lit)) → length choices ≤ i →
-    crossed (so_far ∷ []) (conditions (drop i choices)) ≡ total → total ≡ so_far ∷ []
-one_left choices i so_far total past before =
-    sym before ∙ ap (λ (cs : List Choice). crossed (so_far ∷ []) (conditions cs)) (drop_all i choices past) ∙ ap (λ (l : List Lit). l ∷ []) (append-nil so_far)
+-- where a choice has more conditions, each of them stands behind the front
+
+all_ahead : (f : List Lit) (xs ys : List (List Lit)) → map (λ rest. f ++ rest) (xs ++ ys) ≡ map (λ rest. f ++ rest) xs ++ map (λ rest. f ++ rest) ys
+all_ahead f [] ys = refl
+all_ahead f (x ∷ xs) ys = ap (λ (l : List (List Lit)). (f ++ x) ∷ l) (all_ahead f xs ys)
+
+first_ahead : (f o : List Lit) (os rests : List (List Lit))
+    → crossed (f ∷ []) (crossed (o ∷ os) rests) ≡ crossed ((f ++ o) ∷ []) rests ++ crossed (f ∷ []) (crossed os rests)
+first_ahead f o os rests =
+    let first = map (λ rest. o ++ rest) rests in
+    let others = crossed os rests in
+    ap (λ (l : List (List Lit)). l ++ []) (all_ahead f first others)
+    ∙ append_assoc (map (λ rest. f ++ rest) first) (map (λ rest. f ++ rest) others) []
+    ∙ ap (λ (l : List (List Lit)). l ++ crossed (f ∷ []) others) (both_ahead f o rests ∙ sym (append-nil (map (λ rest. (f ++ o) ++ rest) rests)))
+
+pub each_more : (conds : List (List Lit)) (i : ℕ) (front one next : List Lit) (rests all new total : List (List Lit)) → i < length conds → one ≡ get_or conds i one
+    → next ≡ front ++ one → new ≡ all ++ crossed (next ∷ []) rests → all ++ crossed (front ∷ []) (crossed (drop i conds) rests) ≡ total
+    → new ++ crossed (front ∷ []) (crossed (drop (i + 1) conds) rests) ≡ total
+each_more conds i front one next rests all new total within at made put before =
+    let behind = drop (i + 1) conds in
+    let left : crossed (drop i conds) rests ≡ crossed (one ∷ behind) rests =
+    at_drop_more (λ cs. crossed cs rests) conds i one within ∙ ap (λ (o : List Lit). crossed (o ∷ behind) rests) (sym at) in
+    ap (λ (l : List (List Lit)). l ++ crossed (front ∷ []) (crossed behind rests)) (put ∙ ap (λ (l : List Lit). all ++ crossed (l ∷ []) rests) made)
+    ∙ append_assoc all (crossed ((front ++ one) ∷ []) rests) (crossed (front ∷ []) (crossed behind rests))
+    ∙ ap (λ (l : List (List Lit)). all ++ l) (sym (first_ahead front one behind rests) ∙ sym (ap (crossed (front ∷ [])) left)) ∙ before
 
 nothing_ahead : (rests : List (List Lit)) → map (λ (rest : List Lit). [] ++ rest) rests ≡ rests
 nothing_ahead [] = refl
@@ -46,3 +56,11 @@ nothing_ahead (rest ∷ rests) = ap (λ (l : List (List Lit)). rest ∷ l) (noth
 -- behind no literals the conditions stand as they are
 pub from_none : (rests : List (List Lit)) (start : List Lit) → start ≡ [] → crossed (start ∷ []) rests ≡ rests
 from_none rests start none = ap (λ (l : List Lit). crossed (l ∷ []) rests) none ∙ append-nil (map (λ (rest : List Lit). [] ++ rest) rests) ∙ nothing_ahead rests
+
+-- Choices that are put one after another
+
+pub put_ahead : (old new : Drawing) (one : List Lit) (choice : Choice) → old.more ≡ [] → new.front ≡ old.front ++ one → new.more ≡ old.more → choice.conds ≡ one ∷ []
+    → (rest : List Choice) → drawn new rest ≡ drawn old (choice ∷ rest)
+put_ahead old new one choice none front more only rest =
+    ap (λ (cs : List Choice). crossed (new.front ∷ []) (conditions (cs ++ rest))) (more ∙ none) ∙ goes_on_with old.front one new.front choice rest only front
+    ∙ sym (ap (λ (cs : List Choice). crossed (old.front ∷ []) (conditions (cs ++ choice ∷ rest))) none)

@@ -1,5 +1,5 @@
 -- A word that ends.
-use Rattle.std.proofs.Common.{◌≡◌, ℕ, ◌+◌, ◌-◌, ◌<◌, ◌≤◌, length, take, drop, get_or, drop-cons, add-one, ap, Bool, true, false, ◌||◌, nat_eq, List, [], ◌∷◌, ◌++◌, append_assoc, append-nil, refl, sym, ◌∙◌, true≢false, arith}
+use Rattle.std.proofs.Common.{◌≡◌, ℕ, suc, ◌+◌, ◌-◌, ◌<◌, ◌≤◌, length, take, drop, get_or, drop-cons, add-one, ap, Bool, true, false, ◌||◌, ◌&&◌, not, nat_eq, List, [], ◌∷◌, ◌++◌, append_assoc, append-nil, refl, sym, ◌∙◌, true≢false, arith}
 use Rattle.std.proofs.lemmas.Bool.Decides.{nat_tests}
 use Rattle.std.proofs.lemmas.List.{drop-drop, length-drop, take_more, take_rest}
 use Rattle.fws_num.specs.declared.word.Word.{Word}
@@ -74,6 +74,12 @@ goes_on : (line : ℕ) (text : List ℕ) (c : ℕ) (cs : List ℕ) → is_blank 
     → words_from line Plain text (c ∷ cs) ≡ words_from line Plain (text ++ c ∷ []) cs
 goes_on line text c cs b h = goes_on_by (begins_pair c cs) (is_punctuation c) line text c cs b refl refl h
 
+-- a byte that is no blank and divides nothing
+pub plain_byte : (b d : Bool) → (not b && not d) ≡ true → (b ≡ false) × (d ≡ false)
+plain_byte false false e = (refl, refl)
+plain_byte false true e = absurd (true≢false (sym e))
+plain_byte true d e = absurd (true≢false (sym e))
+
 -- a word without quotes goes on with so many bytes
 abbrev pub GoesOn : List ℕ → ℕ → Type 0
 GoesOn bytes n = (line : ℕ) (text : List ℕ) → words_from line Plain text bytes ≡ words_from line Plain (text ++ take n bytes) (drop n bytes)
@@ -91,6 +97,27 @@ goes_on_more bytes rest i lt r b h on line text =
     ∙ goes_on line so_far c rest b h
     ∙ ap (λ t. words_from line Plain t rest) (append_assoc text (take i bytes) (c ∷ []) ∙ ap (λ t. text ++ t) (sym (take_more bytes i 0 lt)))
     ∙ ap (words_from line Plain (text ++ take (i + 1) bytes)) r
+
+begun_by : (p q : Bool) (line : ℕ) (text : List ℕ) (c : ℕ) (cs : List ℕ) → is_blank c ≡ false → nat_eq c 34 ≡ false → begins_pair c cs ≡ p → is_punctuation c ≡ q
+    → (p || q) ≡ false → words_from line Between text (c ∷ cs) ≡ words_from line Plain (c ∷ []) cs
+begun_by false false line text c cs b q e f h = rw (b, q, e, f) refl
+begun_by true s line text c cs b q e f h = absurd (true≢false h)
+begun_by false true line text c cs b q e f h = absurd (true≢false h)
+
+-- a word without quotes begins with so many bytes
+abbrev pub Begins : List ℕ → ℕ → Type 0
+Begins bytes n = (line : ℕ) (text : List ℕ) → words_from line Between text bytes ≡ words_from line Plain (take n bytes) (drop n bytes)
+
+pub word_begins : (c : ℕ) (rest bytes : List ℕ) (n m : ℕ) → bytes ≡ c ∷ rest → nat_eq c 34 ≡ false
+    → (not (is_blank c) && not (begins_pair c rest || is_punctuation c)) ≡ true → GoesOn rest n → m ≡ 1 + n → Begins bytes m
+word_begins c rest bytes n m at quote plain on count line text =
+    let parts = plain_byte (is_blank c) (begins_pair c rest || is_punctuation c) plain in
+    let next : m ≡ suc n = omega (arith, count) in
+    rw (at, next) (begun_by (begins_pair c rest) (is_punctuation c) line text c rest parts.0 quote refl refl parts.1 ∙ on line (c ∷ []))
+
+pub all_begins : (bytes : List ℕ) (n : ℕ) (old new : WordReader) → old.mode ≡ Between → Begins bytes n → new ≡ record old { text = take n bytes; mode = Plain }
+    → words_ahead new (drop n bytes) ≡ words_ahead old bytes
+all_begins bytes n old new m on e = rw (e, m) (ap (λ ws. old.words.items ++ ws) (sym (on old.line old.text)))
 
 pub all_go_on : (bytes : List ℕ) (n : ℕ) (old new : WordReader) → old.mode ≡ Plain → GoesOn bytes n → new ≡ record old { text = old.text ++ take n bytes }
     → words_ahead new (drop n bytes) ≡ words_ahead old bytes

@@ -1,6 +1,7 @@
 pub mod Additions
 pub mod Ahead
 pub mod Defining
+pub mod Drawings
 pub mod Fronts
 pub mod Kept
 pub mod Limits

@@ -1,8 +1,8 @@
 //! What values and lists ask for: a condition for each choice.
 
-ghost use Rattle.std.specs.Prelude.{◌≡◌, ◌++◌, [], ◌∷◌, true, map, option_map, IfOk, IfSome, OnOk};
+ghost use Rattle.std.specs.Prelude.{◌≡◌, ◌++◌, [], ◌∷◌, option_map, IfOk, IfSome, OnOk};
 ghost use Rattle.fws_rule.specs.Literals.{positive};
-ghost use Rattle.fws_pf.specs.Drawn.{conditions, crossed, implied_flags, value_choices};
+ghost use Rattle.fws_pf.specs.Drawn.{conditions, crossed, implied_flags};
 ghost use Rattle.fws_pf.specs.RuleText.{choice_of, item_literals, only};
 ghost use Rattle.fws_pf_words.specs.Tests.{test_at};
 
@@ -40,13 +40,27 @@ fn place_literal(place: Place, set: Option<Ivs>) -> Option<Lit>
     }
 }
 
+/// Puts the literals of a value at a place behind those of a condition.
+pub(crate) fn put_item(
+    alloc: Global,
+    tables: &Tables,
+    place: Place,
+    item: &Item,
+    cond: &mut Cond,
+) -> Result<(), Memory>
+    ensures { OnOk result (cond.new ≡ cond.old ++ item_literals tables.now (test_at place) item.now) }
+{
+    let set = part_set(alloc, tables, &item.part)?;
+    put_literals(cond, item.negated, place_literal(place, set))?;
+    Ok(())
+}
+
 /// The condition of a value at a place.
 fn item_cond(alloc: Global, tables: &Tables, place: Place, item: &Item) -> Result<Cond, Memory>
     ensures { IfOk result (λ c. c ≡ item_literals tables.now (test_at place) item.now) }
 {
-    let set = part_set(alloc, tables, &item.part)?;
     let mut cond = Cond::new(alloc);
-    put_literals(&mut cond, item.negated, place_literal(place, set))?;
+    put_item(alloc, tables, place, item, &mut cond)?;
     Ok(cond)
 }
 
@@ -67,30 +81,12 @@ pub fn choice_of(
 }
 
 /// A choice among this condition alone. An error is want of memory.
-pub fn only(alloc: Global, cond: Cond) -> Result<Choice, Memory>
+pub(crate) fn only(alloc: Global, cond: Cond) -> Result<Choice, Memory>
     ensures { IfOk result (λ c. c ≡ only cond) }
 {
     let mut conds = Items::new(alloc);
     conds.put(cond)?;
     Ok(Choice { conds })
-}
-
-/// Puts the values of a place behind other choices, unless it has none. An error is want of memory.
-pub fn put_choice(
-    alloc: Global,
-    tables: &Tables,
-    place: Place,
-    items: &[Item],
-    all: &mut Items<Choice>,
-) -> Result<(), Memory>
-    ensures { OnOk result (all.new ≡ all.old ++ value_choices tables.now (test_at place) items.now) }
-{
-    if items.is_empty() {
-        return Ok(());
-    }
-    let choice = choice_of(alloc, tables, place, items)?;
-    all.put(choice)?;
-    Ok(())
 }
 
 /// The condition that of SYN and ACK a packet of TCP has SYN alone: not neither, not ACK alone and not both. Packets of other
@@ -116,54 +112,6 @@ fn joined(alloc: Global, front: &Cond, rest: &Cond) -> Result<Cond, Memory>
     Ok(cond)
 }
 
-/// Puts the conditions behind others that begin with this one and go on with one of those.
-fn put_fronted(
-    alloc: Global,
-    front: &Cond,
-    rests: &[Cond],
-    all: &mut Items<Cond>,
-) -> Result<(), Memory>
-    ensures { OnOk result (all.new ≡ all.old ++ map (λ rest. front.now ++ rest) rests.now) }
-{
-    for rest in rests {
-        all.put(joined(alloc, front, rest)?)?;
-    }
-    Ok(())
-}
-
-/// The conditions that begin with one of these and go on with one of those.
-fn crossed(alloc: Global, fronts: &[Cond], rests: &[Cond]) -> Result<Items<Cond>, Memory>
-    ensures { IfOk result (λ cs. cs ≡ crossed fronts.now rests.now) }
-{
-    let mut all = Items::new(alloc);
-    for front in fronts {
-        put_fronted(alloc, front, rests, &mut all)?;
-    }
-    Ok(all)
-}
-
-/// This condition alone.
-fn alone(alloc: Global, cond: Cond) -> Result<Items<Cond>, Memory>
-    ensures { IfOk result (λ cs. cs ≡ cond ∷ []) }
-{
-    let mut all = Items::new(alloc);
-    all.put(cond)?;
-    Ok(all)
-}
-
-/// A condition for each choice, whichever have several.
-fn all_conditions(alloc: Global, choices: &[Choice]) -> Result<Items<Cond>, Memory>
-    ensures { IfOk result (λ cs. cs ≡ conditions choices.now) }
-{
-    match choices.split_first() {
-        None => alone(alloc, Cond::new(alloc)),
-        Some((choice, rest)) => {
-            let rests = all_conditions(alloc, rest)?;
-            crossed(alloc, choice.conds.as_slice(), rests.as_slice())
-        }
-    }
-}
-
 /// The one condition of a choice, if it has just one.
 fn one_cond(choice: &Choice) -> Option<&Cond>
     ensures { IfSome result (λ c. choice.now.conds ≡ c.now ∷ []) }
@@ -175,7 +123,7 @@ fn one_cond(choice: &Choice) -> Option<&Cond>
 }
 
 /// Puts literals behind those of a condition.
-fn put_copies(alloc: Global, lits: &[Lit], cond: &mut Cond) -> Result<(), Memory>
+pub(crate) fn put_copies(alloc: Global, lits: &[Lit], cond: &mut Cond) -> Result<(), Memory>
     ensures { OnOk result (cond.new ≡ cond.old ++ lits.now) }
 {
     for lit in lits {
@@ -184,27 +132,56 @@ fn put_copies(alloc: Global, lits: &[Lit], cond: &mut Cond) -> Result<(), Memory
     Ok(())
 }
 
-/// Goes on with the one condition of each choice, and tells whether each has just one.
-fn put_each(alloc: Global, choices: &[Choice], cond: &mut Cond) -> Result<bool, Memory>
-    ensures { IfOk result (λ b. b ≡ true → crossed (cond.old ∷ []) (conditions choices.now) ≡ cond.new ∷ []) }
+/// A condition that goes on with another.
+fn extended(alloc: Global, front: Cond, rest: &Cond) -> Result<Cond, Memory>
+    ensures { IfOk result (λ c. c ≡ front ++ rest.now) }
 {
-    for choice in choices {
-        match one_cond(choice) {
-            Some(one) => put_copies(alloc, one.lits(), cond)?,
-            None => return Ok(false),
-        }
-    }
-    Ok(true)
+    let mut cond = front;
+    put_copies(alloc, rest.lits(), &mut cond)?;
+    Ok(cond)
 }
 
-/// A condition for each choice, the first choice varying slowest. An error is want of memory.
-pub fn conditions(alloc: Global, choices: &[Choice]) -> Result<Items<Cond>, Memory>
-    ensures { IfOk result (λ cs. cs ≡ conditions choices.now) }
+/// Puts the conditions behind others that begin with this one and go on with one for each choice, the first choice varying slowest.
+#[cycle(put_all)]
+pub(crate) fn put_all(
+    alloc: Global,
+    front: Cond,
+    choices: &[Choice],
+    all: &mut Items<Cond>,
+) -> Result<(), Memory>
+    ensures { OnOk result (all.new ≡ all.old ++ crossed (front ∷ []) (conditions choices.now)) }
 {
-    let mut cond = Cond::new(alloc);
-    let is_one = put_each(alloc, choices, &mut cond)?;
-    if is_one {
-        return alone(alloc, cond);
+    match choices.split_first() {
+        None => {
+            all.put(front)?;
+            Ok(())
+        }
+        Some((choice, rest)) => match one_cond(choice) {
+            Some(one) => {
+                put_all(alloc, extended(alloc, front, one)?, rest, all)?;
+                Ok(())
+            }
+            None => {
+                put_each(alloc, &front, choice.conds.as_slice(), rest, all)?;
+                Ok(())
+            }
+        },
     }
-    all_conditions(alloc, choices)
+}
+
+/// Puts the conditions behind others that begin with this one, go on with one of those, and then with one for each choice.
+#[cycle(put_all)]
+fn put_each(
+    alloc: Global,
+    front: &Cond,
+    conds: &[Cond],
+    rest: &[Choice],
+    all: &mut Items<Cond>,
+) -> Result<(), Memory>
+    ensures { OnOk result (all.new ≡ all.old ++ crossed (front.now ∷ []) (crossed conds.now (conditions rest.now))) }
+{
+    for cond in conds {
+        put_all(alloc, joined(alloc, front, cond)?, rest, all)?;
+    }
+    Ok(())
 }

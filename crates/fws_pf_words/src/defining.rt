@@ -9,7 +9,7 @@ ghost use Rattle.fws_pf_words.specs.Defining.{defining_step, is_over, name_of, n
 ghost use Rattle.fws_pf_words.specs.Uses.{behind_name, joined_words, name_ahead, words_named};
 
 use crate::macros::{
-    Macros, front_words, last_joined, meant, nothing_is_joined, split_name, used_text,
+    Macros, front_words, is_use, last_joined, meant, nothing_is_joined, split_name, used_text,
 };
 use crate::statements::is_mark;
 use crate::values::is_any_mark;
@@ -17,6 +17,7 @@ use fws_net::ReadFault;
 use fws_num::{Memory, Text, Word};
 use fws_rule::is;
 use std::alloc::Global;
+use std::slice;
 
 /// What the next word is taken for.
 #[derive(Clone, Copy, Debug, PartialEq, Eq)]
@@ -142,8 +143,8 @@ fn take_use(alloc: Global, macros: &Macros, text: &[u8], d: &mut Defining) -> Re
     }
 }
 
-/// Takes the words for which a word stands that is no use of a macro with words.
-fn take_plain(alloc: Global, macros: &Macros, w: &Word, d: &mut Defining) -> Result<bool, Memory>
+/// Takes the words for which a word stands that may be a use of a macro without words.
+fn take_replaced(alloc: Global, macros: &Macros, w: &Word, d: &mut Defining) -> Result<bool, Memory>
     ensures { IfOk result (λ all. (rest : List AnyWord) → words_seen d.old (with_meant (meant macros.now w.now) rest) ≡ (if all then words_seen d.new rest else d.new)) }
 {
     match meant(alloc, macros, w) {
@@ -151,6 +152,16 @@ fn take_plain(alloc: Global, macros: &Macros, w: &Word, d: &mut Defining) -> Res
         Err(ReadFault::Bad(_)) => Ok(false),
         Err(ReadFault::Memory) => Err(Memory),
     }
+}
+
+/// Takes the words for which a word stands that is no use of a macro with words.
+fn take_plain(alloc: Global, macros: &Macros, w: &Word, d: &mut Defining) -> Result<bool, Memory>
+    ensures { IfOk result (λ all. (rest : List AnyWord) → words_seen d.old (with_meant (meant macros.now w.now) rest) ≡ (if all then words_seen d.new rest else d.new)) }
+{
+    if is_use(w) {
+        return take_replaced(alloc, macros, w, d);
+    }
+    take_front(alloc, slice::from_ref(w), d)
 }
 
 /// Takes the words for which a word stands, and tells whether all can be judged and a further one may change it.

@@ -162,7 +162,10 @@ pub fn is_definition(words: &[Word]) -> bool
 {
     match words {
         [name, equals, ..] => {
-            name.is_sound() && is_name(name.text.as_slice()) && is_mark(equals, b"=")
+            if !is_mark(equals, b"=") {
+                return false;
+            }
+            name.is_sound() && is_name(name.text.as_slice())
         }
         _ => false,
     }

@@ -1,10 +1,11 @@
 //! The statements of a text: lines that are joined, and their words and punctuation (pf.conf(5)).
 
-ghost use Rattle.std.specs.Prelude.{◌≡◌, ◌+◌, ◌≤◌, ◌||◌, ◌∷◌, ◌++◌, [], List, ℕ, false, length, take, drop, IfOk, OnOk};
+ghost use Rattle.std.specs.Prelude.{◌≡◌, ◌+◌, ◌≤◌, ◌&&◌, ◌||◌, ◌∷◌, ◌++◌, [], List, ℕ, true, false, not, length, take, drop, IfOk, IfSome, OnOk};
 ghost use Rattle.std.specs.List.{list_any};
 ghost use Rattle.std.specs.Str.{bytes_eq};
 ghost use Rattle.fws_num.specs.Comments.{is_punctuation};
 ghost use Rattle.fws_num.specs.Lines.{last_line};
+ghost use Rattle.fws_num.specs.Words.{is_blank};
 ghost use Rattle.fws_pf.specs.Statements.{begins_pair, is_mark, pairs, read_statement, statements_of, words_from, words_of};
 ghost use Rattle.fws_pf_words.specs.Ahead.{statements_ahead, words_ahead};
 
@@ -56,20 +57,61 @@ fn divides(c: u8, rest: &[u8]) -> bool
     begins_pair(c, rest) || is_punctuation(c)
 }
 
+/// Whether the byte is one of those between `.` and `;` or between `?` and `z`, as letters and digits are: it is no blank and begins
+/// no punctuation.
+fn is_usual(c: u8) -> bool
+    ensures blank { result ≡ true → is_blank c ≡ false }
+    ensures divides { result ≡ true → (rest : List ℕ) → (begins_pair c rest || is_punctuation c) ≡ false }
+{
+    (46 <= c && c <= 59) || (63 <= c && c <= 122)
+}
+
+/// Whether a word without quotes goes on with the byte.
+fn goes_on(c: u8, rest: &[u8]) -> bool
+    ensures { result ≡ (not (is_blank c) && not (begins_pair c rest.now || is_punctuation c)) }
+{
+    if is_usual(c) {
+        return true;
+    }
+    !is_blank(c) && !divides(c, rest)
+}
+
 /// How many bytes ahead of the first one with which a word without quotes ends.
 fn plain_count(bytes: &[u8]) -> usize
     ensures few { result ≤ length bytes.now }
     ensures plain { (line : ℕ) (text : List ℕ) → words_from line Mode.Plain text bytes.now ≡ words_from line Mode.Plain (text ++ take result bytes.now) (drop result bytes.now) }
 {
     for i in 0..bytes.len() {
-        if is_blank(bytes[i]) {
-            return i;
-        }
-        if divides(bytes[i], &bytes[i + 1..]) {
+        if !goes_on(bytes[i], &bytes[i + 1..]) {
             return i;
         }
     }
     bytes.len()
+}
+
+/// How many bytes a word without quotes has that begins with a byte, if one does.
+fn begun_count(c: u8, rest: &[u8]) -> Option<usize>
+    ensures few { IfSome result (λ n. n ≤ length rest.now + 1) }
+    ensures word { IfSome result (λ n. (line : ℕ) (text : List ℕ) → words_from line Mode.Between text (c ∷ rest.now) ≡ words_from line Mode.Plain (take n (c ∷ rest.now)) (drop n (c ∷ rest.now))) }
+{
+    if c == b'"' {
+        return None;
+    }
+    if !goes_on(c, rest) {
+        return None;
+    }
+    Some(1 + plain_count(rest))
+}
+
+/// How many bytes a word without quotes has that begins here, if one does.
+fn word_count(bytes: &[u8]) -> Option<usize>
+    ensures few { IfSome result (λ n. n ≤ length bytes.now) }
+    ensures word { IfSome result (λ n. (line : ℕ) (text : List ℕ) → words_from line Mode.Between text bytes.now ≡ words_from line Mode.Plain (take n bytes.now) (drop n bytes.now)) }
+{
+    match bytes.split_first() {
+        None => None,
+        Some((c, rest)) => begun_count(*c, rest),
+    }
 }
 
 impl WordReader {
@@ -192,16 +234,40 @@ impl WordReader {
     }
 
     /// Takes the bytes with which a word without quotes goes on, all at once, and gives how many they are.
+    fn go_on_plain(&mut self, bytes: &[u8]) -> Result<usize, Memory>
+        requires { self.old.mode ≡ Mode.Plain }
+        ensures few { IfOk result (λ n. n ≤ length bytes.now) }
+        ensures taken { IfOk result (λ n. words_ahead self.new (drop n bytes.now) ≡ words_ahead self.old bytes.now) }
+    {
+        let n = plain_count(bytes);
+        self.text.put(&bytes[..n])?;
+        Ok(n)
+    }
+
+    /// Takes the bytes of a word without quotes that begins here, if one does, and gives how many they are.
+    fn begin_plain(&mut self, bytes: &[u8]) -> Result<usize, Memory>
+        requires { self.old.mode ≡ Mode.Between }
+        ensures few { IfOk result (λ n. n ≤ length bytes.now) }
+        ensures taken { IfOk result (λ n. words_ahead self.new (drop n bytes.now) ≡ words_ahead self.old bytes.now) }
+    {
+        match word_count(bytes) {
+            Some(n) => {
+                self.text = Text::of(self.alloc, &bytes[..n])?;
+                self.mode = Mode::Plain;
+                Ok(n)
+            }
+            None => Ok(0),
+        }
+    }
+
+    /// Takes the bytes with which a word without quotes begins or goes on, all at once, and gives how many they are.
     fn go_on(&mut self, bytes: &[u8]) -> Result<usize, Memory>
         ensures few { IfOk result (λ n. n ≤ length bytes.now) }
         ensures taken { IfOk result (λ n. words_ahead self.new (drop n bytes.now) ≡ words_ahead self.old bytes.now) }
     {
         match self.mode {
-            Mode::Plain => {
-                let n = plain_count(bytes);
-                self.text.put(&bytes[..n])?;
-                Ok(n)
-            }
+            Mode::Between => self.begin_plain(bytes),
+            Mode::Plain => self.go_on_plain(bytes),
             _ => Ok(0),
         }
     }
@@ -294,6 +360,23 @@ impl StatementReader {
         Ok(())
     }
 
+    /// Adds the statement that ends with a line, behind what has begun of it.
+    fn put_joined(&mut self, line: &[u8]) -> Result<(), Memory>
+        ensures { OnOk result (self.new ≡ record self.old {
+          lines = self.old.lines ++ read_statement self.old.first (self.old.text ++ line.now);
+          text = [];
+        }) }
+    {
+        if self.text.as_slice().is_empty() {
+            put_statement(self.alloc, &mut self.lines, self.first, line)?;
+            return Ok(());
+        }
+        let mut text = mem::replace(&mut self.text, Text::new(self.alloc));
+        text.put(line)?;
+        put_statement(self.alloc, &mut self.lines, self.first, text.as_slice())?;
+        Ok(())
+    }
+
     /// Takes a line without a backslash, with which the statement ends; the next line has this number.
     fn end(&mut self, line: &[u8], next: u32) -> Result<(), Memory>
         ensures { OnOk result (self.new ≡ record self.old {
@@ -303,9 +386,7 @@ impl StatementReader {
           number = next;
         }) }
     {
-        let mut text = mem::replace(&mut self.text, Text::new(self.alloc));
-        text.put(line)?;
-        put_statement(self.alloc, &mut self.lines, self.first, text.as_slice())?;
+        self.put_joined(line)?;
         self.first = next;
         self.number = next;
         Ok(())

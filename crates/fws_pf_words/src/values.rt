@@ -54,6 +54,9 @@ fn with_part(d: &mut ValueDraft, part: Part) -> Result<(), Memory>
 fn is_mark_text(text: &[u8]) -> bool
     ensures { result ≡ list_any (bytes_eq text.now) marks }
 {
+    if 2 < text.len() {
+        return false;
+    }
     is_one_of(&MARKS, text)
 }
 
