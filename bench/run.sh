@@ -152,8 +152,9 @@ running() { # family connections seconds megabytes
 echo 'family connections seconds megabytes events listed'
 running answered 10000 5 1024
 running renewed 10000 5 1024
-running expired 40000 5 1024
-running crossed 10000 5 1024
+running expired 80000 5 1024
+running crossed 40000 5 1024
+running paired 40000 5 1024
 
 compared() { # family rules other answer: at most twice as long as both tables of both texts
     python3 "$top/bench/comparing.py" "$1" "$2" "$3" "$4" 2 "$program" "$site" || status=1

@@ -6,8 +6,9 @@ Prints a line `FAMILY COUNT seconds megabytes events listed`. Exit status 1 past
 
 answered: COUNT connections are opened, and a packet of each comes nine times more.
 renewed: COUNT connections are opened, then four times as many, and for each of these the first of the list expires.
-expired: COUNT connections are opened, and expire from the first to the last, so that each expiry moves all that are left.
-crossed: the same, but two of them come from another host and are sent on as one, so that each expiry also looks through the rest.
+expired: COUNT connections are opened, and expire from the first to the last, so that each expiry moves what is left of the first chunk.
+crossed: the same, but two of them come from different hosts and are sent on as one, so that each expiry also asks the other chunks.
+paired: the same, but half of them come from another host, and each of these is sent on as one of the others.
 """
 
 import resource
@@ -43,7 +44,12 @@ def crossed(count):
     return [packet(count - 2, 2, host=8)] + events + ['expire 0\n'], listed
 
 
-FAMILIES = {'answered': answered, 'renewed': renewed, 'expired': expired, 'crossed': crossed}
+def paired(count):
+    half = count // 2
+    return [packet(number, 2, host) for host in (8, 7) for number in range(half)] + 2 * half * ['expire 0\n'], 0
+
+
+FAMILIES = {'answered': answered, 'renewed': renewed, 'expired': expired, 'crossed': crossed, 'paired': paired}
 
 
 def main(family, count, seconds, megabytes, program, site, rules):

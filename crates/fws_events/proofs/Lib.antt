@@ -1,4 +1,5 @@
 mod Apart
+mod Chunked
 mod Entries
 mod EventsOfSite
 mod Fated

@@ -3,6 +3,7 @@
 ghost use Rattle.std.specs.Prelude.{◌≡◌, ◌∷◌, ◌++◌, [], All, IfOk, OnOk};
 ghost use Rattle.std.specs.Fmt.{decimal};
 ghost use Rattle.std.specs.List.{flat_map};
+ghost use Rattle.fws_events.specs.Listing.{joined};
 ghost use Rattle.fws_events.specs.Runs.{answers_to, conns_behind_all, AreMet, GivesFates, IsEventOf};
 ghost use Rattle.fws_events.specs.RunText.{packet_text, expiry_text, answer_text, answers_text, tuple_text, conn_text, conns_text, run_text};
 ghost use Rattle.fws_net.specs.declared.connection.Kind.{Kind};
@@ -13,6 +14,7 @@ ghost use Rattle.fws_net.specs.Points.{tops_of};
 ghost use Rattle.fws_num.specs.Numbers.{dotted};
 ghost use Rattle.fws_trace.specs.Outcomes.{outcome_by, IsWalked};
 
+use crate::chunks::Chunk;
 use crate::events::{Answer, Event};
 use crate::listing::Listed;
 use crate::running::event_step;
@@ -105,14 +107,24 @@ fn put_each(out: &mut Text, conns: &[Conn]) -> Result<(), Memory>
     Ok(())
 }
 
+/// Appends the lines of connections that stand in chunks.
+fn put_chunks(out: &mut Text, chunks: &[Chunk]) -> Result<(), Memory>
+    ensures { OnOk result (out.new ≡ out.old ++ flat_map conn_text (joined chunks.now)) }
+{
+    for chunk in chunks {
+        put_each(out, chunk.as_slice())?;
+    }
+    Ok(())
+}
+
 /// Appends how many connections are listed, and their lines.
-fn put_conns(out: &mut Text, conns: &[Conn]) -> Result<(), Memory>
+fn put_conns(out: &mut Text, conns: &Listed) -> Result<(), Memory>
     ensures { OnOk result (out.new ≡ out.old ++ conns_text conns.now) }
 {
     out.put(b"conns ")?;
     put_dec(out, conns.len() as u64)?;
     out.put(b"\n")?;
-    put_each(out, conns)
+    put_chunks(out, conns.chunks())
 }
 
 /// Appends the lines of events as they are answered in turn, and leaves the list of connections behind them.
@@ -165,6 +177,6 @@ pub fn put_run(
     let mut conns = Listed::none(alloc);
     let mut out = Text::new(alloc);
     put_answers(&mut out, site, t, tracks, &mut conns, events)?;
-    put_conns(&mut out, conns.as_slice())?;
+    put_conns(&mut out, &conns)?;
     Ok(out)
 }

@@ -1,6 +1,5 @@
-use Rattle.std.proofs.Common.{List, ◌++◌, ◌∙◌, ap, subst}
+use Rattle.std.proofs.Common.{List, subst}
 use Rattle.fws_events.specs.Runs.{AreMet}
-use Rattle.fws_events.specs.RunText.{conns_text}
 use Rattle.fws_net.specs.declared.connection.Conn.{Conn}
 use Rattle.fws_trace.specs.Outcomes.{outcome_by}
 use Rattle.fws_events.proofs.Fated.{by_tables, by_walk}
@@ -12,7 +11,7 @@ returns-clause-fated c walk gives =
     let h = c.in_ok-put_answers.ensures.given walk gives in
     whole c.args.tracks walk c.args.events.now c.new-out.result c.put_answers.new.out c.put_conns.new.out c.none-conns.result c.put_answers.new.conns
     c.new-out.ensures c.none-conns.ensures h.0 h.1
-    (c.in_ok-put_conns.ensures ∙ ap (λ (cs : List Conn). c.put_answers.new.out ++ conns_text cs) c.as_slice.ensures)
+    c.in_ok-put_conns.ensures
 
 pub returns-clause-met : goal.returns-clause-met
 returns-clause-met c =
