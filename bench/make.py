@@ -511,6 +511,22 @@ def macro_of(rng, *ends):
     return 'm = "%s"' % ', '.join([*drawn_addresses(rng, 4000), *ends])
 
 
+def tabled_pf(rng, count):
+    """As many rules as the table that each of them uses has addresses."""
+    table = ' '.join('198.%d.%d.%d' % (18 + (k >> 14), k >> 6 & 255, (k & 63) * 4 + 1) for k in range(count))
+    return ['table <t> { %s }' % table] + [
+        'pass in quick proto tcp from <t> to any port %d' % (k + 1) for k in range(count)] + ['block all']
+
+
+def own_pf(rng, count):
+    """Rules that name every address of the host."""
+    return ['block in quick proto tcp from any to self port %d' % (k + 1) for k in range(count)] + ['pass all']
+
+
+def own_ipfw(rng, count):
+    return ['add %d deny tcp from any to me %d' % (k + 1, k + 1) for k in range(count)] + ['add 65000 allow ip from any to any']
+
+
 def repeated_pf(rng, count):
     return [macro_of(rng), 'pass from { %s } to any' % ', '.join(['$m'] * count)]
 
@@ -538,8 +554,9 @@ FILES = {
         called, shared, loaded, rewritten, services, unfolded, marked, sourced, mapped, mapped_by_way, balanced, published, crossing, skipping,
         sources, decided, applied, bordered)},
     'ipfw': {'skipping': skipping_ipfw, 'sources': sources_ipfw, 'redirected': redirected_ipfw, 'addressed': addressed_ipfw,
-             'instanced': instanced_ipfw, 'tagged': tagged_ipfw, 'counted': counted_ipfw},
+             'instanced': instanced_ipfw, 'tagged': tagged_ipfw, 'counted': counted_ipfw, 'own': own_ipfw},
     'pf': {'decided': decided_pf, 'redirected': redirected_pf, 'translated': translated_pf, 'tagged': tagged_pf, 'expanded': expanded_pf,
+           'tabled': tabled_pf, 'own': own_pf,
            'repeated': repeated_pf, 'joined': joined_pf, 'defined': defined_pf, 'typed': typed_pf, 'passed': passed_pf},
     'ios': {'applied': applied_ios, 'bordered': bordered_ios, 'mapped': mapped_ios},
 }

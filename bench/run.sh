@@ -86,6 +86,14 @@ python3 "$top/bench/ratio.py" ipfw sources 65534 2 "$program" "$site" || status=
 
 echo 'family sources seconds megabytes rows'
 rules_in pf expanded 10 400
+sharing() { # language family rules seconds megabytes site: rules that share a set of addresses
+    python3 "$top/bench/make.py" "$3" "$2" "$1" >"$work/file" || exit 1
+    measure "$2" "$3" "$4" "$5" "$program" synth "$1" "$6" "$work/file" new
+}
+sharing pf tabled 4000 3 200 "$site"
+python3 "$top/bench/make_site.py" 3968 >"$work/site.992" || exit 1
+sharing pf own 2000 2 200 "$work/site.992"
+sharing ipfw own 2000 2 200 "$work/site.992"
 for family in redirected translated tagged; do
     rules_in pf "$family" 1.5 1000
     doubled pf "$family" 1000
