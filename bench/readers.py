@@ -21,14 +21,16 @@ ROOM = 200
 
 def ipfw(k):
     number = 1 + k // 8
-    return ('add %d allow tcp from 10.%d.%d.0/24 to 172.16.%d.0/28 %d in recv em1 keep-state' % (number, k >> 8 & 255, k & 255, 7 * k & 255, 1 + k % 60000),
+    return ('add %d allow tcp from 10.%d.%d.0/24 to 172.16.%d.0/28 %d in recv em1 keep-state' % (
+        number, k >> 8 & 255, k & 255, 7 * k & 255, 1 + k % 60000),
             'add %d deny udp from any to any %d,1000-%d out xmit em0' % (number, 1 + k % 900, 1000 + k % 9000),
             'add %d deny icmp from any to 10.0.%d.9 in icmptypes %d // no %d' % (number, k % 255, k % 255, k),
             'add %d skipto 65534 ip from 10.0.%d.9 to not 10.%d.%d.0/24 out tagged %d' % (number, k % 255, k >> 8 & 255, k & 255, 1 + k % 500))[k % 4]
 
 
 def pf(k):
-    return ('pass in quick on em1 proto tcp from 10.%d.%d.0/24 to 172.16.%d.0/28 port %d flags any keep state' % (k >> 8 & 255, k & 255, 7 * k & 255, 1 + k % 60000),
+    return ('pass in quick on em1 proto tcp from 10.%d.%d.0/24 to 172.16.%d.0/28 port %d flags any keep state' % (
+        k >> 8 & 255, k & 255, 7 * k & 255, 1 + k % 60000),
             'block out on em0 proto udp from any to any port { %d, 1000:%d }' % (1 + k % 900, 1000 + k % 9000),
             'block in proto icmp from any to 10.0.%d.9 icmp-type %d label "no %d"' % (k % 255, k % 255, k),
             'pass out from 10.0.0.1 - 10.0.%d.9 to ! 10.%d.%d.0/24 flags any tagged T%d' % (k % 255, k >> 8 & 255, k & 255, k % 500))[k % 4]
