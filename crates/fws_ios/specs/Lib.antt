@@ -4,5 +4,6 @@ pub mod Keywords
 pub mod NatText
 pub mod Regular
 pub mod Soundness
+pub mod Uses
 pub mod Values
 pub mod Walk

@@ -4,5 +4,6 @@ pub mod Options
 pub mod Regular
 pub mod RuleText
 pub mod Soundness
+pub mod Uses
 pub mod Values
 pub mod Walk

@@ -10,5 +10,6 @@ pub mod RuleText
 pub mod Soundness
 pub mod Spelled
 pub mod Steps
+pub mod Uses
 pub mod Values
 pub mod Walk

@@ -10,5 +10,6 @@ pub mod Statements
 pub mod StatementText
 pub mod Tables
 pub mod TargetText
+pub mod Uses
 pub mod Values
 pub mod Walk
