@@ -93,3 +93,12 @@ pub struct Place {
     /// Its place in the chain, counted from 0.
     pub rule: u32,
 }
+
+/// A rule of a configuration, and where one of the rules stands by which a diagram says what it does.
+#[derive(Clone, Copy, Debug, PartialEq, Eq)]
+pub struct Spot {
+    /// The number of the rule, counted from 0 through the configuration.
+    pub rule: u32,
+    /// Where it stands.
+    pub at: Place,
+}

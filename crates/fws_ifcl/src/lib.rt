@@ -8,7 +8,7 @@ mod refusal;
 mod soundness;
 mod step;
 
-pub use diagram::{Act, Chain, Ifcl, Place, Rule, Stage};
+pub use diagram::{Act, Chain, Ifcl, Place, Rule, Spot, Stage};
 pub use laws::{
     loops_are_found, loops_are_real, ok_diagrams_name_chains, refused_loops_are_real,
     sizes_stand_still, sizes_unfold, unrefused_have_no_loop, uses_unfold, walks_stand_still,

@@ -64,7 +64,7 @@ chain_used chains site p is_est hook zero path c m = []
 chain_used chains site p is_est hook (suc n) path c m =
     if list_any (nat_eq c) path then []
     else rules_used (chain_used chains site p is_est hook n (c ∷ path)) (chain_walk chains site p is_est hook n (c ∷ path)) site p is_est hook
-        (first_number chains c) (rules_at chains c) m
+    (first_number chains c) (rules_at chains c) m
 
 -- what is used of a built-in chain
 abbrev pub builtin_used : List IptChain → Site → Packet → Bool → Hook → Option ℕ → Passage → List ℕ
