@@ -1,3 +1,5 @@
+mod Beside
 mod Joined
+mod Told
 mod Unfolding
 mod Walked

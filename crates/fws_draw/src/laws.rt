@@ -3,6 +3,7 @@
 ghost use Rattle.fws_draw.specs.Places.{WalksGoByPlaces};
 ghost use Rattle.fws_draw.specs.Right.{RulesAreRightByParts};
 ghost use Rattle.fws_draw.specs.Straight.{StraightDiagramsUnfold};
+ghost use Rattle.fws_draw.specs.UsedPlaces.{TellsOfUses};
 
 /// Where rules stand in a chain, the walk goes through them and on behind them, and each of their parts
 /// stands there too: a law, with nothing to do.
@@ -19,4 +20,9 @@ pub fn rules_are_right_by_parts()
 /// to do.
 pub fn straight_diagrams_unfold()
     ensures { StraightDiagramsUnfold }
+{}
+
+/// What walks use is told by places and by stages, where spots stand beside rules: a law, with nothing to do.
+pub fn uses_are_told_by_places()
+    ensures { TellsOfUses }
 {}
