@@ -12,6 +12,6 @@ use Rattle.fws_pf_ifcl.specs.Diagram.{pass_rules, pass_stage}
 abbrev pub Course : Kind → Bool → Type 0
 Course k outward = Walk k (pass_stage outward)
 
--- through the diagram's rules
-abbrev pub course : WalksGoByPlaces → (ℕ → Transit → ChainEnd) → (site : Site) → Packet → (k : Kind) (outward : Bool) → PfConfig → Course k outward
-course law enter site p k outward c = walk_of law enter site p k (pass_stage outward) (pass_rules outward c)
+-- through the rules of a diagram, with those of filter rules in their order or as they decide first
+abbrev pub course : WalksGoByPlaces → (ℕ → Transit → ChainEnd) → (site : Site) → Packet → (k : Kind) (in_order outward : Bool) → PfConfig → Course k outward
+course law enter site p k in_order outward c = walk_of law enter site p k (pass_stage outward) (pass_rules in_order outward c)

@@ -1,5 +1,5 @@
 -- The rules of filter rules walk as these do.
-use Rattle.std.proofs.Common.{◌≡◌, ℕ, ◌+◌, Bool, true, false, cond, ◌&&◌, Option, Some, None, List, [], ◌∷◌, ◌++◌, length, take, drop, arith, refl, sym, ap, ◌∙◌, append_assoc, take-append-drop}
+use Rattle.std.proofs.Common.{◌≡◌, ℕ, ◌+◌, Bool, true, false, cond, ◌&&◌, Option, Some, None, List, [], ◌∷◌, ◌++◌, length, take, drop, arith, refl, sym, ap, ◌∙◌, append_assoc, append-nil, take-append-drop}
 use Rattle.std.proofs.lemmas.List.{drop-drop}
 use Rattle.std.proofs.Math.Seq.{drop-append_seam}
 use Rattle.fws_net.specs.declared.condition.Lit.{Lit}
@@ -15,7 +15,7 @@ use Rattle.fws_draw.specs.Places.{sight, run, Stands}
 use Rattle.fws_draw.specs.Rules.{ruled, always, guard}
 use Rattle.fws_pf.specs.declared.config.PfRule.{PfRule}
 use Rattle.fws_pf.specs.Walk.{tagged, is_met, acted, rules_walk}
-use Rattle.fws_pf_ifcl.specs.Blocks.{passing_at_once, holding, filter_rule, met_rule, met_rules, tail_place, tail_rules, filter_from}
+use Rattle.fws_pf_ifcl.specs.Blocks.{passing_at_once, holding, filter_rule, met_rule, met_rules, tail_place, tail_rules, filter_from, filter_rules}
 use Rattle.fws_pf_ifcl.proofs.Courses.{Course}
 use Rattle.fws_pf_ifcl.proofs.Deciding.{Untagged, tail_untagged, tail_walk}
 use Rattle.fws_pf_ifcl.proofs.Settling.{settled, left, left_by, settled_by}
@@ -95,10 +95,18 @@ ahead_walk outward w at (r ∷ ahead) tail none are t =
     met_walk outward w at (is_met r.way outward) r (rules_walk w.site outward (ahead ++ tail)) (record { rest = behind; are = all })
     (ahead_walk outward w next ahead tail none rest) t
 
--- rules to the end of the pass
-pub filter_walk : (outward : Bool) (w : Course New outward) (at : ℕ) (rs : List PfRule) → drop at w.full ≡ filter_from outward at rs → (t : Transit)
+-- rules to the end of the pass, as they decide first
+filter_walk : (outward : Bool) (w : Course New outward) (at : ℕ) (rs : List PfRule) → drop at w.full ≡ filter_from outward at rs → (t : Transit)
     → left (run w at t) ≡ settled (rules_walk w.site outward rs t)
 filter_walk outward w at rs are t =
     let n = tail_place outward rs in
     ahead_walk outward w at (take n rs) (drop n rs) (tail_untagged outward rs) are t
     ∙ ap (λ l. settled (rules_walk w.site outward l t)) (take-append-drop n rs)
+
+-- rules to the end of the pass
+pub last_walk : (in_order outward : Bool) (w : Course New outward) (at : ℕ) (rs : List PfRule) → drop at w.full ≡ filter_rules in_order outward at rs → (t : Transit)
+    → left (run w at t) ≡ settled (rules_walk w.site outward rs t)
+last_walk true outward w at rs are t =
+    ahead_walk outward w at rs [] refl (are ∙ sym (append-nil (met_rules outward at rs))) t
+    ∙ ap (λ l. settled (rules_walk w.site outward l t)) (append-nil rs)
+last_walk false outward w at rs are t = filter_walk outward w at rs are t

@@ -1,9 +1,13 @@
+mod Counted
 mod Courses
 mod Deciding
 mod Filtering
+mod FilteringTold
 mod Lengths
 mod Numbered
 mod Passing
+mod PassingTold
 mod Putting
 mod Settling
 mod Translated
+mod TranslatedTold

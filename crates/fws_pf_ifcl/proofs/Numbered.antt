@@ -13,8 +13,8 @@ use Rattle.fws_pf.specs.declared.config.PfConfig.{PfConfig}
 use Rattle.fws_pf.specs.declared.config.PfNat.{PfNat}
 use Rattle.fws_pf.specs.declared.config.PfRule.{PfRule}
 use Rattle.fws_pf.specs.Walk.{is_met, translations}
-use Rattle.fws_pf_ifcl.specs.Blocks.{tagging, writing, translating, translation, width_with, translation_width, translation_widths, translations_from, passing_at_once, holding, filter_rule, met_rule, met_rules, tail_place, deciding, quick_rule, slow_rule, quick_rules, slow_rules, filter_from}
-use Rattle.fws_pf_ifcl.specs.Diagram.{tracking, skipping, translations_place, filter_place, pass_rules, chains_of, diagram_of}
+use Rattle.fws_pf_ifcl.specs.Blocks.{tagging, writing, translating, translation, width_with, translation_width, translation_widths, translations_from, passing_at_once, holding, filter_rule, met_rule, met_rules, tail_place, deciding, quick_rule, slow_rule, quick_rules, slow_rules, filter_from, filter_rules}
+use Rattle.fws_pf_ifcl.specs.Diagram.{tracking, skipping, translations_place, filter_place, pass_rules, chains_of, drawn_of}
 use Rattle.fws_pf_ifcl.proofs.Lengths.{translation_length, first_length, front_length}
 use Rattle.fws_pf_ifcl.proofs.Translated.{leaver, changing_by}
 use Rattle.fws_pf_ifcl.proofs.Filtering.{rules_by}
@@ -133,44 +133,49 @@ module _ (chains total : ℕ) (right : RightByParts chains total) where
       right.joined at next ahead (quick ++ slow) refl (met_rules_right outward at (take n rs) (omega (arith, le, many)))
       (right.joined next last quick slow refl (quick_right outward next tail) (slow_right outward last tail))
 
+  last_right : (in_order outward : Bool) (at : ℕ) (rs : List PfRule) → at + length (filter_rules in_order outward at rs) ≤ total → Right at (filter_rules in_order outward at rs)
+  last_right true outward at rs le = met_rules_right outward at rs le
+  last_right false outward at rs le = filter_right outward at rs le
+
   -- Passes
 
   first_right : (outward : Bool) (c : PfConfig) → Right 0 (tracking outward ++ skipping c)
   first_right true c = refl
   first_right false c = refl
 
-  all_right : (outward : Bool) (c : PfConfig) → length (pass_rules outward c) ≤ total → Right 0 (pass_rules outward c)
-  all_right outward c le =
+  all_right : (in_order outward : Bool) (c : PfConfig) → length (pass_rules in_order outward c) ≤ total → Right 0 (pass_rules in_order outward c)
+  all_right in_order outward c le =
       let first = tracking outward ++ skipping c in
       let nats = translations c outward in
       let place = translations_place outward in
       let filter = filter_place outward c in
       let middle = translations_from outward filter place nats in
-      let last = filter_from outward filter c.filter in
+      let last = filter_rules in_order outward filter c.filter in
       let few : length first ≡ place = first_length outward c in
       let front : length (first ++ middle) ≡ filter = front_length outward c in
-      let all : length (pass_rules outward c) ≡ length (first ++ middle) + length last = length-append (first ++ middle) last in
+      let all : length (pass_rules in_order outward c) ≡ length (first ++ middle) + length last = length-append (first ++ middle) last in
       right.joined 0 filter (first ++ middle) last (omega (arith, front))
       (right.joined 0 place first middle (omega (arith, few)) (first_right outward c)
       (translations_right outward filter place nats refl (omega (arith, le, front, all))))
-      (filter_right outward filter c.filter (omega (arith, le, front, all)))
+      (last_right in_order outward filter c.filter (omega (arith, le, front, all)))
 
 -- the rules of a pass are right among any number of chains
-rules_right : (law : RulesAreRightByParts) (chains : ℕ) (outward : Bool) (c : PfConfig) → rules_ok chains (length (pass_rules outward c)) 0 (pass_rules outward c) ≡ true
-rules_right law chains outward c =
-    let total = length (pass_rules outward c) in
-    all_right chains total (law chains total) outward c (omega arith)
+rules_right : (law : RulesAreRightByParts) (chains : ℕ) (in_order outward : Bool) (c : PfConfig)
+    → rules_ok chains (length (pass_rules in_order outward c)) 0 (pass_rules in_order outward c) ≡ true
+rules_right law chains in_order outward c =
+    let total = length (pass_rules in_order outward c) in
+    all_right chains total (law chains total) in_order outward c (omega arith)
 
 -- so are those of both passes
-both_right : (law : RulesAreRightByParts) (chains : ℕ) (c : PfConfig) → list_all (chain_ok chains) (chains_of c) ≡ true
-both_right law chains c =
-    ap (λ b. b && (rules_ok chains (length (pass_rules true c)) 0 (pass_rules true c) && true)) (rules_right law chains false c)
-    ∙ ap (λ b. b && true) (rules_right law chains true c)
+both_right : (law : RulesAreRightByParts) (chains : ℕ) (in_order : Bool) (c : PfConfig) → list_all (chain_ok chains) (chains_of in_order c) ≡ true
+both_right law chains in_order c =
+    ap (λ b. b && (rules_ok chains (length (pass_rules in_order true c)) 0 (pass_rules in_order true c) && true)) (rules_right law chains in_order false c)
+    ∙ ap (λ b. b && true) (rules_right law chains in_order true c)
 
 -- every number in the diagram is right
-pub diagram_ok : (law : RulesAreRightByParts) (c : PfConfig) → ifcl_ok (diagram_of c) ≡ true
-diagram_ok law c = ap (λ b. b && true && true && true && true) (both_right law 2 c)
+pub diagram_ok : (law : RulesAreRightByParts) (in_order : Bool) (c : PfConfig) → ifcl_ok (drawn_of in_order c) ≡ true
+diagram_ok law in_order c = ap (λ b. b && true && true && true && true) (both_right law 2 in_order c)
 
 -- no rule names a chain
-pub diagram_straight : (law : RulesAreRightByParts) (c : PfConfig) → is_straight (diagram_of c) ≡ true
-diagram_straight law c = both_right law 0 c
+pub diagram_straight : (law : RulesAreRightByParts) (in_order : Bool) (c : PfConfig) → is_straight (drawn_of in_order c) ≡ true
+diagram_straight law in_order c = both_right law 0 in_order c

@@ -56,7 +56,7 @@ abbrev pub changing_by : Bool → Option End → Option ℕ → List Rule
 changing_by outward to tag = option_map_or (λ e. always (writing outward e) ∷ []) to [] ++ tagging tag
 
 -- the packet behind them
-abbrev changed_by : {outward : Bool} → Course New outward → Option End → Option ℕ → Transit → Transit
+abbrev pub changed_by : {outward : Bool} → Course New outward → Option End → Option ℕ → Transit → Transit
 changed_by {outward} w to tag t = tagged tag (option_map_or (λ e. written w.p outward e t) to t)
 
 -- an end and a tag, and what leaves

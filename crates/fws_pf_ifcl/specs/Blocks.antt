@@ -123,3 +123,7 @@ tail_rules outward rs = quick_rules outward rs ++ slow_rules outward rs
 abbrev pub filter_from : Bool → ℕ → List PfRule → List Rule
 filter_from outward at rs =
     met_rules outward at (take (tail_place outward rs) rs) ++ tail_rules outward (drop (tail_place outward rs) rs)
+
+-- they stand in their order, or as they decide first
+abbrev pub filter_rules : Bool → Bool → ℕ → List PfRule → List Rule
+filter_rules in_order outward at rs = if in_order then met_rules outward at rs else filter_from outward at rs

@@ -10,7 +10,7 @@ use Rattle.fws_rule.specs.Literals.{positive}
 use Rattle.fws_draw.specs.Rules.{ruled}
 use Rattle.fws_pf.specs.declared.config.PfConfig.{PfConfig}
 use Rattle.fws_pf.specs.Walk.{translations}
-use Rattle.fws_pf_ifcl.specs.Blocks.{filter_from, translation_widths, translations_from}
+use Rattle.fws_pf_ifcl.specs.Blocks.{filter_rules, translation_widths, translations_from}
 
 -- a packet of a connection passes, behind the in pass with the destination with which it leaves
 abbrev pub tracking : Bool → List Rule
@@ -27,25 +27,30 @@ translations_place outward = if outward then 2 else 3
 abbrev pub filter_place : Bool → PfConfig → ℕ
 filter_place outward c = translations_place outward + translation_widths outward (translations c outward)
 
-abbrev pub pass_rules : Bool → PfConfig → List Rule
-pass_rules outward c =
+-- all rules of a pass, with those of filter rules in their order or as they decide first
+abbrev pub pass_rules : Bool → Bool → PfConfig → List Rule
+pass_rules in_order outward c =
     tracking outward ++ skipping c ++ translations_from outward (filter_place outward c) (translations_place outward) (translations c outward)
-    ++ filter_from outward (filter_place outward c) c.filter
+    ++ filter_rules in_order outward (filter_place outward c) c.filter
 
 -- the in pass and the out pass
-abbrev pub chains_of : PfConfig → List Chain
-chains_of c = record { name = codes "in"; rules = pass_rules false c } ∷ record { name = codes "out"; rules = pass_rules true c } ∷ []
+abbrev pub chains_of : Bool → PfConfig → List Chain
+chains_of in_order c =
+    record { name = codes "in"; rules = pass_rules in_order false c } ∷ record { name = codes "out"; rules = pass_rules in_order true c } ∷ []
 
 -- a packet passes where no rule decides
 abbrev pub pass_stage : Bool → Stage
 pass_stage outward = record { chain = if outward then 1 else 0; shows_recv = true; shows_xmit = outward; outward = outward; end = true }
 
 -- the whole diagram
-abbrev pub diagram_of : PfConfig → Ifcl
-diagram_of c = record {
-  chains = chains_of c;
+abbrev pub drawn_of : Bool → PfConfig → Ifcl
+drawn_of in_order c = record {
+  chains = chains_of in_order c;
   arrive = pass_stage false ∷ [];
   deliver = [];
   forward = pass_stage true ∷ [];
   send = pass_stage true ∷ [];
 }
+
+abbrev pub diagram_of : PfConfig → Ifcl
+diagram_of c = drawn_of false c

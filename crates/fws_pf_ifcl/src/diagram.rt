@@ -5,18 +5,24 @@ ghost use Rattle.fws_net.specs.declared.connection.Kind.{Kind};
 ghost use Rattle.fws_net.specs.declared.packet.Packet.{Packet};
 ghost use Rattle.fws_ifcl.specs.Refusals.{refusal_of};
 ghost use Rattle.fws_ifcl.specs.Soundness.{ifcl_ok};
+ghost use Rattle.fws_ifcl.specs.Spots.{are_spots_of, told};
+ghost use Rattle.fws_ifcl.specs.Uses.{used_places};
 ghost use Rattle.fws_ifcl.specs.Walk.{means};
 ghost use Rattle.fws_draw.specs.Rules.{ruled};
 ghost use Rattle.fws_draw.specs.Straight.{is_straight};
+ghost use Rattle.fws_pf.specs.Uses.{used};
 ghost use Rattle.fws_pf.specs.Walk.{translations, walk};
-ghost use Rattle.fws_pf_ifcl.specs.Diagram.{chains_of, diagram_of, filter_place, pass_rules, pass_stage, skipping, tracking};
+ghost use Rattle.fws_pf_ifcl.specs.Diagram.{chains_of, diagram_of, drawn_of, filter_place, pass_rules, pass_stage, skipping, tracking, translations_place};
+ghost use Rattle.fws_pf_ifcl.specs.Placed.{rule_count};
 
-use crate::filter::put_filter;
+use crate::filter::put_filter_rules;
+use crate::spots::spots_of;
 use crate::translating::{put_translations, translation_widths};
 use fws_draw::{
-    ruled_by, rules_are_right_by_parts, straight_diagrams_unfold, sum, walks_go_by_places,
+    ruled_by, rules_are_right_by_parts, straight_diagrams_unfold, sum, uses_are_told_by_places,
+    walks_go_by_places,
 };
-use fws_ifcl::{Act, Chain, Ifcl, Rule, Stage};
+use fws_ifcl::{Act, Chain, Ifcl, Rule, Spot, Stage};
 use fws_net::{Lit, Site, Test};
 use fws_num::{Items, Memory, Text};
 use fws_pf::{PfConfig, PfNat};
@@ -56,7 +62,7 @@ fn put_skipping(alloc: Global, rules: &mut Vec<Rule>, c: &PfConfig) -> Result<()
 }
 
 /// The translations of a pass.
-fn translations(c: &PfConfig, outward: bool) -> &[PfNat]
+pub(crate) fn translations(c: &PfConfig, outward: bool) -> &[PfNat]
     ensures { result.now ≡ translations c.now outward }
 {
     if outward {
@@ -66,25 +72,38 @@ fn translations(c: &PfConfig, outward: bool) -> &[PfNat]
     }
 }
 
+/// The place at which the translations of a pass begin.
+pub(crate) fn translations_place(outward: bool) -> usize
+    ensures { result ≡ translations_place outward }
+{
+    if outward { 2 } else { 3 }
+}
+
 /// The place at which the filter rules of a pass begin. An error is want of memory.
-fn filter_place(outward: bool, c: &PfConfig) -> Result<usize, Memory>
+pub(crate) fn filter_place(outward: bool, c: &PfConfig) -> Result<usize, Memory>
     ensures { IfOk result (λ n. n ≡ filter_place outward c.now) }
 {
-    let first = if outward { 2 } else { 3 };
+    let first = translations_place(outward);
     let width = translation_widths(translations(c, outward))?;
     sum(first, width)
 }
 
-/// All rules of a pass. An error is want of memory.
-fn pass_rules(alloc: Global, outward: bool, c: &PfConfig) -> Result<Vec<Rule>, Memory>
-    ensures { IfOk result (λ rules. rules.items ≡ pass_rules outward c.now) }
+/// All rules of a pass, with those of the filter in the order of the configuration's or as they decide first. An error
+/// is want of memory.
+fn pass_rules(
+    alloc: Global,
+    in_order: bool,
+    outward: bool,
+    c: &PfConfig,
+) -> Result<Vec<Rule>, Memory>
+    ensures { IfOk result (λ rules. rules.items ≡ pass_rules in_order outward c.now) }
 {
     let filter = filter_place(outward, c)?;
     let mut rules = Vec::new(alloc);
     put_tracking(alloc, &mut rules, outward)?;
     put_skipping(alloc, &mut rules, c)?;
     put_translations(alloc, &mut rules, outward, filter, translations(c, outward))?;
-    put_filter(alloc, &mut rules, outward, c.filter.as_slice())?;
+    put_filter_rules(alloc, &mut rules, in_order, outward, c.filter.as_slice())?;
     Ok(rules)
 }
 
@@ -113,20 +132,25 @@ fn put_chain(
 }
 
 /// Puts the chains of the two passes behind the others. An error is want of memory.
-fn put_chains(alloc: Global, chains: &mut Items<Chain>, c: &PfConfig) -> Result<(), Memory>
-    ensures { OnOk result (chains.new ≡ chains.old ++ chains_of c.now) }
+fn put_chains(
+    alloc: Global,
+    chains: &mut Items<Chain>,
+    in_order: bool,
+    c: &PfConfig,
+) -> Result<(), Memory>
+    ensures { OnOk result (chains.new ≡ chains.old ++ chains_of in_order c.now) }
 {
-    put_chain(alloc, chains, b"in", pass_rules(alloc, false, c)?)?;
-    put_chain(alloc, chains, b"out", pass_rules(alloc, true, c)?)?;
+    put_chain(alloc, chains, b"in", pass_rules(alloc, in_order, false, c)?)?;
+    put_chain(alloc, chains, b"out", pass_rules(alloc, in_order, true, c)?)?;
     Ok(())
 }
 
 /// The chains of the two passes. An error is want of memory.
-fn chains_of(alloc: Global, c: &PfConfig) -> Result<Items<Chain>, Memory>
-    ensures { IfOk result (λ chains. chains ≡ chains_of c.now) }
+fn chains_of(alloc: Global, in_order: bool, c: &PfConfig) -> Result<Items<Chain>, Memory>
+    ensures { IfOk result (λ chains. chains ≡ chains_of in_order c.now) }
 {
     let mut chains = Items::new(alloc);
-    put_chains(alloc, &mut chains, c)?;
+    put_chains(alloc, &mut chains, in_order, c)?;
     Ok(chains)
 }
 
@@ -144,8 +168,8 @@ fn pass_stage(outward: bool) -> Stage
 }
 
 /// The diagram, put together from its chains and stages. An error is want of memory.
-fn drawn(alloc: Global, c: &PfConfig) -> Result<Ifcl, Memory>
-    ensures { IfOk result (λ d. d ≡ diagram_of c.now) }
+fn drawn(alloc: Global, in_order: bool, c: &PfConfig) -> Result<Ifcl, Memory>
+    ensures { IfOk result (λ d. d ≡ drawn_of in_order c.now) }
 {
     let mut arrive = Items::new(alloc);
     arrive.put(pass_stage(false))?;
@@ -154,7 +178,7 @@ fn drawn(alloc: Global, c: &PfConfig) -> Result<Ifcl, Memory>
     let mut send = Items::new(alloc);
     send.put(pass_stage(true))?;
     Ok(Ifcl {
-        chains: chains_of(alloc, c)?,
+        chains: chains_of(alloc, in_order, c)?,
         arrive,
         deliver: Items::new(alloc),
         forward,
@@ -178,6 +202,29 @@ pub fn to_ifcl(alloc: Global, c: &PfConfig, site: &Site) -> Result<Ifcl, Memory>
     walks_go_by_places();
     rules_are_right_by_parts();
     straight_diagrams_unfold();
-    let d = drawn(alloc, c)?;
+    let d = drawn(alloc, false, c)?;
     Ok(d)
+}
+
+/// A control diagram of a configuration, and where the configuration's rules stand in it. It does with each packet what
+/// the configuration does, as the diagram of `to_ifcl` does, and the rules whose places a packet's walk uses are those that
+/// the configuration's walk uses, as often and in the same order. So all filter rules stand in their order, and those
+/// that aren't quick hold their verdict. A rule has a place on each pass on which it is met. The rules are counted from 0, those of rdr ahead
+/// of those of nat, and these ahead of the filter's. An error is want of memory, or of numbers for rules. Linear in the
+/// rules.
+pub fn places(alloc: Global, c: &PfConfig, site: &Site) -> Result<(Ifcl, Vec<Spot>), Memory>
+    ensures ok { IfOk result (λ x. ifcl_ok x.0 ≡ true) }
+    ensures means { IfOk result (λ x. (p : Packet) (k : Kind) → means x.0 site.now p k ≡ walk c.now site.now p k) }
+    ensures straight { IfOk result (λ x. is_straight x.0 ≡ true) }
+    ensures unfolds { IfOk result (λ x. refusal_of x.0 ≡ None) }
+    ensures spots { IfOk result (λ x. are_spots_of x.0 (rule_count c.now) x.1.items ≡ true) }
+    ensures uses { IfOk result (λ x. (p : Packet) (k : Kind) → told x.1.items (used_places x.0 site.now p k) ≡ used c.now site.now p k) }
+{
+    walks_go_by_places();
+    rules_are_right_by_parts();
+    straight_diagrams_unfold();
+    uses_are_told_by_places();
+    let d = drawn(alloc, true, c)?;
+    let spots = spots_of(alloc, c)?;
+    Ok((d, spots))
 }

@@ -1,7 +1,7 @@
 //! The rules to which filter rules are unfolded.
 
 ghost use Rattle.std.specs.Prelude.{◌≡◌, ◌++◌, length, OnOk};
-ghost use Rattle.fws_pf_ifcl.specs.Blocks.{filter_from, filter_rule, holding, met_rule, met_rules, passing_at_once};
+ghost use Rattle.fws_pf_ifcl.specs.Blocks.{filter_from, filter_rule, filter_rules, holding, met_rule, met_rules, passing_at_once};
 
 use crate::tail::{is_met, put_tail, tail_place};
 use fws_draw::{put_always, put_guard, put_rule};
@@ -80,8 +80,8 @@ fn put_met(alloc: Global, rules: &mut Vec<Rule>, outward: bool, rule: &PfRule) -
     Ok(())
 }
 
-/// Puts the rules to which the filter rules ahead of the tail are unfolded behind the others. An error is
-/// want of memory.
+/// Puts the rules to which filter rules are unfolded behind the others, in their order. An error is want of
+/// memory.
 fn put_met_rules(
     alloc: Global,
     rules: &mut Vec<Rule>,
@@ -96,9 +96,9 @@ fn put_met_rules(
     Ok(())
 }
 
-/// Puts the rules to which the filter rules of a pass are unfolded behind the others. An error is want of
-/// memory.
-pub(crate) fn put_filter(
+/// Puts the rules to which the filter rules of a pass are unfolded behind the others, as they decide first. An
+/// error is want of memory.
+fn put_filter(
     alloc: Global,
     rules: &mut Vec<Rule>,
     outward: bool,
@@ -109,5 +109,24 @@ pub(crate) fn put_filter(
     let (ahead, tail) = filter.split_at(tail_place(outward, filter));
     put_met_rules(alloc, rules, outward, ahead)?;
     put_tail(alloc, rules, outward, tail)?;
+    Ok(())
+}
+
+/// Puts the rules to which the filter rules of a pass are unfolded behind the others: in their order, or as they
+/// decide first. An error is want of memory.
+pub(crate) fn put_filter_rules(
+    alloc: Global,
+    rules: &mut Vec<Rule>,
+    in_order: bool,
+    outward: bool,
+    filter: &[PfRule],
+) -> Result<(), Memory>
+    ensures { OnOk result (rules.new.items ≡ rules.old.items ++ filter_rules in_order outward (length rules.old.items) filter.now) }
+{
+    if in_order {
+        put_met_rules(alloc, rules, outward, filter)?;
+        return Ok(());
+    }
+    put_filter(alloc, rules, outward, filter)?;
     Ok(())
 }

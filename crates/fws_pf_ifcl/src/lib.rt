@@ -3,7 +3,8 @@
 
 mod diagram;
 mod filter;
+mod spots;
 mod tail;
 mod translating;
 
-pub use diagram::to_ifcl;
+pub use diagram::{places, to_ifcl};

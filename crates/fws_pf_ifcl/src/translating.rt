@@ -59,7 +59,7 @@ fn count_changes(nat: &PfNat) -> usize
 }
 
 /// How many rules a translation is unfolded to.
-fn translation_width(nat: &PfNat) -> usize
+pub(crate) fn translation_width(nat: &PfNat) -> usize
     ensures { (outward : Bool) → result ≡ translation_width outward nat.now }
 {
     let changes = count_changes(nat);
