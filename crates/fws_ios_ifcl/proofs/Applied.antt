@@ -23,10 +23,10 @@ use Rattle.fws_ios_ifcl.proofs.Holding.{shown_alone}
 use Rattle.fws_ios_ifcl.proofs.Listed.{Course, filtering_walk}
 
 -- the packet is at the interface
-abbrev is_at : {k : Kind} (outward : Bool) {chain : ℕ} → Course k outward chain → ℕ → Transit → Bool
+abbrev pub is_at : {k : Kind} (outward : Bool) {chain : ℕ} → Course k outward chain → ℕ → Transit → Bool
 is_at outward w face t = option_map_or (nat_eq face) (interface_of w.site outward t) false
 
-face_holds : (k : Kind) (outward : Bool) (chain : ℕ) (w : Course k outward chain) (face : ℕ) (t : Transit) → holds (at_face outward face) (sight w t) ≡ is_at outward w face t
+pub face_holds : (k : Kind) (outward : Bool) (chain : ℕ) (w : Course k outward chain) (face : ℕ) (t : Transit) → holds (at_face outward face) (sight w t) ≡ is_at outward w face t
 face_holds k true chain w face t = shown_alone face (sending w.site t.packet)
 face_holds k false chain w face t = shown_alone face (receiving t.packet)
 

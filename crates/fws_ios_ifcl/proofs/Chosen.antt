@@ -62,7 +62,7 @@ among name other asked is = by (list_any (bytes_eq name) asked) is
 
 module _ (chain : ℕ) (w : Course New true chain) (c : IosConfig) (t : Transit) where
   -- a list permits the packet
-  abbrev permitted : List ℕ → Bool
+  abbrev pub permitted : List ℕ → Bool
   permitted name = says c w.site New true false name t
 
   -- none of the lists that were asked does
@@ -74,11 +74,11 @@ module _ (chain : ℕ) (w : Course New true chain) (c : IosConfig) (t : Transit)
       elim (among name other asked is) [ inl e ↦ denied other e | inr e ↦ ap permitted e ∙ here ]
 
   -- the packet leaves with an address as its source
-  abbrev chosen : ℕ → ChainEnd
+  abbrev pub chosen : ℕ → ChainEnd
   chosen addr = Accepted (with_src w.p (host_end addr None) t)
 
   -- a list that chooses packets
-  choosing_walk : (at : ℕ) (entries : List IosEntry) (addr : ℕ) → Stands w at (choosing at entries addr)
+  pub choosing_walk : (at : ℕ) (entries : List IosEntry) (addr : ℕ) → Stands w at (choosing at entries addr)
       → run w at t ≡ cond (permits w.site New true entries t) (chosen addr) (run w (at + (3 + length entries)) t)
   choosing_walk at entries addr s =
       let n = length entries in
@@ -92,13 +92,13 @@ module _ (chain : ℕ) (w : Course New true chain) (c : IosConfig) (t : Transit)
       ∙ ap (λ end. cond (permits w.site New true entries t) end (run w left t)) (w.law.walked halves.1 (tt, (tt, tt)) t)
 
   -- the rules of one, by whether it was asked and which list it is
-  abbrev rules_of : ℕ → Bool → Option IosList → ℕ → List Rule
+  abbrev pub rules_of : ℕ → Bool → Option IosList → ℕ → List Rule
   rules_of at was found addr = cond was [] (option_map_or (λ (l : IosList). choosing at l.entries addr) found [])
 
-  abbrev said : Option IosList → Bool
+  abbrev pub said : Option IosList → Bool
   said found = option_map_or (λ (l : IosList). permits w.site New true l.entries t) found false
 
-  asked_walk : (at : ℕ) (was : Bool) (found : Option IosList) (addr : ℕ) → Stands w at (rules_of at was found addr) → (was ≡ true → said found ≡ false)
+  pub asked_walk : (at : ℕ) (was : Bool) (found : Option IosList) (addr : ℕ) → Stands w at (rules_of at was found addr) → (was ≡ true → said found ≡ false)
       → run w at t ≡ cond (said found) (chosen addr) (run w (at + length (rules_of at was found addr)) t)
   asked_walk at true found addr s denied =
       let same : at ≡ at + 0 = omega arith in
@@ -111,7 +111,7 @@ module _ (chain : ℕ) (w : Course New true chain) (c : IosConfig) (t : Transit)
       choosing_walk at l.entries addr s ∙ ap (λ n. cond (permits w.site New true l.entries t) (chosen addr) (run w n t)) next
 
   -- the address of a list, or a later end
-  listed_or_later : (b : Bool) (addr : ℕ) (later : Option End) (next rest : ChainEnd) → (b ≡ false → next ≡ leaves_with w.p true t later rest)
+  pub listed_or_later : (b : Bool) (addr : ℕ) (later : Option End) (next rest : ChainEnd) → (b ≡ false → next ≡ leaves_with w.p true t later rest)
       → cond b (chosen addr) next ≡ leaves_with w.p true t (option_map_or Some (cond b (Some (host_end addr None)) None) later) rest
   listed_or_later true addr later next rest on = refl
   listed_or_later false addr later next rest on = on refl

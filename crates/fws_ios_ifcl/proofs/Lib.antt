@@ -1,8 +1,17 @@
 mod Applied
+mod AppliedTold
+mod Asked
+mod AskedTold
+mod Beside
 mod Chosen
+mod Counted
 mod Holding
+mod Joined
 mod Listed
+mod ListedTold
 mod Named
 mod Numbered
 mod Passing
+mod PassingTold
 mod Translated
+mod TranslatedTold

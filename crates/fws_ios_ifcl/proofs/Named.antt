@@ -2,10 +2,10 @@
 use Rattle.std.proofs.Common.{◌≡◌, ℕ, suc, ◌+◌, ◌<◌, Bool, true, false, cond, Option, Some, None, List, [], ◌∷◌, length, find, slice_get, IfSome, arith, refl, sym, ap, ◌∙◌}
 use Rattle.std.specs.List.{position_from}
 
-none : (i : ℕ) → ◌≡◌ {A = Option ℕ} None (Some i) → ⊥
+pub none : (i : ℕ) → ◌≡◌ {A = Option ℕ} None (Some i) → ⊥
 none i h = cc
 
-one : (m n : ℕ) → Some m ≡ Some n → m ≡ n
+pub one : (m n : ℕ) → Some m ≡ Some n → m ≡ n
 one m n h = cc
 
 module _ {X : Type 0} (test : X → Bool) where

@@ -20,7 +20,8 @@ use Rattle.fws_ios.specs.declared.config.IosNat.{IosNat}
 use Rattle.fws_ios.specs.declared.config.IosNat.TheVariants.{Static, List as Listed}
 use Rattle.fws_ios.specs.Walk.{is_directed, list_named}
 use Rattle.fws_ios_ifcl.specs.Blocks.{entry_rule, listing, at_face, applying, applied, applied_from, static_cond, static_rules, statics_from, choosing, with_asked, choosing_rules, choosing_from}
-use Rattle.fws_ios_ifcl.specs.Diagram.{list_rules, destination_rules, source_front, source_rules, chains_of, diagram_of}
+use Rattle.fws_ios_ifcl.specs.Diagram.{list_rules, destination_rules, source_front, source_rules, diagram_of}
+use Rattle.fws_ios_ifcl.specs.Placed.{asking_from, placed_sources, chains_with, placed_of}
 use Rattle.fws_ios_ifcl.proofs.Chosen.{listing_length, choosing_length}
 
 -- among so many chains, and in a chain of so many rules
@@ -148,13 +149,21 @@ module _ (chains total : ℕ) (right : RightByParts chains total) where
   destination_right : (c : IosConfig) → length (destination_rules c) ≤ total → Right 0 (destination_rules c)
   destination_right c le = statics_right false 3 c.nats (omega (arith, le))
 
-  source_right : (c : IosConfig) → length (source_rules c) ≤ total → Right 0 (source_rules c)
-  source_right c le =
+  asking_from_right : (lists : List IosList) (at : ℕ) (nats : List IosNat) → at + length (asking_from at lists nats) ≤ total → Right at (asking_from at lists nats)
+  asking_from_right lists at [] le = refl
+  asking_from_right lists at (nat ∷ nats) le =
+      let here = choosing_rules at lists [] nat in
+      let next = at + length here in
+      let more = asking_from next lists nats in
+      let many : length (here ++ more) ≡ length here + length more = length-append here more in
+      right.joined at next here more refl (chosen_right lists at [] nat (omega (arith, le, many))) (asking_from_right lists next nats (omega (arith, le, many)))
+
+  source_right : (c : IosConfig) (lists : List Rule) → length (source_front c ++ lists) ≤ total
+      → (length (source_front c) + length lists ≤ total → Right (length (source_front c)) lists) → Right 0 (source_front c ++ lists)
+  source_right c lists le chosen =
       let place = length (source_front c) in
-      let lists = choosing_from place c.lists [] c.nats in
-      let many : length (source_rules c) ≡ place + length lists = length-append (source_front c) lists in
-      right.joined 0 place (source_front c) lists (omega arith) (statics_right true 4 c.nats (omega (arith, le, many)))
-      (choosing_from_right c.lists place [] c.nats (omega (arith, le, many)))
+      let many : length (source_front c ++ lists) ≡ place + length lists = length-append (source_front c) lists in
+      right.joined 0 place (source_front c) lists (omega arith) (statics_right true 4 c.nats (omega (arith, le, many))) (chosen (omega (arith, le, many)))
 
 module _ (law : RulesAreRightByParts) (chains : ℕ) (c : IosConfig) where
   lists_ok : (outward : Bool) → rules_ok chains (length (list_rules outward c)) 0 (list_rules outward c) ≡ true
@@ -170,16 +179,31 @@ module _ (law : RulesAreRightByParts) (chains : ℕ) (c : IosConfig) where
   source_ok : rules_ok chains (length (source_rules c)) 0 (source_rules c) ≡ true
   source_ok =
       let total = length (source_rules c) in
-      source_right chains total (law chains total) c (omega arith)
+      let place = length (source_front c) in
+      source_right chains total (law chains total) c (choosing_from place c.lists [] c.nats) (omega arith)
+      (choosing_from_right chains total (law chains total) c.lists place [] c.nats)
 
-  -- the rules of each chain
-  all_ok : list_all (chain_ok chains) (chains_of c) ≡ true
-  all_ok = λ i. lists_ok false i && (destination_ok i && (source_ok i && (lists_ok true i && true)))
+  placed_source_ok : rules_ok chains (length (placed_sources c)) 0 (placed_sources c) ≡ true
+  placed_source_ok =
+      let total = length (placed_sources c) in
+      let place = length (source_front c) in
+      source_right chains total (law chains total) c (asking_from place c.lists c.nats) (omega arith)
+      (asking_from_right chains total (law chains total) c.lists place c.nats)
+
+  -- the rules of each chain, with right ones for sources
+  all_ok : (sources : List Rule) → rules_ok chains (length sources) 0 sources ≡ true → list_all (chain_ok chains) (chains_with sources c) ≡ true
+  all_ok sources is = λ i. lists_ok false i && (destination_ok i && (is i && (lists_ok true i && true)))
 
 -- every number in the diagram is right
 pub diagram_ok : (law : RulesAreRightByParts) (c : IosConfig) → ifcl_ok (diagram_of c) ≡ true
-diagram_ok law c = ap (λ b. b && true && true && true && true) (all_ok law 4 c)
+diagram_ok law c = ap (λ b. b && true && true && true && true) (all_ok law 4 c (source_rules c) (source_ok law 4 c))
+
+pub placed_ok : (law : RulesAreRightByParts) (c : IosConfig) → ifcl_ok (placed_of c) ≡ true
+placed_ok law c = ap (λ b. b && true && true && true && true) (all_ok law 4 c (placed_sources c) (placed_source_ok law 4 c))
 
 -- no rule names a chain
 pub diagram_straight : (law : RulesAreRightByParts) (c : IosConfig) → is_straight (diagram_of c) ≡ true
-diagram_straight law c = all_ok law 0 c
+diagram_straight law c = all_ok law 0 c (source_rules c) (source_ok law 0 c)
+
+pub placed_straight : (law : RulesAreRightByParts) (c : IosConfig) → is_straight (placed_of c) ≡ true
+placed_straight law c = all_ok law 0 c (placed_sources c) (placed_source_ok law 0 c)

@@ -53,7 +53,7 @@ fn put_applying(
 }
 
 /// Whether a list is applied in this direction.
-fn is_directed(outward: bool, group: &IosGroup) -> bool
+pub(crate) fn is_directed(outward: bool, group: &IosGroup) -> bool
     ensures { result ≡ is_directed outward group.now }
 {
     if outward {
@@ -64,7 +64,7 @@ fn is_directed(outward: bool, group: &IosGroup) -> bool
 }
 
 /// Puts the rules of a list behind the others if it is applied in this direction. An error is want of memory.
-fn put_applied(
+pub(crate) fn put_applied(
     alloc: Global,
     rules: &mut Vec<Rule>,
     outward: bool,

@@ -37,6 +37,25 @@ fn put_choosing(
     Ok(())
 }
 
+/// Puts the rules of a translation by the list of this name behind the others. An error is want of memory.
+fn put_named(
+    alloc: Global,
+    rules: &mut Vec<Rule>,
+    lists: &Lists,
+    name: &Text,
+    addr: u32,
+) -> Result<(), Memory>
+    ensures { OnOk result (rules.new.items ≡ rules.old.items ++ choosing_rules (length rules.old.items) lists.now [] (IosNat.List name.now addr)) }
+{
+    match lists.named(name) {
+        Some(list) => {
+            put_choosing(alloc, rules, list.entries.as_slice(), addr)?;
+            Ok(())
+        }
+        None => Ok(()),
+    }
+}
+
 /// Puts the rules of a translation by the list of this name behind the others, unless the list was asked before, whose answer
 /// would be the same. An error is want of memory.
 fn put_listed(
@@ -54,13 +73,8 @@ fn put_listed(
     if !is_new {
         return Ok(());
     }
-    match lists.named(name) {
-        Some(list) => {
-            put_choosing(alloc, rules, list.entries.as_slice(), addr)?;
-            Ok(())
-        }
-        None => Ok(()),
-    }
+    put_named(alloc, rules, lists, name, addr)?;
+    Ok(())
 }
 
 /// Puts the rules of a translation behind the others if it is by a list that wasn't asked before. An error is want of memory.
@@ -78,6 +92,25 @@ fn put_choosing_rules(
         IosNat::Static { .. } => Ok(()),
         IosNat::List { list, addr } => {
             put_listed(alloc, rules, lists, asked, list, *addr)?;
+            Ok(())
+        }
+    }
+}
+
+/// Puts the rules of a translation behind the others if it is by a list, also one that was asked before. An error is want of
+/// memory.
+pub(crate) fn put_asking(
+    alloc: Global,
+    rules: &mut Vec<Rule>,
+    lists: &Lists,
+    nat: &IosNat,
+) -> Result<(), Memory>
+    ensures { OnOk result (rules.new.items ≡ rules.old.items ++ choosing_rules (length rules.old.items) lists.now [] nat.now) }
+{
+    match nat {
+        IosNat::Static { .. } => Ok(()),
+        IosNat::List { list, addr } => {
+            put_named(alloc, rules, lists, list, *addr)?;
             Ok(())
         }
     }

@@ -48,7 +48,7 @@ fn list_rules(
 }
 
 /// The rules of packets that keep their destinations, or have that of their connection. An error is want of memory.
-fn kept_destinations(alloc: Global, c: &IosConfig) -> Result<Vec<Rule>, Memory>
+pub(crate) fn kept_destinations(alloc: Global, c: &IosConfig) -> Result<Vec<Rule>, Memory>
     ensures { IfOk result (λ rules. rules.items ≡ kept_destinations c.now) }
 {
     let outside = c.outside.copy(alloc)?;
@@ -74,7 +74,7 @@ fn destination_rules(alloc: Global, c: &IosConfig) -> Result<Vec<Rule>, Memory>
 }
 
 /// The rules of packets that keep their sources, or have that of their connection. An error is want of memory.
-fn kept_sources(alloc: Global, c: &IosConfig) -> Result<Vec<Rule>, Memory>
+pub(crate) fn kept_sources(alloc: Global, c: &IosConfig) -> Result<Vec<Rule>, Memory>
     ensures { IfOk result (λ rules. rules.items ≡ kept_sources c.now) }
 {
     let inside = c.inside.copy(alloc)?;
@@ -115,7 +115,7 @@ fn chain(alloc: Global, name: &[u8], rules: Vec<Rule>) -> Result<Chain, Memory>
 }
 
 /// Puts the chain of these rules behind the others. An error is want of memory.
-fn put_chain(
+pub(crate) fn put_chain(
     alloc: Global,
     chains: &mut Items<Chain>,
     name: &[u8],
@@ -175,16 +175,27 @@ fn stage_of(outward: bool, chain: u32) -> Stage
     }
 }
 
+/// The stages of two chains, on the side of packets that come in or that go out. An error is want of memory.
+pub(crate) fn two_stages(
+    alloc: Global,
+    outward: bool,
+    first: u32,
+    second: u32,
+) -> Result<Items<Stage>, Memory>
+    ensures { IfOk result (λ stages. stages ≡ stage_of outward first ∷ stage_of outward second ∷ []) }
+{
+    let mut stages = Items::new(alloc);
+    stages.put(stage_of(outward, first))?;
+    stages.put(stage_of(outward, second))?;
+    Ok(stages)
+}
+
 /// The diagram, put together from its chains and stages. An error is want of memory.
 fn drawn(alloc: Global, c: &IosConfig) -> Result<Ifcl, Memory>
     ensures { IfOk result (λ d. d ≡ diagram_of c.now) }
 {
-    let mut arrive = Items::new(alloc);
-    arrive.put(stage_of(false, 0))?;
-    arrive.put(stage_of(false, 1))?;
-    let mut forward = Items::new(alloc);
-    forward.put(stage_of(true, 2))?;
-    forward.put(stage_of(true, 3))?;
+    let arrive = two_stages(alloc, false, 0, 1)?;
+    let forward = two_stages(alloc, true, 2, 3)?;
     Ok(Ifcl {
         chains: chains_of(alloc, c)?,
         arrive,

@@ -6,6 +6,9 @@ mod choosing;
 mod diagram;
 mod listing;
 mod names;
+mod placing;
+mod spots;
 mod statics;
 
 pub use diagram::to_ifcl;
+pub use placing::places;

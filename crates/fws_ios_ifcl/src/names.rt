@@ -1,12 +1,14 @@
 //! Access lists by their names.
 
-ghost use Rattle.std.specs.Prelude.{◌≡◌, ℕ, ◌<◌, List, length, None, Some, IfOk, IfSome, MatchOption};
+ghost use Rattle.std.specs.Prelude.{◌≡◌, ℕ, ◌<◌, List, length, map, sum, None, Some, IfOk, IfSome, MatchOption};
 ghost use Rattle.std.specs.List.{position_from};
 ghost use Rattle.std.specs.Map.{lookup};
 ghost use Rattle.std.specs.Str.{bytes_eq};
 ghost use Rattle.fws_ios.specs.declared.config.IosList.{IosList as AnyList};
 ghost use Rattle.fws_ios.specs.Walk.{list_named};
+ghost use Rattle.fws_ios_ifcl.specs.Placed.{first_entries, first_entry};
 
+use fws_draw::sum;
 use fws_ios::IosList;
 use fws_num::{Memory, Text};
 use indexmap::IndexMap;
@@ -72,6 +74,86 @@ impl<'c> Lists<'c> {
         match self.place(name) {
             Some(place) => Some(&self.lists[place]),
             None => None,
+        }
+    }
+}
+
+/// Access lists by their names, and the numbers of their entries, which are counted from 0 through all of them. Contracts see the
+/// lists.
+#[derive(Drop)]
+pub(crate) struct Counted<'c> {
+    lists: Lists<'c>,
+    /// The number of the first entry of each list.
+    firsts: Vec<usize>,
+}
+
+impl<'c> Model for Counted<'c> {
+    ghost use Rattle.std.specs.Prelude.{◌≡◌, List};
+    ghost use Rattle.fws_ios.specs.declared.config.IosList.{IosList as AnyList};
+    ghost use Rattle.fws_ios_ifcl.specs.Placed.{first_entries};
+
+    ghost Value = { List AnyList };
+
+    ghost view = { λ l. l.lists };
+
+    ghost invariant = { λ l. l.firsts.items ≡ first_entries 0 l.lists };
+}
+
+/// The number of the first entry of each list. An error is want of memory, or of numbers.
+fn first_entries(alloc: Global, lists: &[IosList]) -> Result<Vec<usize>, Memory>
+    ensures { IfOk result (λ firsts. firsts.items ≡ first_entries 0 lists.now) }
+{
+    let mut firsts = Vec::new(alloc);
+    let mut next = 0;
+    for list in lists {
+        firsts.push(next)?;
+        next = sum(next, list.entries.as_slice().len())?;
+    }
+    Ok(firsts)
+}
+
+/// How many entries the lists have. An error is want of numbers.
+pub(crate) fn entry_count(lists: &[IosList]) -> Result<usize, Memory>
+    ensures { IfOk result (λ n. n ≡ sum (map (λ (l : AnyList). length l.entries) lists.now)) }
+{
+    let mut count = 0;
+    for list in lists {
+        count = sum(count, list.entries.as_slice().len())?;
+    }
+    Ok(count)
+}
+
+impl<'c> Counted<'c> {
+    /// These lists. An error is want of memory, or of numbers.
+    pub(crate) fn of(alloc: Global, lists: &'c [IosList]) -> Result<Counted<'c>, Memory>
+        ensures { IfOk result (λ l. l ≡ lists.now) }
+    {
+        let firsts = first_entries(alloc, lists)?;
+        let lists = Lists::of(alloc, lists)?;
+        Ok(Counted { lists, firsts })
+    }
+
+    /// The lists by their names.
+    pub(crate) fn lists(&self) -> &Lists<'c>
+        ensures { result.now ≡ self.now }
+    {
+        &self.lists
+    }
+
+    /// The first list of this name.
+    pub(crate) fn named(&self, name: &Text) -> Option<&IosList>
+        ensures { MatchOption result (list_named name.now self.now ≡ None) (λ l. list_named name.now self.now ≡ Some l.now) }
+    {
+        self.lists.named(name)
+    }
+
+    /// The number of the first entry of the first list of this name; 0 where there is none.
+    pub(crate) fn first(&self, name: &Text) -> usize
+        ensures { result ≡ first_entry 0 name.now self.now }
+    {
+        match self.lists.place(name) {
+            Some(place) => self.firsts[place],
+            None => 0,
         }
     }
 }

@@ -73,7 +73,7 @@ fn put_writing(alloc: Global, rules: &mut Vec<Rule>, cond: Cond, writing: Act) -
 
 /// Puts the rules of a translation behind the others if it is a static: as packets go out its outer end stands for the inner
 /// one as the source, and as they come in the inner end stands for the outer one as the destination. An error is want of memory.
-fn put_static(
+pub(crate) fn put_static(
     alloc: Global,
     rules: &mut Vec<Rule>,
     outward: bool,

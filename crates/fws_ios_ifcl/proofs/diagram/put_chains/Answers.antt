@@ -1,16 +1,9 @@
-use Rattle.std.proofs.Common.{◌≡◌, ℕ, true, false, List, [], ◌∷◌, ◌++◌, codes, ap, ◌∙◌, append_assoc}
+use Rattle.std.proofs.Common.{ℕ, true, false, List, [], ◌∷◌, ◌++◌, codes, ap, ◌∙◌}
 use Rattle.fws_ifcl.specs.declared.diagram.Chain.{Chain}
 use Rattle.fws_ifcl.specs.declared.diagram.Rule.{Rule}
 use Rattle.fws_ios_ifcl.specs.Diagram.{destination_rules, list_rules, source_rules}
+use Rattle.fws_ios_ifcl.proofs.Joined.{four}
 use Rattle.fws_ios_ifcl.proofs.diagram.put_chains.Goals as goal
-
--- four chains, one behind the other
-four : (old a b d e : List Chain) (w x y z : Chain) → a ≡ old ++ w ∷ [] → b ≡ a ++ x ∷ [] → d ≡ b ++ y ∷ [] → e ≡ d ++ z ∷ [] → e ≡ old ++ w ∷ x ∷ y ∷ z ∷ []
-four old a b d e w x y z first second third fourth =
-    fourth ∙ ap (λ l. l ++ z ∷ []) (third ∙ ap (λ l. l ++ y ∷ []) (second ∙ ap (λ l. l ++ x ∷ []) first))
-    ∙ append_assoc ((old ++ w ∷ []) ++ x ∷ []) (y ∷ []) (z ∷ [])
-    ∙ append_assoc (old ++ w ∷ []) (x ∷ []) (y ∷ z ∷ [])
-    ∙ append_assoc old (w ∷ []) (x ∷ y ∷ z ∷ [])
 
 pub returns : goal.returns
 returns c =
