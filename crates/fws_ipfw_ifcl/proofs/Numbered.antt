@@ -353,7 +353,7 @@ module _ (chains total : ℕ) (right : RightByParts chains total) where
       refl
 
 -- how many rules there are
-all_length : (site : Site) (c : IpfwConfig) → length (all_rules site c) ≡ ending_place site c + 3
+pub all_length : (site : Site) (c : IpfwConfig) → length (all_rules site c) ≡ ending_place site c + 3
 all_length site c =
     let first = half site c false in
     let second = second_half site c in

@@ -1,5 +1,5 @@
--- The diagram's stages are ipfw's passes.
-use Rattle.std.proofs.Common.{◌≡◌, ℕ, Bool, true, false, cond, ◌&&◌, nat_eq, nat_lt, Option, Some, None, option_and_then, List, [], ◌∷◌, ◌++◌, refl, sym, ap, ◌∙◌}
+-- The stages of a diagram are ipfw's passes.
+use Rattle.std.proofs.Common.{◌≡◌, ℕ, Bool, true, false, cond, ◌&&◌, nat_eq, nat_lt, Option, Some, None, option_and_then, List, [], ◌∷◌, ◌++◌, refl, sym, ap, ◌∙◌, append-nil}
 use Rattle.std.specs.List.{list_all}
 use Rattle.std.specs.Option.{option_map_or}
 use Rattle.fws_net.specs.declared.connection.Kind.{Kind}
@@ -14,6 +14,7 @@ use Rattle.fws_net.specs.Connections.{is_est}
 use Rattle.fws_net.specs.Routes.{exit_at}
 use Rattle.fws_net.specs.Transits.{with_verdict, with_dst, with_tracked_dst, has_tag, entered, onwards, outcome_of}
 use Rattle.fws_ifcl.specs.declared.diagram.Stage.{Stage}
+use Rattle.fws_ifcl.specs.declared.step.ChainEnd.{ChainEnd}
 use Rattle.fws_ifcl.specs.Walk.{chain_walk, stage_end, stage_walk, stages_walk, means}
 use Rattle.fws_draw.specs.Places.{WalksGoByPlaces}
 use Rattle.fws_ipfw.specs.declared.config.IpfwAct.{IpfwAct}
@@ -27,15 +28,17 @@ use Rattle.fws_ipfw.specs.declared.config.Redirect.{Redirect}
 use Rattle.fws_ipfw.specs.declared.pass.Pass.{Pass}
 use Rattle.fws_ipfw.specs.Soundness.{nat_fits}
 use Rattle.fws_ipfw.specs.Walk.{view_on, redirect_in, translated_by, tracked_on, nat_numbered, translated, ended, tagged, behind, step_of, stepped, rules_walk, pass_walk, walk}
-use Rattle.fws_ipfw_ifcl.specs.Diagram.{chains_of, pass_stage, destination_stage, diagram_of}
+use Rattle.fws_ipfw_ifcl.specs.Diagram.{all_rules, chains_of, pass_stage, destination_stage, diagram_of}
 use Rattle.fws_ipfw_ifcl.specs.Fitting.{IsDrawable}
-use Rattle.fws_ipfw_ifcl.proofs.Acting.{left_by, in_half}
-use Rattle.fws_ipfw_ifcl.proofs.Halves.{pass_drawn}
+use Rattle.fws_ipfw_ifcl.proofs.Acting.{in_half}
+use Rattle.fws_ipfw_ifcl.proofs.Courses.{run}
+use Rattle.fws_ipfw_ifcl.proofs.Halves.{none_heard, pass_drawn}
+use Rattle.fws_ipfw_ifcl.proofs.Left.{course, left_by, pass_left}
 
 -- A pass keeps the verdict
 
 -- the verdict where a pass ends accepted
-abbrev Keeps : Bool → Option Transit → Type 0
+abbrev pub Keeps : Bool → Option Transit → Type 0
 Keeps v None = Unit {0}
 Keeps v (Some t) = t.verdict ≡ v
 
@@ -110,7 +113,7 @@ module _ (c : IpfwConfig) (site : Site) (p : Packet) (outward v : Bool) where
       behind_keeps go on site.one_pass (translated p k outward (nat_numbered n c.nats) m) (translated_keeps v p k outward (nat_numbered n c.nats) m is)
 
   -- rules
-  rules_keep : (k : Kind) (rs : List IpfwRule) (to : ℕ) (m : Pass) → m.transit.verdict ≡ v → Keeps v (rules_walk c site p k outward rs to m)
+  pub rules_keep : (k : Kind) (rs : List IpfwRule) (to : ℕ) (m : Pass) → m.transit.verdict ≡ v → Keeps v (rules_walk c site p k outward rs to m)
   rules_keep k [] to m is = tt
   rules_keep k (r ∷ rs) to m is =
       let go = rules_walk c site p k outward rs in
@@ -137,29 +140,39 @@ all_of : (o : Option Transit) → option_and_then (λ t. Some t) o ≡ o
 all_of None = refl
 all_of (Some t) = refl
 
-module _ (law : WalksGoByPlaces) (site : Site) (c : IpfwConfig) (fits : list_all nat_fits c.nats ≡ true) (p : Packet) (k : Kind) where
+-- a pass through all rules
+pass_is : (law : WalksGoByPlaces) (enter : ℕ → Transit → ChainEnd) (site : Site) (p : Packet) (k : Kind) (outward : Bool) (c : IpfwConfig) → list_all nat_fits c.nats ≡ true
+    → (t : Transit) → run (course law enter site p k outward c) 0 t ≡ left_by (pass_walk c site p k outward t)
+pass_is law enter site p k outward c fits t =
+    pass_drawn k outward (course law enter site p k outward c) c fits [] (none_heard c.rules) (record { rest = []; are = sym (append-nil (all_rules site c)) }) t
+    ∙ pass_left law enter site p k outward c c.rules [] 0 (in_half false t)
+
+-- the diagram of one configuration, of which passes are those of another one
+module _ (law : WalksGoByPlaces) (site : Site) (c other : IpfwConfig) (fits : list_all nat_fits c.nats ≡ true) (p : Packet) (k : Kind)
+    (same_pass : (outward : Bool) (t : Transit) → pass_walk c site p k outward t ≡ pass_walk other site p k outward t) where
   abbrev drawn : List Stage → Transit → Option Transit
   drawn stages t = stages_walk (chains_of site c) site p k stages t
 
   -- a stage begins with its own verdict
-  stage_passes : (outward : Bool) (t : Transit) → t.verdict ≡ true → stage_walk (chains_of site c) site p k (pass_stage outward) t ≡ pass_walk c site p k outward t
+  stage_passes : (outward : Bool) (t : Transit) → t.verdict ≡ true → stage_walk (chains_of site c) site p k (pass_stage outward) t ≡ pass_walk other site p k outward t
   stage_passes outward t is =
       let same : with_verdict true t ≡ t = ap (λ v. with_verdict v t) (sym is) in
       ap (λ u. stage_walk (chains_of site c) site p k (pass_stage outward) u) (sym same)
-      ∙ ap stage_end (pass_drawn law (chain_walk (chains_of site c) site p k (pass_stage outward) 1 (0 ∷ [])) site p k outward c fits (with_verdict true t))
+      ∙ ap stage_end (pass_is law (chain_walk (chains_of site c) site p k (pass_stage outward) 1 (0 ∷ [])) site p k outward c fits (with_verdict true t))
       ∙ left_whole (pass_walk c site p k outward (with_verdict true t))
-      ∙ ap (pass_walk c site p k outward) same
+      ∙ same_pass outward (with_verdict true t)
+      ∙ ap (pass_walk other site p k outward) same
 
   -- one stage alone
-  passes : (outward : Bool) (t : Transit) → t.verdict ≡ true → drawn (pass_stage outward ∷ []) t ≡ pass_walk c site p k outward t
+  pub passes : (outward : Bool) (t : Transit) → t.verdict ≡ true → drawn (pass_stage outward ∷ []) t ≡ pass_walk other site p k outward t
   passes outward t is = all_of (stage_walk (chains_of site c) site p k (pass_stage outward) t) ∙ stage_passes outward t is
 
   -- the host's own packets
-  sent : drawn (destination_stage ∷ pass_stage true ∷ []) (entered p) ≡ pass_walk c site p k true (with_tracked_dst k (entered p))
+  sent : drawn (destination_stage ∷ pass_stage true ∷ []) (entered p) ≡ pass_walk other site p k true (with_tracked_dst k (entered p))
   sent = passes true (with_tracked_dst k (entered p)) refl
 
   -- behind routing
-  routed : (e : Exit) (t : Transit) → t.verdict ≡ true → onwards (drawn []) (drawn (pass_stage true ∷ [])) e t ≡ onwards Some (pass_walk c site p k true) e t
+  routed : (e : Exit) (t : Transit) → t.verdict ≡ true → onwards (drawn []) (drawn (pass_stage true ∷ [])) e t ≡ onwards Some (pass_walk other site p k true) e t
   routed Deliver t is = refl
   routed (Out entry) t is = passes true t is
   routed Lost t is = refl
@@ -167,16 +180,16 @@ module _ (law : WalksGoByPlaces) (site : Site) (c : IpfwConfig) (fits : list_all
   -- behind routing, where the packet comes to it
   routed_all : (o : Option Transit) → Keeps true o
       → option_and_then (λ t. onwards (drawn []) (drawn (pass_stage true ∷ [])) (exit_at site p.entry t.packet.dst) t) o
-      ≡ option_and_then (λ t. onwards Some (pass_walk c site p k true) (exit_at site p.entry t.packet.dst) t) o
+      ≡ option_and_then (λ t. onwards Some (pass_walk other site p k true) (exit_at site p.entry t.packet.dst) t) o
   routed_all None keeps = refl
   routed_all (Some t) keeps = routed (exit_at site p.entry t.packet.dst) t keeps
 
   -- a packet that arrives
   arrived : option_and_then (λ t. onwards (drawn []) (drawn (pass_stage true ∷ [])) (exit_at site p.entry t.packet.dst) t) (drawn (pass_stage false ∷ []) (entered p))
-      ≡ option_and_then (λ t. onwards Some (pass_walk c site p k true) (exit_at site p.entry t.packet.dst) t) (pass_walk c site p k false (entered p))
+      ≡ option_and_then (λ t. onwards Some (pass_walk other site p k true) (exit_at site p.entry t.packet.dst) t) (pass_walk other site p k false (entered p))
   arrived =
       ap (option_and_then (λ t. onwards (drawn []) (drawn (pass_stage true ∷ [])) (exit_at site p.entry t.packet.dst) t)) (passes false (entered p) refl)
-      ∙ routed_all (pass_walk c site p k false (entered p)) (rules_keep c site p false true k c.rules 0 (in_half false (entered p)) refl)
+      ∙ routed_all (pass_walk other site p k false (entered p)) (rules_keep other site p false true k other.rules 0 (in_half false (entered p)) refl)
 
   -- a test in front of two ways
   two_ways : (b : Bool) (a d e f : Option Transit) → a ≡ e → d ≡ f → cond b a d ≡ cond b e f
@@ -184,9 +197,9 @@ module _ (law : WalksGoByPlaces) (site : Site) (c : IpfwConfig) (fits : list_all
   two_ways false a d e f first second = second
 
   -- every packet
-  pub means_kept : means (diagram_of site c) site p k ≡ walk c site p k
+  pub means_kept : means (diagram_of site c) site p k ≡ walk other site p k
   means_kept = ap (outcome_of k) (two_ways (nat_eq p.entry 0) _ _ _ _ sent arrived)
 
 -- what the diagram says of a packet is what becomes of it
 pub keeps_walks : (law : WalksGoByPlaces) (site : Site) (c : IpfwConfig) → IsDrawable c → (p : Packet) (k : Kind) → means (diagram_of site c) site p k ≡ walk c site p k
-keeps_walks law site c drawable p k = means_kept law site c drawable.fitting p k
+keeps_walks law site c drawable p k = means_kept law site c c drawable.fitting p k (λ outward t. refl)

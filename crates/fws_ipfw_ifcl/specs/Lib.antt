@@ -1,4 +1,5 @@
 pub mod Blocks
 pub mod Diagram
 pub mod Fitting
+pub mod Placed
 pub mod Translating

@@ -6,22 +6,28 @@ ghost use Rattle.fws_net.specs.declared.connection.Kind.{Kind};
 ghost use Rattle.fws_net.specs.declared.packet.Packet.{Packet};
 ghost use Rattle.fws_ifcl.specs.Refusals.{refusal_of};
 ghost use Rattle.fws_ifcl.specs.Soundness.{ifcl_ok};
+ghost use Rattle.fws_ifcl.specs.Spots.{are_spots_of, told};
+ghost use Rattle.fws_ifcl.specs.Uses.{used_places};
 ghost use Rattle.fws_ifcl.specs.Walk.{means};
 ghost use Rattle.fws_draw.specs.Straight.{is_straight};
 ghost use Rattle.fws_ipfw.specs.Soundness.{are_apart, are_ordered};
+ghost use Rattle.fws_ipfw.specs.Uses.{used};
 ghost use Rattle.fws_ipfw.specs.Walk.{walk};
 ghost use Rattle.fws_ipfw_ifcl.specs.Blocks.{place_behind, starts_from};
 ghost use Rattle.fws_ipfw_ifcl.specs.Diagram.{all_rules, chains_of, diagram_of, ending, ending_place, goes_on, half, half_place, pass_stage, destination_stage, second_half, second_place, translates};
 ghost use Rattle.fws_ipfw_ifcl.specs.Fitting.{IsDrawable};
+ghost use Rattle.fws_ipfw_ifcl.specs.Placed.{with_counts};
 
 use crate::blocks::{Leads, put_block};
+use crate::counts::with_counts;
 use crate::instances::Instances;
 use crate::layout::{skipping_to, starts_from};
+use crate::spots::spots_of;
 use fws_draw::{
     always, put_always, ruled_by, rules_are_right_by_parts, straight_diagrams_unfold, sum,
-    walks_go_by_places,
+    uses_are_told_by_places, walks_go_by_places,
 };
-use fws_ifcl::{Act, Chain, Ifcl, Rule, Stage};
+use fws_ifcl::{Act, Chain, Ifcl, Rule, Spot, Stage};
 use fws_ipfw::{IpfwAct, IpfwConfig, IpfwRule};
 use fws_net::{Site, Test};
 use fws_num::{Items, Memory, Text};
@@ -55,19 +61,21 @@ fn goes_on(site: &Site, c: &IpfwConfig) -> bool
 
 /// Where the halves of a diagram's rules stand.
 #[derive(Drop)]
-struct Layout {
+pub(crate) struct Layout {
     /// Where the rules of each rule begin in the first half, and the place behind them.
     first: Vec<usize>,
     /// The same of the second half, or where it would stand.
     second: Vec<usize>,
+    /// The place of the second half, or where it would stand.
+    pub(crate) begin: usize,
     /// Whether there is a second half.
-    goes_on: bool,
+    pub(crate) goes_on: bool,
     /// The place of the rules that end a pass.
     ends: usize,
 }
 
 /// The layout of a configuration's diagram. An error is want of memory.
-fn laid_out(
+pub(crate) fn laid_out(
     alloc: Global,
     instances: &Instances,
     c: &IpfwConfig,
@@ -78,6 +86,7 @@ fn laid_out(
     ensures second_count { IfOk result (λ l. length l.second.items ≡ length c.now.rules + 1) }
     ensures first { IfOk result (λ l. l.first.items ≡ starts_from c.now.nats false 0 c.now.rules) }
     ensures second { IfOk result (λ l. l.second.items ≡ starts_from c.now.nats true (second_place c.now) c.now.rules) }
+    ensures begin { IfOk result (λ l. l.begin ≡ second_place c.now) }
     ensures goes_on { IfOk result (λ l. l.goes_on ≡ goes_on site.now c.now) }
     ensures ends { IfOk result (λ l. l.ends ≡ ending_place site.now c.now) }
 {
@@ -93,6 +102,7 @@ fn laid_out(
     Ok(Layout {
         first,
         second,
+        begin,
         goes_on,
         ends,
     })
@@ -296,4 +306,30 @@ pub fn to_ifcl(alloc: Global, c: &IpfwConfig, site: &Site) -> Result<Ifcl, Memor
     straight_diagrams_unfold();
     let d = drawn(alloc, c, site)?;
     Ok(d)
+}
+
+/// A control diagram of a configuration on a site, and where the configuration's rules stand in it. It does with each
+/// packet what the configuration does, as the diagram of `to_ifcl` does, and the rules whose places a packet's walk uses
+/// are those that the configuration's walk uses, as often and in the same order. So ahead of a rule that keeps state or
+/// checks it one is drawn that has its condition and does nothing: packets of connections pass at the rules behind it by
+/// other conditions. A rule has one place in each half: in the one for packets that weren't translated in their pass,
+/// and in the other, where there is one. The rules are counted from 0, as they stand. An error is want of memory, or of
+/// numbers for rules. Linear in the rules and in the redirects of the instances that they name.
+pub fn places(alloc: Global, c: &IpfwConfig, site: &Site) -> Result<(Ifcl, Vec<Spot>), Memory>
+    requires { IsDrawable c.now }
+    ensures ok { IfOk result (λ x. ifcl_ok x.0 ≡ true) }
+    ensures means { IfOk result (λ x. (p : Packet) (k : Kind) → means x.0 site.now p k ≡ walk c.now site.now p k) }
+    ensures straight { IfOk result (λ x. is_straight x.0 ≡ true) }
+    ensures unfolds { IfOk result (λ x. refusal_of x.0 ≡ None) }
+    ensures spots { IfOk result (λ x. are_spots_of x.0 (length c.now.rules) x.1.items ≡ true) }
+    ensures uses { IfOk result (λ x. (p : Packet) (k : Kind) → told x.1.items (used_places x.0 site.now p k) ≡ used c.now site.now p k) }
+{
+    walks_go_by_places();
+    rules_are_right_by_parts();
+    straight_diagrams_unfold();
+    uses_are_told_by_places();
+    let counted = with_counts(alloc, c)?;
+    let d = drawn(alloc, &counted, site)?;
+    let spots = spots_of(alloc, c, &counted, site)?;
+    Ok((d, spots))
 }

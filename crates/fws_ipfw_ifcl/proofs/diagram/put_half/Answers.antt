@@ -1,7 +1,7 @@
 use Rattle.std.proofs.Common.{rules, ◌≡◌, true, ◌+◌, ◌<◌, ◌++◌, length, get_or, slice_index, drop, arith, sym, ap, ◌∙◌}
 use Rattle.fws_ipfw_ifcl.specs.Blocks.{starts_from, place_behind, skipping_to, block}
 use Rattle.fws_ipfw_ifcl.specs.Diagram.{half_place, second_place, ending_place}
-use Rattle.fws_ipfw_ifcl.proofs.Places.{left_first, here_first, half_step}
+use Rattle.fws_ipfw_ifcl.proofs.Starts.{left_first, here_first, half_step}
 use Rattle.fws_ipfw_ifcl.proofs.diagram.put_half.Goals as goal
 
 pub loop-k-init : goal.loop-k-init

@@ -1,7 +1,7 @@
 use Rattle.std.proofs.Common.{◌≡◌, ◌≤◌, ◌++◌, length, slice_index}
 use Rattle.fws_ipfw_ifcl.specs.Blocks.{starts_from}
 use Rattle.fws_ipfw_ifcl.specs.Diagram.{half, half_place, second_place, ending_place}
-use Rattle.fws_ipfw_ifcl.proofs.Places.{Left}
+use Rattle.fws_ipfw_ifcl.proofs.Starts.{Left}
 use Rattle.fws_ipfw_ifcl.proofs.diagram.put_half.Given as goal
 
 abbrev pub invariant-loop-k : goal.invariant-loop-k

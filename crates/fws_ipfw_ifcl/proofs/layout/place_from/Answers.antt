@@ -1,6 +1,6 @@
 use Rattle.std.proofs.Common.{◌≡◌, max, slice_index, drop, sym, ap, subst, ◌∙◌}
 use Rattle.fws_ipfw_ifcl.specs.Blocks.{place_from}
-use Rattle.fws_ipfw_ifcl.proofs.Places.{placed, never_fall}
+use Rattle.fws_ipfw_ifcl.proofs.Starts.{placed, never_fall}
 use Rattle.fws_ipfw_ifcl.proofs.layout.place_from.Goals as goal
 
 pub count_below-requires : goal.count_below-requires

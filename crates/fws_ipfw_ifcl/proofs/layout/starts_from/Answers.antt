@@ -1,5 +1,5 @@
 use Rattle.std.proofs.Common.{length, slice_index, ap, ◌∙◌}
-use Rattle.fws_ipfw_ifcl.proofs.Places.{starts_count, starts_last}
+use Rattle.fws_ipfw_ifcl.proofs.Starts.{starts_count, starts_last}
 use Rattle.fws_ipfw_ifcl.proofs.layout.starts_from.Goals as goal
 
 pub returns-clause-count : goal.returns-clause-count
