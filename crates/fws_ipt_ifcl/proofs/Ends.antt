@@ -42,7 +42,7 @@ use Rattle.fws_ipt_ifcl.proofs.Writes.{between, apart, entries_hit, entries_miss
 
 -- Sending interfaces
 
-abbrev IsEntry : Site → ℕ → Type 0
+abbrev pub IsEntry : Site → ℕ → Type 0
 IsEntry site e = (1 ≤ e) × (e ≤ length site.faces + 1)
 
 same_some : (x e : ℕ) → Some x ≡ Some e → x ≡ e
@@ -59,7 +59,7 @@ entry_of site false true c r e within is = absurd (none_some e is)
 entry_of site false false true r e within is = subst (IsEntry site) (same_some r e is) within
 entry_of site false false false r e within is = absurd (none_some e is)
 
-sent_within : (site : Site) → IsSound site → RoutesAreEntries → (p : Packet) (e : ℕ) → sending site p ≡ Some e → IsEntry site e
+pub sent_within : (site : Site) → IsSound site → RoutesAreEntries → (p : Packet) (e : ℕ) → sending site p ≡ Some e → IsEntry site e
 sent_within site sound entries p e is =
     let route : (2 ≤ route_of site p.dst) × (route_of site p.dst ≤ length site.faces + 1) = entries site p.dst sound in
     let low : 1 ≤ route_of site p.dst = omega (arith, route.0) in
@@ -70,6 +70,11 @@ written_both : (site : Site) (p : Packet) (stage : Stage) (rules more : List Rul
     → written_by site p New stage (rules ++ more) t ≡ written_by site p New stage more (written_by site p New stage rules t)
 written_both site p stage [] more t = refl
 written_both site p stage (r ∷ rs) more t = written_both site p stage rs more _
+
+-- what is sent by an interface is so where its source is written
+pub still_sent : (site : Site) (p : Packet) (m : Passage) → Stands New p m → (x : ℕ) → sending site m.packet ≡ Some x
+    → sending site (with_src p (host_end (face_addr site x) None) m).packet ≡ Some x
+still_sent site p m stands x sent = ap (sending site) (sym stands) ∙ sent
 
 module _ (site : Site) (sound : IsSound site) (entries : RoutesAreEntries) (p : Packet) (n : ℕ) (accepts : Bool) where
   abbrev there : Hook → Stage
@@ -113,12 +118,19 @@ module _ (site : Site) (sound : IsSound site) (entries : RoutesAreEntries) (p : 
 
   -- MASQUERADE
 
-  -- the rules for entries, where a sending interface is shown
-  masquerade_writes : (m : Passage) → Stands New p m → (x : ℕ) → sending site m.packet ≡ Some x → IsEntry site x
+  -- the rules for entries, where no sending interface is shown
+  pub masquerade_none : (hook : Hook) (m : Passage) → (sees site New (there hook) (shown accepts m)).xmit ≡ None
+      → written_by site p New (there hook) (masquerading site) (shown accepts m) ≡ shown accepts m
+  masquerade_none hook m none =
+      let act : ℕ → Act = λ entry. Src (host_end (face_addr site entry) None) in
+      entries_missed site p New (there hook) Xmit act 1 (length site.faces + 1) (shown accepts m) (λ e le. ap (λ o. is_shown o (one e e) && true) none)
+
+  -- and where one is
+  pub masquerade_writes : (m : Passage) → Stands New p m → (x : ℕ) → sending site m.packet ≡ Some x → IsEntry site x
       → written_by site p New (there Postrouting) (masquerading site) (shown accepts m) ≡ shown accepts (with_src p (host_end (face_addr site x) None) m)
   masquerade_writes m stands x sent (low, high) =
       let act : ℕ → Act = λ entry. Src (host_end (face_addr site entry) None) in
-      let still : sending site (with_src p (host_end (face_addr site x) None) m).packet ≡ Some x = ap (sending site) (sym stands) ∙ sent in
+      let still : sending site (with_src p (host_end (face_addr site x) None) m).packet ≡ Some x = still_sent site p m stands x sent in
       entries_hit site p New (there Postrouting) Xmit act x 1 (length site.faces + 1) (shown accepts m) low (omega (arith, high))
       (ap (λ o. is_shown o (one x x) && true) sent ∙ ap (λ b. b && true) (between x x x (omega arith) (omega arith)))
       (λ e other. ap (λ o. is_shown o (one e e) && true) sent ∙ ap (λ b. b && true) (apart e x other))

@@ -30,16 +30,17 @@ use Rattle.fws_ipt.specs.declared.hook.Hook.TheVariants.{Output}
 use Rattle.fws_ipt.specs.declared.passage.Passage.{Passage}
 use Rattle.fws_ipt.specs.declared.passage.ChainEnd.{ChainEnd as IptEnd}
 use Rattle.fws_ipt.specs.declared.passage.ChainEnd.TheVariants as ends
-use Rattle.fws_ipt.specs.Loops.{NoLoop, NamesChains, WalksStandStill}
 use Rattle.fws_ipt.specs.Refusals.{head_width}
 use Rattle.fws_ipt.specs.Soundness.{fits, chain_fits}
 use Rattle.fws_ipt.specs.Walk.{is_table, by_policy, rules_at as ipt_rules_at, rules_walk as ipt_rules, chain_walk as ipt_chain}
+use Rattle.fws_ipt_ifcl.specs.declared.side.SideTest.{SideTest}
 use Rattle.fws_ipt_ifcl.specs.Diagram.{own_chains, headed, unfolded_all, chain_for, is_on_source}
 use Rattle.fws_ipt_ifcl.specs.Fitting.{has_sideless_rules, is_netmap, has_netmaps_placed}
 use Rattle.fws_ipt_ifcl.proofs.RulesMet.{rules_met}
-use Rattle.fws_ipt_ifcl.proofs.Files.{all_at, all_contained, any_moved, file_rules, Suits, named_suits}
+use Rattle.fws_ipt_ifcl.proofs.Files.{all_at, all_contained, any_moved, file_rules, Suits, user_within, named_user, named_suits}
 use Rattle.fws_ipt_ifcl.proofs.Guarding.{first_rule}
-use Rattle.fws_ipt_ifcl.proofs.Scenes.{shown, shown_end, met, is_place, branch}
+use Rattle.fws_ipt_ifcl.proofs.Rooms.{HasRoom, begins, one_more, all_passed}
+use Rattle.fws_ipt_ifcl.proofs.Scenes.{shown, shown_end, met, is_place}
 use Rattle.fws_ipt_ifcl.proofs.Standing.{Stands, StandsAt, all_stand}
 
 isnt : (b : Bool) → not b ≡ true → b ≡ true → ⊥
@@ -73,23 +74,28 @@ ended false (ends.Accepted m) = refl
 ended false ends.Dropped = refl
 ended false (ends.Through m) = refl
 
-module _ (site : Site) (sound : IsSound site) (entries : RoutesAreEntries) (p : Packet) (of_site : p.entry ≤ length site.faces + 1)
+-- a chain that is on the path drops, in both walks
+passed_or : (accepts b same : Bool) → b ≡ same → (x : ChainEnd) (y : IptEnd) → (same ≡ false → x ≡ shown_end accepts y) → cond b Dropped x ≡ shown_end accepts (cond same ends.Dropped y)
+passed_or accepts b true is x y on = ap (λ c. cond c Dropped x) is
+passed_or accepts b false is x y on = ap (λ c. cond c Dropped x) is ∙ on refl
+
+module _ (asks : SideTest) (site : Site) (sound : IsSound site) (entries : RoutesAreEntries) (p : Packet) (of_site : p.entry ≤ length site.faces + 1)
     (table : IptTable) (hook : Hook) (k : Kind) (place : is_place table hook ≡ true) (own : hook ≡ Output → nat_eq p.entry 0 ≡ true)
     (new : is_table Nat table ≡ true → is_est k ≡ false)
     (chains : List IptChain) (fit : list_all (chain_fits chains) chains ≡ true) (plain : list_all has_sideless_rules chains ≡ true)
     (netmaps : list_all has_netmaps_placed chains ≡ true) (number : ℕ) (accepts : Bool) where
   abbrev drawn : List Chain
-  drawn = own_chains ++ map (chain_for site) chains
+  drawn = own_chains ++ map (chain_for asks site) chains
 
   abbrev there : Stage
   there = met number accepts table hook
 
   -- a chain's rules, where the chains that they name are entered alike
   chain_rules_met : (enter : ℕ → Transit → ChainEnd) (enter_too : ℕ → Passage → IptEnd)
-      → ((d : ℕ) (m : Passage) → Suits chains table hook d → Stands k p m → enter (d + 3) (shown accepts m) ≡ shown_end accepts (enter_too d m))
+      → ((d : ℕ) (m : Passage) → Suits chains table hook d → d < length chains → Stands k p m → enter (d + 3) (shown accepts m) ≡ shown_end accepts (enter_too d m))
       → ((d : ℕ) (m : Passage) → Stands k p m → StandsAt k p (enter_too d m))
       → (c : ℕ) → Suits chains table hook c → (o : Option IptChain) → slice_get chains c ≡ o → (m : Passage) → Stands k p m
-      → rules_walk enter site p k there 0 (option_map_or (λ (chain : Chain). chain.rules) (option_map (chain_for site) o) []) 0 (shown accepts m)
+      → rules_walk enter site p k there 0 (option_map_or (λ (chain : Chain). chain.rules) (option_map (chain_for asks site) o) []) 0 (shown accepts m)
       ≡ shown_end accepts (ipt_rules enter_too site p (is_est k) hook (option_map_or (λ (chain : IptChain). chain.rules) o []) m)
   chain_rules_met enter enter_too ent behind c suits None is m stands = refl
   chain_rules_met enter enter_too ent behind c suits (Some chain) is m stands =
@@ -99,36 +105,48 @@ module _ (site : Site) (sound : IsSound site) (entries : RoutesAreEntries) (p : 
       let new_here : is_table Nat chain.table ≡ true → is_est k ≡ false = subst (λ t. is_table Nat t ≡ true → is_est k ≡ false) suited.0 new in
       let on_source = is_on_source chain.name in
       let at = head_width chain.table chain.policy in
-      head_met enter site p k there chain.table chain.policy (unfolded_all site on_source at chain.rules) (shown accepts m) new_here
-      ∙ rules_met site sound entries p of_site hook own number accepts enter enter_too chains table k on_source new place behind chain.rules chain_fit
+      head_met enter site p k there chain.table chain.policy (unfolded_all asks site on_source at chain.rules) (shown accepts m) new_here
+      ∙ rules_met site sound entries p of_site hook own number accepts enter enter_too asks chains table k on_source new place behind chain.rules chain_fit
       (all_at has_sideless_rules chains c chain plain is)
       (λ rule there_is netmap. suited.1 (placed chain rule (all_at has_netmaps_placed chains c chain netmaps is) there_is netmap))
       (λ rule there_is d names m stands.
-      ent d m (named_suits chains table hook rule.go d names (all_contained (λ (rule : IptRule). fits table chains rule.go) chain.rules rule chain_fit there_is)) stands)
+      let fitting = all_contained (λ (rule : IptRule). fits table chains rule.go) chain.rules rule chain_fit there_is in
+      ent d m (named_suits chains table hook rule.go d names fitting) (user_within table chains d (named_user chains table rule.go d names fitting)) stands)
       at m stands
 
-  -- a chain that is entered
-  pub chain_met : (n : ℕ) (path : List ℕ) (c : ℕ) → Suits chains table hook c → (m : Passage) → Stands k p m
-      → chain_walk drawn site p k there n (map (λ q. q + 3) path) (c + 3) (shown accepts m)
+  -- a chain that is entered, where both walks have room for what they may enter
+  pub chain_met : (n more : ℕ) (path : List ℕ) (c : ℕ) → Suits chains table hook c → c < length chains → HasRoom (length chains) path n → HasRoom (length chains) path more
+      → (m : Passage) → Stands k p m
+      → chain_walk drawn site p k there more (map (λ q. q + 3) path) (c + 3) (shown accepts m)
       ≡ shown_end accepts (ipt_chain chains site p (is_est k) hook n path c m)
-  chain_met zero path c suits m stands = refl
-  chain_met (suc n) path c suits m stands =
-      let enter : ℕ → Transit → ChainEnd = chain_walk drawn site p k there n (map (λ q. q + 3) (c ∷ path)) in
+  chain_met zero zero path c suits lt has has_more m stands = refl
+  chain_met zero (suc more) path c suits lt has has_more m stands =
+      ap (λ b. cond b Dropped (rules_walk (chain_walk drawn site p k there more (map (λ q. q + 3) (c ∷ path))) site p k there 0 (rules_at drawn (c + 3)) 0 (shown accepts m)))
+      (any_moved c path ∙ all_passed (length chains) path c has lt)
+  chain_met (suc n) zero path c suits lt has has_more m stands =
+      ap (λ b. shown_end accepts (cond b ends.Dropped (ipt_rules (ipt_chain chains site p (is_est k) hook n (c ∷ path)) site p (is_est k) hook (ipt_rules_at chains c) m)))
+      (sym (all_passed (length chains) path c has_more lt))
+  chain_met (suc n) (suc more) path c suits lt has has_more m stands =
+      let enter : ℕ → Transit → ChainEnd = chain_walk drawn site p k there more (map (λ q. q + 3) (c ∷ path)) in
       let enter_too : ℕ → Passage → IptEnd = ipt_chain chains site p (is_est k) hook n (c ∷ path) in
-      branch accepts (list_any (nat_eq (c + 3)) (map (λ q. q + 3) path)) (list_any (nat_eq c) path) (any_moved c path)
-      Dropped (rules_walk enter site p k there 0 (rules_at drawn (c + 3)) 0 (shown accepts m)) ends.Dropped (ipt_rules enter_too site p (is_est k) hook (ipt_rules_at chains c) m) refl
-      (ap (λ rules. rules_walk enter site p k there 0 rules 0 (shown accepts m)) (file_rules site chains c)
-      ∙ chain_rules_met enter enter_too (λ d m suits stands. chain_met n (c ∷ path) d suits m stands)
+      passed_or accepts (list_any (nat_eq (c + 3)) (map (λ q. q + 3) path)) (list_any (nat_eq c) path) (any_moved c path)
+      (rules_walk enter site p k there 0 (rules_at drawn (c + 3)) 0 (shown accepts m)) (ipt_rules enter_too site p (is_est k) hook (ipt_rules_at chains c) m)
+      (λ off. ap (λ rules. rules_walk enter site p k there 0 rules 0 (shown accepts m)) (file_rules asks site chains c)
+      ∙ chain_rules_met enter enter_too
+      (λ d m suits within stands. chain_met n more (c ∷ path) d suits within (one_more (length chains) path n c has lt off) (one_more (length chains) path more c has_more lt off) m stands)
       (λ d m stands. all_stand k site p hook chains n (c ∷ path) d m stands) c suits (slice_get chains c) refl m stands)
 
-  -- a stage at a chain of the file, where no chain reaches itself
-  pub stage_met : WalksStandStill → NoLoop chains → NamesChains chains → 0 < length chains → (c : ℕ) → Suits chains table hook c → number ≡ c + 3
+  pub drawn_more : length chains ≤ length drawn
+  drawn_more =
+      let more : length drawn ≡ 3 + length chains = length-append own_chains (map (chain_for asks site) chains) ∙ ap (λ n. 3 + n) (length-map chains (chain_for asks site)) in
+      omega (arith, more)
+
+  -- a stage at a chain of the file
+  pub stage_met : (c : ℕ) → Suits chains table hook c → c < length chains → number ≡ c + 3
       → (v : Bool) (m : Passage) → Stands k p m
       → stage_walk drawn site p k there (shown v m)
       ≡ option_map (shown accepts) (by_policy accepts (ipt_chain chains site p (is_est k) hook (length chains) [] c m))
-  stage_met still none known some c suits is v m stands =
-      let more : length drawn ≡ 3 + length chains = length-append own_chains (map (chain_for site) chains) ∙ ap (λ n. 3 + n) (length-map chains (chain_for site)) in
+  stage_met c suits lt is v m stands =
       ap (λ c. stage_end (chain_walk drawn site p k there (length drawn) [] c (shown accepts m))) is
-      ∙ ap stage_end (chain_met (length drawn) [] c suits m stands)
-      ∙ ap (λ end. stage_end (shown_end accepts end)) (still chains site p (is_est k) hook none known some (length drawn) c m (omega (arith, more)))
+      ∙ ap stage_end (chain_met (length chains) (length drawn) [] c suits lt (begins (length chains) (length chains) (omega arith)) (begins (length chains) (length drawn) drawn_more) m stands)
       ∙ ended accepts (ipt_chain chains site p (is_est k) hook (length chains) [] c m)

@@ -18,6 +18,7 @@ use Rattle.fws_ipt.specs.declared.hook.Hook.TheVariants.{Prerouting, Input, Forw
 use Rattle.fws_ipt.specs.Refusals.{named_by}
 use Rattle.fws_ipt.specs.Soundness.{is_user_chain, fits}
 use Rattle.fws_ipt.specs.Walk.{is_table, hook_name, stands_at, builtin_from, writes_src_at}
+use Rattle.fws_ipt_ifcl.specs.declared.side.SideTest.{SideTest}
 use Rattle.fws_ipt_ifcl.specs.Diagram.{own_chains, chain_for, is_on_source}
 
 -- Lists
@@ -55,15 +56,15 @@ any_moved c (q ∷ path) =
     ap (λ b. b || list_any (nat_eq (c + 3)) (map (λ q. q + 3) path)) (nat_moved c q) ∙ ap (λ b. nat_eq c q || b) (any_moved c path)
 
 -- the diagram's chain behind its own
-pub file_chain : (site : Site) (chains : List IptChain) (c : ℕ)
-    → slice_get (own_chains ++ map (chain_for site) chains) (c + 3) ≡ option_map (chain_for site) (slice_get chains c)
-file_chain site chains c =
+pub file_chain : (asks : SideTest) (site : Site) (chains : List IptChain) (c : ℕ)
+    → slice_get (own_chains ++ map (chain_for asks site) chains) (c + 3) ≡ option_map (chain_for asks site) (slice_get chains c)
+file_chain asks site chains c =
     let behind : c + 3 ≡ suc (suc (suc c)) = omega arith in
-    ap (slice_get (own_chains ++ map (chain_for site) chains)) behind ∙ slice_get-map (chain_for site) chains c
+    ap (slice_get (own_chains ++ map (chain_for asks site) chains)) behind ∙ slice_get-map (chain_for asks site) chains c
 
-pub file_rules : (site : Site) (chains : List IptChain) (c : ℕ)
-    → rules_at (own_chains ++ map (chain_for site) chains) (c + 3) ≡ option_map_or (λ (chain : Chain). chain.rules) (option_map (chain_for site) (slice_get chains c)) []
-file_rules site chains c = ap (λ o. option_map_or (λ (chain : Chain). chain.rules) o []) (file_chain site chains c)
+pub file_rules : (asks : SideTest) (site : Site) (chains : List IptChain) (c : ℕ)
+    → rules_at (own_chains ++ map (chain_for asks site) chains) (c + 3) ≡ option_map_or (λ (chain : Chain). chain.rules) (option_map (chain_for asks site) (slice_get chains c)) []
+file_rules asks site chains c = ap (λ o. option_map_or (λ (chain : Chain). chain.rules) o []) (file_chain asks site chains c)
 
 -- Chains that a stage of a table at a hook may come to
 
@@ -90,10 +91,18 @@ user_suits chains table hook c user chain is =
     let both = and_parts (is_table table chain.table) (is_none chain.policy) at in
     (table_same table chain.table both.0, λ built. absurd (none_or_some chain.policy both.1 built))
 
-named_user : (chains : List IptChain) (table : IptTable) (go : IptGo) (d : ℕ) → named_by go ≡ Some d → fits table chains go ≡ true → is_user_chain table chains d ≡ true
+pub named_user : (chains : List IptChain) (table : IptTable) (go : IptGo) (d : ℕ) → named_by go ≡ Some d → fits table chains go ≡ true → is_user_chain table chains d ≡ true
 named_user chains table (goes.Jump c) d is fit = subst (λ n. is_user_chain table chains n ≡ true) (same_item c d is) fit
 named_user chains table (goes.Goto c) d is fit = subst (λ n. is_user_chain table chains n ≡ true) (same_item c d is) fit
 named_user chains table _ d is fit = absurd (no_item d is)
+
+within_if : (table : IptTable) (chains : List IptChain) (c : ℕ) (o : Option IptChain) → slice_get chains c ≡ o
+    → option_map_or (λ (chain : IptChain). is_table table chain.table && is_none chain.policy) o false ≡ true → c < length chains
+within_if table chains c None is user = absurd (false≢true user)
+within_if table chains c (Some chain) is user = slice_get_within chains c chain is
+
+pub user_within : (table : IptTable) (chains : List IptChain) (c : ℕ) → is_user_chain table chains c ≡ true → c < length chains
+user_within table chains c user = within_if table chains c (slice_get chains c) refl user
 
 -- the chain that a fitting rule names
 pub named_suits : (chains : List IptChain) (table : IptTable) (hook : Hook) (go : IptGo) (d : ℕ) → named_by go ≡ Some d → fits table chains go ≡ true

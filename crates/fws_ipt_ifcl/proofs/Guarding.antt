@@ -70,7 +70,7 @@ module _ (enter : ℕ → Transit → ChainEnd) (site : Site) (p : Packet) (k : 
       let zeroth : nat_lt at 0 ≡ false = le-ltb at 0 (omega arith) in
       cond-false (nat_lt at 0) _ _ zeroth
 
-  write_step : (act : Act) (go : ℕ → Transit → ChainEnd) (t : Transit) → is_write act ≡ true → stepped enter go (step_of p k act t) ≡ go 0 (written p act t)
+  pub write_step : (act : Act) (go : ℕ → Transit → ChainEnd) (t : Transit) → is_write act ≡ true → stepped enter go (step_of p k act t) ≡ go 0 (written p act t)
   write_step (Src e) go t is = refl
   write_step (Dst e) go t is = refl
   write_step _ go t is = absurd (false≢true is)

@@ -15,7 +15,8 @@ use Rattle.fws_ipt.specs.declared.hook.Hook.{Hook}
 use Rattle.fws_ipt.specs.declared.hook.Hook.TheVariants.{Prerouting, Input, Forward, Output, Postrouting}
 use Rattle.fws_ipt.specs.Refusals.{is_builtin}
 use Rattle.fws_ipt.specs.Walk.{builtin_from, arriving, delivered, forwarded, sent_out}
-use Rattle.fws_ipt_ifcl.specs.Diagram.{own_stage, tracked_at, stage_for, builtin_stage, stages_for, diagram_of}
+use Rattle.fws_ipt_ifcl.specs.declared.side.SideTest.{SideTest}
+use Rattle.fws_ipt_ifcl.specs.Diagram.{own_stage, tracked_at, stage_for, builtin_stage, stages_for, drawn_by}
 use Rattle.fws_ipt_ifcl.specs.Fitting.{is_met, AreMet}
 use Rattle.fws_ipt_ifcl.proofs.Files.{nat_moved, built_in, stands_parts}
 use Rattle.fws_ipt_ifcl.proofs.Lists.{any_found, any_same}
@@ -50,8 +51,8 @@ four_same : (a b c d e f g h : Bool) → a ≡ e → b ≡ f → c ≡ g → d �
 four_same a b c d e f g h first second third fourth =
     ap (λ x. x || b || c || d) first ∙ ap (λ x. e || x || c || d) second ∙ ap (λ x. e || f || x || d) third ∙ ap (λ x. e || f || g || x) fourth
 
-staged_whole : (site : Site) (c : IptConfig) (n : ℕ) → is_staged (diagram_of site c) n ≡ whole c.chains n
-staged_whole site c n =
+staged_whole : (asks : SideTest) (site : Site) (c : IptConfig) (n : ℕ) → is_staged (drawn_by asks site c) n ≡ whole c.chains n
+staged_whole asks site c n =
     four_any (is_at n) (own_stage 0 ∷ stages_for c.chains arriving) (stages_for c.chains delivered) (stages_for c.chains forwarded) (own_stage 0 ∷ stages_for c.chains sent_out)
     ∙ four_same (nat_eq n 0 || list_any (is_at n) (stages_for c.chains arriving)) (list_any (is_at n) (stages_for c.chains delivered))
     (list_any (is_at n) (stages_for c.chains forwarded)) (nat_eq n 0 || list_any (is_at n) (stages_for c.chains sent_out))
@@ -62,20 +63,20 @@ staged_whole site c n =
 
 -- The diagram's own chains
 
-pub own_staged : (site : Site) (c : IptConfig) (n : ℕ) → n < 3 → is_staged (diagram_of site c) n ≡ true
-own_staged site c zero lt = staged_whole site c 0
-own_staged site c (suc zero) lt =
+pub own_staged : (asks : SideTest) (site : Site) (c : IptConfig) (n : ℕ) → n < 3 → is_staged (drawn_by asks site c) n ≡ true
+own_staged asks site c zero lt = staged_whole asks site c 0
+own_staged asks site c (suc zero) lt =
     let there : list_any (has_stage c.chains 1) arriving ≡ true = or_right (has_stage c.chains 1 (Mangle, Prerouting)) true refl in
-    staged_whole site c 1
+    staged_whole asks site c 1
     ∙ ap (λ b. (nat_eq 1 0 || b) || list_any (has_stage c.chains 1) delivered || list_any (has_stage c.chains 1) forwarded || (nat_eq 1 0 || list_any (has_stage c.chains 1) sent_out)) there
-own_staged site c (suc (suc zero)) lt =
+own_staged asks site c (suc (suc zero)) lt =
     let there : list_any (has_stage c.chains 2) delivered ≡ true =
     or_right (has_stage c.chains 2 (Mangle, Input)) (has_stage c.chains 2 (Filter, Input) || true) (or_right (has_stage c.chains 2 (Filter, Input)) true refl) in
-    staged_whole site c 2
+    staged_whole asks site c 2
     ∙ or_left (list_any (has_stage c.chains 2) arriving || list_any (has_stage c.chains 2) delivered || list_any (has_stage c.chains 2) forwarded) (list_any (has_stage c.chains 2) sent_out)
     (or_left (list_any (has_stage c.chains 2) arriving || list_any (has_stage c.chains 2) delivered) (list_any (has_stage c.chains 2) forwarded)
     (or_right (list_any (has_stage c.chains 2) arriving) (list_any (has_stage c.chains 2) delivered) there))
-own_staged site c (suc (suc (suc n))) lt = absurd (omega (arith, lt))
+own_staged asks site c (suc (suc (suc n))) lt = absurd (omega (arith, lt))
 
 -- The file's chains
 
@@ -108,12 +109,12 @@ stage_meets : (chains : List IptChain) (n : ℕ) (at : IptTable × Hook) → has
 stage_meets chains n at =
     ap (λ b. b || list_any (is_at (n + 3)) (builtin_stage chains at.0 at.1)) (none_tracked n at.0 at.1) ∙ met_stage chains n at.0 at.1 (builtin_from 0 at.0 at.1 chains)
 
-pub file_staged : (site : Site) (c : IptConfig) (n : ℕ) → is_staged (diagram_of site c) (n + 3) ≡ is_met c.chains n
-file_staged site c n =
+pub file_staged : (asks : SideTest) (site : Site) (c : IptConfig) (n : ℕ) → is_staged (drawn_by asks site c) (n + 3) ≡ is_met c.chains n
+file_staged asks site c n =
     let each : (places : List (IptTable × Hook)) → list_any (has_stage c.chains (n + 3)) places ≡ list_any (meets c.chains n) places =
     any_same (has_stage c.chains (n + 3)) (meets c.chains n) (stage_meets c.chains n) in
     let first : nat_eq (n + 3) 0 ≡ false = other n 0 (omega arith) in
-    staged_whole site c (n + 3)
+    staged_whole asks site c (n + 3)
     ∙ four_same (nat_eq (n + 3) 0 || list_any (has_stage c.chains (n + 3)) arriving) (list_any (has_stage c.chains (n + 3)) delivered)
     (list_any (has_stage c.chains (n + 3)) forwarded) (nat_eq (n + 3) 0 || list_any (has_stage c.chains (n + 3)) sent_out)
     (list_any (meets c.chains n) arriving) (list_any (meets c.chains n) delivered) (list_any (meets c.chains n) forwarded) (list_any (meets c.chains n) sent_out)
@@ -141,5 +142,5 @@ same_truth true b there back = sym (there refl)
 same_truth false true there back = back refl
 same_truth false false there back = refl
 
-pub builtins_staged : (site : Site) (c : IptConfig) → AreMet c.chains → (n : ℕ) → is_staged (diagram_of site c) (n + 3) ≡ is_builtin c.chains n
-builtins_staged site c met n = file_staged site c n ∙ same_truth (is_met c.chains n) (is_builtin c.chains n) (met_builtin c.chains n) (met n)
+pub builtins_staged : (asks : SideTest) (site : Site) (c : IptConfig) → AreMet c.chains → (n : ℕ) → is_staged (drawn_by asks site c) (n + 3) ≡ is_builtin c.chains n
+builtins_staged asks site c met n = file_staged asks site c n ∙ same_truth (is_met c.chains n) (is_builtin c.chains n) (met_builtin c.chains n) (met n)

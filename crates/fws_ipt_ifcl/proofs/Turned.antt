@@ -15,7 +15,8 @@ use Rattle.fws_ipt.specs.declared.config.IptRule.{IptRule}
 use Rattle.fws_ipt.specs.declared.refusal.UnfoldRefusal.TheVariants.{Loop, Deep, Long}
 use Rattle.fws_ipt.specs.Loops.{Reaches, names, names_first, NoLoop, LoopsAreFound, SizesStandStill}
 use Rattle.fws_ipt.specs.Refusals.{named_by, all_named, named_in, reaches, is_looped, begins_path, is_deep, is_builtin, width_at, size_within, size_of, first_chain, loop_of, deep_of, names_any, passed_at, long_of, or_else, refusal_of}
-use Rattle.fws_ipt_ifcl.specs.Diagram.{own_chains, chain_for, diagram_of}
+use Rattle.fws_ipt_ifcl.specs.declared.side.SideTest.{SideTest}
+use Rattle.fws_ipt_ifcl.specs.Diagram.{own_chains, chain_for, drawn_by}
 use Rattle.fws_ipt_ifcl.specs.Fitting.{AreMet}
 use Rattle.fws_ipt_ifcl.specs.Kept.{refused_behind}
 use Rattle.fws_ipt_ifcl.proofs.Files.{nat_moved}
@@ -25,29 +26,29 @@ use Rattle.fws_ipt_ifcl.proofs.Staged.{own_staged, builtins_staged}
 
 -- Paths
 
-module _ (site : Site) (chains : List IptChain) where
+module _ (asks : SideTest) (site : Site) (chains : List IptChain) where
   abbrev drawn : List Chain
-  drawn = own_chains ++ map (chain_for site) chains
+  drawn = own_chains ++ map (chain_for asks site) chains
 
   -- a chain reaches another by as many steps
   reach_moved : (n a b : ℕ) → reaches_there drawn n (a + 3) (b + 3) ≡ reaches chains n a b
   reach_moved zero a b = refl
   reach_moved (suc n) a b =
-      ap (list_any (λ c. nat_eq c (b + 3) || reaches_there drawn n c (b + 3))) (file_calls site chains a)
+      ap (list_any (λ c. nat_eq c (b + 3) || reaches_there drawn n c (b + 3))) (file_calls asks site chains a)
       ∙ any_mapped (λ c. c + 3) (λ c. nat_eq c (b + 3) || reaches_there drawn n c (b + 3)) (λ c. nat_eq c b || reaches chains n c b)
       (λ c. ap (λ x. x || reaches_there drawn n (c + 3) (b + 3)) (nat_moved c b) ∙ ap (λ x. nat_eq c b || x) (reach_moved n c b)) (named_in chains a)
 
   begin_moved : (n a : ℕ) → begins_there drawn n (a + 3) ≡ begins_path chains n a
   begin_moved zero a = refl
   begin_moved (suc n) a =
-      ap (list_any (begins_there drawn n)) (file_calls site chains a)
+      ap (list_any (begins_there drawn n)) (file_calls asks site chains a)
       ∙ any_mapped (λ c. c + 3) (begins_there drawn n) (begins_path chains n) (begin_moved n) (named_in chains a)
 
   size_moved : (n a : ℕ) → sizes_there drawn n (a + 3) ≡ size_within (length site.faces) chains n a
   size_moved zero a = refl
   size_moved (suc n) a =
-      ap (λ w. w + sum (map (sizes_there drawn n) (called_in drawn (a + 3)))) (file_widths site chains a)
-      ∙ ap (λ cs. width_at (length site.faces) chains a + sum (map (sizes_there drawn n) cs)) (file_calls site chains a)
+      ap (λ w. w + sum (map (sizes_there drawn n) (called_in drawn (a + 3)))) (file_widths asks site chains a)
+      ∙ ap (λ cs. width_at (length site.faces) chains a + sum (map (sizes_there drawn n) cs)) (file_calls asks site chains a)
       ∙ ap (λ ns. width_at (length site.faces) chains a + sum ns)
       (map_mapped (λ c. c + 3) (sizes_there drawn n) (size_within (length site.faces) chains n) (size_moved n) (named_in chains a))
 
@@ -74,12 +75,12 @@ same_truth true b there back = sym (there refl)
 same_truth false true there back = back refl
 same_truth false false there back = refl
 
-loop_moved : LoopsAreFound → (site : Site) (chains : List IptChain) (n : ℕ) → loops_there (own_chains ++ map (chain_for site) chains) (n + 3) ≡ is_looped chains n
-loop_moved find site chains n =
-    let drawn = own_chains ++ map (chain_for site) chains in
-    let count : length drawn ≡ suc (suc (suc (length chains))) = omega (arith, drawn_count site chains) in
+loop_moved : LoopsAreFound → (asks : SideTest) (site : Site) (chains : List IptChain) (n : ℕ) → loops_there (own_chains ++ map (chain_for asks site) chains) (n + 3) ≡ is_looped chains n
+loop_moved find asks site chains n =
+    let drawn = own_chains ++ map (chain_for asks site) chains in
+    let count : length drawn ≡ suc (suc (suc (length chains))) = omega (arith, drawn_count asks site chains) in
     ap (λ k. reaches_there drawn k (n + 3) (n + 3)) count
-    ∙ reach_moved site chains (suc (suc (suc (length chains)))) n n
+    ∙ reach_moved asks site chains (suc (suc (suc (length chains)))) n n
     ∙ same_truth (reaches chains (suc (suc (suc (length chains)))) n n) (is_looped chains n)
     (λ is. find chains n (real chains (suc (suc (suc (length chains)))) n n is))
     (λ is. one_more chains (suc (suc (length chains))) n n (one_more chains (suc (length chains)) n n (one_more chains (length chains) n n is)))
@@ -90,35 +91,35 @@ chosen : (b : Bool) (i : ℕ) (o : Option ℕ) → cond b (Some (i + 3)) (option
 chosen true i o = refl
 chosen false i o = refl
 
-first_moved : (site : Site) (test other : ℕ → Bool) → ((n : ℕ) → test (n + 3) ≡ other n) → (i : ℕ) (rest : List IptChain)
-    → first_there test (i + 3) (map (chain_for site) rest) ≡ option_map (λ n. n + 3) (first_chain other i rest)
-first_moved site test other same i [] = refl
-first_moved site test other same i (chain ∷ rest) =
+first_moved : (asks : SideTest) (site : Site) (test other : ℕ → Bool) → ((n : ℕ) → test (n + 3) ≡ other n) → (i : ℕ) (rest : List IptChain)
+    → first_there test (i + 3) (map (chain_for asks site) rest) ≡ option_map (λ n. n + 3) (first_chain other i rest)
+first_moved asks site test other same i [] = refl
+first_moved asks site test other same i (chain ∷ rest) =
     let next : suc (i + 3) ≡ suc i + 3 = omega arith in
-    ap (λ b. cond b (Some (i + 3)) (first_there test (suc (i + 3)) (map (chain_for site) rest))) (same i)
-    ∙ ap (λ k. cond (other i) (Some (i + 3)) (first_there test k (map (chain_for site) rest))) next
-    ∙ ap (cond (other i) (Some (i + 3))) (first_moved site test other same (suc i) rest)
+    ap (λ b. cond b (Some (i + 3)) (first_there test (suc (i + 3)) (map (chain_for asks site) rest))) (same i)
+    ∙ ap (λ k. cond (other i) (Some (i + 3)) (first_there test k (map (chain_for asks site) rest))) next
+    ∙ ap (cond (other i) (Some (i + 3))) (first_moved asks site test other same (suc i) rest)
     ∙ chosen (other i) i (first_chain other (suc i) rest)
 
-first_behind : (site : Site) (chains : List IptChain) (test other : ℕ → Bool) → test 0 ≡ false → test 1 ≡ false → test 2 ≡ false → ((n : ℕ) → test (n + 3) ≡ other n)
-    → first_there test 0 (own_chains ++ map (chain_for site) chains) ≡ option_map (λ n. n + 3) (first_chain other 0 chains)
-first_behind site chains test other none_a none_b none_c same =
-    let rest = map (chain_for site) chains in
+first_behind : (asks : SideTest) (site : Site) (chains : List IptChain) (test other : ℕ → Bool) → test 0 ≡ false → test 1 ≡ false → test 2 ≡ false → ((n : ℕ) → test (n + 3) ≡ other n)
+    → first_there test 0 (own_chains ++ map (chain_for asks site) chains) ≡ option_map (λ n. n + 3) (first_chain other 0 chains)
+first_behind asks site chains test other none_a none_b none_c same =
+    let rest = map (chain_for asks site) chains in
     ap (λ b. cond b (Some 0) (cond (test 1) (Some 1) (cond (test 2) (Some 2) (first_there test 3 rest)))) none_a
     ∙ ap (λ b. cond b (Some 1) (cond (test 2) (Some 2) (first_there test 3 rest))) none_b
     ∙ ap (λ b. cond b (Some 2) (first_there test 3 rest)) none_c
-    ∙ first_moved site test other same 0 chains
+    ∙ first_moved asks site test other same 0 chains
 
-loop_behind : LoopsAreFound → (site : Site) (c : IptConfig) → loop_there (diagram_of site c) ≡ option_map (λ n. n + 3) (loop_of c.chains)
-loop_behind find site c =
-    first_behind site c.chains (loops_there (own_chains ++ map (chain_for site) c.chains)) (is_looped c.chains) refl refl refl (loop_moved find site c.chains)
+loop_behind : LoopsAreFound → (asks : SideTest) (site : Site) (c : IptConfig) → loop_there (drawn_by asks site c) ≡ option_map (λ n. n + 3) (loop_of c.chains)
+loop_behind find asks site c =
+    first_behind asks site c.chains (loops_there (own_chains ++ map (chain_for asks site) c.chains)) (is_looped c.chains) refl refl refl (loop_moved find asks site c.chains)
 
-deep_behind : (site : Site) (c : IptConfig) → AreMet c.chains → deepest_there (diagram_of site c) ≡ option_map (λ n. n + 3) (deep_of c.chains)
-deep_behind site c met =
-    let drawn = own_chains ++ map (chain_for site) c.chains in
-    first_behind site c.chains (λ n. is_staged (diagram_of site c) n && deep_there drawn n) (λ n. is_builtin c.chains n && is_deep c.chains n)
-    (and_right (is_staged (diagram_of site c) 0) false refl) (and_right (is_staged (diagram_of site c) 1) false refl) (and_right (is_staged (diagram_of site c) 2) false refl)
-    (λ n. ap (λ b. b && deep_there drawn (n + 3)) (builtins_staged site c met n) ∙ ap (λ b. is_builtin c.chains n && b) (begin_moved site c.chains 64 n))
+deep_behind : (asks : SideTest) (site : Site) (c : IptConfig) → AreMet c.chains → deepest_there (drawn_by asks site c) ≡ option_map (λ n. n + 3) (deep_of c.chains)
+deep_behind asks site c met =
+    let drawn = own_chains ++ map (chain_for asks site) c.chains in
+    first_behind asks site c.chains (λ n. is_staged (drawn_by asks site c) n && deep_there drawn n) (λ n. is_builtin c.chains n && is_deep c.chains n)
+    (and_right (is_staged (drawn_by asks site c) 0) false refl) (and_right (is_staged (drawn_by asks site c) 1) false refl) (and_right (is_staged (drawn_by asks site c) 2) false refl)
+    (λ n. ap (λ b. b && deep_there drawn (n + 3)) (builtins_staged asks site c met n) ∙ ap (λ b. is_builtin c.chains n && b) (begin_moved asks site c.chains 64 n))
 
 -- Sizes
 
@@ -134,9 +135,9 @@ any_named : (rules : List IptRule) → list_any (λ (r : IptRule). is_some (name
 any_named [] = refl
 any_named (r ∷ rs) = ap (λ b. is_some (named_by r.go) || b) (any_named rs) ∙ has_or (named_by r.go) (all_named rs)
 
-calls_moved : (site : Site) (chain : IptChain) → calls_any (chain_for site chain) ≡ names_any chain
-calls_moved site chain =
-    any_called (chain_for site chain).rules ∙ ap has_any (chain_calls site chain) ∙ has_mapped (λ n. n + 3) (all_named chain.rules) ∙ sym (any_named chain.rules)
+calls_moved : (asks : SideTest) (site : Site) (chain : IptChain) → calls_any (chain_for asks site chain) ≡ names_any chain
+calls_moved asks site chain =
+    any_called (chain_for asks site chain).rules ∙ ap has_any (chain_calls asks site chain) ∙ has_mapped (λ n. n + 3) (all_named chain.rules) ∙ sym (any_named chain.rules)
 
 counted : (policy : Option Bool) (staged : Bool) → staged ≡ is_some policy → (past : Bool) (i : ℕ) (a b : Option ℕ) (x y : Option ℕ)
     → a ≡ option_map (λ n. n + 3) x → b ≡ option_map (λ n. n + 3) y
@@ -146,34 +147,34 @@ counted (Some accepts) staged is true i a b x y first second = ap (λ s. cond (n
 counted (Some accepts) staged is false i a b x y first second = ap (λ s. cond (not s) a b) is ∙ second
 
 -- the sum over the file's chains
-passed_moved : (site : Site) (c : IptConfig) → ((n : ℕ) → size_there (diagram_of site c).chains (n + 3) ≡ size_of (length site.faces) c.chains n)
-    → (s i : ℕ) (rest : List IptChain) → ((j : ℕ) (chain : IptChain) → slice_get rest j ≡ Some chain → is_staged (diagram_of site c) ((i + j) + 3) ≡ is_some chain.policy)
-    → passed_there (diagram_of site c) s (i + 3) (map (chain_for site) rest) ≡ option_map (λ n. n + 3) (passed_at (length site.faces) c.chains s i rest)
-passed_moved site c sizes s i [] staged = refl
-passed_moved site c sizes s i (chain ∷ rest) staged =
-    let d = diagram_of site c in
+passed_moved : (asks : SideTest) (site : Site) (c : IptConfig) → ((n : ℕ) → size_there (drawn_by asks site c).chains (n + 3) ≡ size_of (length site.faces) c.chains n)
+    → (s i : ℕ) (rest : List IptChain) → ((j : ℕ) (chain : IptChain) → slice_get rest j ≡ Some chain → is_staged (drawn_by asks site c) ((i + j) + 3) ≡ is_some chain.policy)
+    → passed_there (drawn_by asks site c) s (i + 3) (map (chain_for asks site) rest) ≡ option_map (λ n. n + 3) (passed_at (length site.faces) c.chains s i rest)
+passed_moved asks site c sizes s i [] staged = refl
+passed_moved asks site c sizes s i (chain ∷ rest) staged =
+    let d = drawn_by asks site c in
     let size = size_of (length site.faces) c.chains i in
     let next : suc (i + 3) ≡ suc i + 3 = omega arith in
     let here : i + 3 ≡ (i + 0) + 3 = omega arith in
     let staged_rest : (j : ℕ) (chain : IptChain) → slice_get rest j ≡ Some chain → is_staged d ((suc i + j) + 3) ≡ is_some chain.policy =
     λ j chain is. let same : (suc i + j) + 3 ≡ (i + suc j) + 3 = omega arith in ap (is_staged d) same ∙ staged (suc j) chain is in
-    let further : (t : ℕ) → passed_there d t (suc (i + 3)) (map (chain_for site) rest) ≡ option_map (λ n. n + 3) (passed_at (length site.faces) c.chains t (suc i) rest) =
-    λ t. ap (λ k. passed_there d t k (map (chain_for site) rest)) next ∙ passed_moved site c sizes t (suc i) rest staged_rest in
-    ap (λ z. cond (not (is_staged d (i + 3))) (passed_there d s (suc (i + 3)) (map (chain_for site) rest))
-    (cond (nat_lt 1000000 (s + z)) (Some (i + 3)) (passed_there d (s + z) (suc (i + 3)) (map (chain_for site) rest)))) (sizes i)
+    let further : (t : ℕ) → passed_there d t (suc (i + 3)) (map (chain_for asks site) rest) ≡ option_map (λ n. n + 3) (passed_at (length site.faces) c.chains t (suc i) rest) =
+    λ t. ap (λ k. passed_there d t k (map (chain_for asks site) rest)) next ∙ passed_moved asks site c sizes t (suc i) rest staged_rest in
+    ap (λ z. cond (not (is_staged d (i + 3))) (passed_there d s (suc (i + 3)) (map (chain_for asks site) rest))
+    (cond (nat_lt 1000000 (s + z)) (Some (i + 3)) (passed_there d (s + z) (suc (i + 3)) (map (chain_for asks site) rest)))) (sizes i)
     ∙ counted chain.policy (is_staged d (i + 3)) (ap (is_staged d) here ∙ staged 0 chain refl) (nat_lt 1000000 (s + size)) i _ _ _ _ (further s) (further (s + size))
 
 -- the diagram's own chains have one rule each
-passed_own : (site : Site) (c : IptConfig)
-    → passed_there (diagram_of site c) 0 0 (own_chains ++ map (chain_for site) c.chains) ≡ passed_there (diagram_of site c) 3 3 (map (chain_for site) c.chains)
-passed_own site c =
-    let d = diagram_of site c in
-    let rest = map (chain_for site) c.chains in
+passed_own : (asks : SideTest) (site : Site) (c : IptConfig)
+    → passed_there (drawn_by asks site c) 0 0 (own_chains ++ map (chain_for asks site) c.chains) ≡ passed_there (drawn_by asks site c) 3 3 (map (chain_for asks site) c.chains)
+passed_own asks site c =
+    let d = drawn_by asks site c in
+    let rest = map (chain_for asks site) c.chains in
     let third : (s : ℕ) → Option ℕ = λ s. cond (not (is_staged d 2)) (passed_there d s 3 rest) (cond (nat_lt 1000000 (s + 1)) (Some 2) (passed_there d (s + 1) 3 rest)) in
     let second : (s : ℕ) → Option ℕ = λ s. cond (not (is_staged d 1)) (third s) (cond (nat_lt 1000000 (s + 1)) (Some 1) (third (s + 1))) in
-    ap (λ b. cond (not b) (second 0) (second 1)) (own_staged site c 0 (omega arith))
-    ∙ ap (λ b. cond (not b) (third 1) (third 2)) (own_staged site c 1 (omega arith))
-    ∙ ap (λ b. cond (not b) (passed_there d 2 3 rest) (passed_there d 3 3 rest)) (own_staged site c 2 (omega arith))
+    ap (λ b. cond (not b) (second 0) (second 1)) (own_staged asks site c 0 (omega arith))
+    ∙ ap (λ b. cond (not b) (third 1) (third 2)) (own_staged asks site c 1 (omega arith))
+    ∙ ap (λ b. cond (not b) (passed_there d 2 3 rest) (passed_there d 3 3 rest)) (own_staged asks site c 2 (omega arith))
 
 builtin_at : (chains : List IptChain) (j : ℕ) (chain : IptChain) → slice_get chains j ≡ Some chain → is_builtin chains j ≡ is_some chain.policy
 builtin_at chains j chain is = ap (λ o. option_map_or (λ (x : IptChain). is_some x.policy) o false) is
@@ -182,19 +183,19 @@ picked : (b : Bool) (o : Option ℕ) → cond b (option_map (λ n. n + 3) o) Non
 picked true o = refl
 picked false o = refl
 
-long_behind : SizesStandStill → (site : Site) (c : IptConfig) → AreMet c.chains → NoLoop c.chains
-    → long_there (diagram_of site c) ≡ option_map (λ n. n + 3) (long_of (length site.faces) c.chains)
-long_behind still site c met none =
-    let d = diagram_of site c in
-    let drawn = own_chains ++ map (chain_for site) c.chains in
-    let count = drawn_count site c.chains in
+long_behind : SizesStandStill → (asks : SideTest) (site : Site) (c : IptConfig) → AreMet c.chains → NoLoop c.chains
+    → long_there (drawn_by asks site c) ≡ option_map (λ n. n + 3) (long_of (length site.faces) c.chains)
+long_behind still asks site c met none =
+    let d = drawn_by asks site c in
+    let drawn = own_chains ++ map (chain_for asks site) c.chains in
+    let count = drawn_count asks site c.chains in
     let sizes : (n : ℕ) → size_there drawn (n + 3) ≡ size_of (length site.faces) c.chains n =
-    λ n. size_moved site c.chains (length drawn) n ∙ still (length site.faces) c.chains none (length drawn) n (omega (arith, count)) in
+    λ n. size_moved asks site c.chains (length drawn) n ∙ still (length site.faces) c.chains none (length drawn) n (omega (arith, count)) in
     let same : (j : ℕ) → (0 + j) + 3 ≡ j + 3 = λ j. omega arith in
-    ap (λ b. cond b (passed_there d 0 0 drawn) None) (any_mapped (chain_for site) calls_any names_any (calls_moved site) c.chains)
+    ap (λ b. cond b (passed_there d 0 0 drawn) None) (any_mapped (chain_for asks site) calls_any names_any (calls_moved asks site) c.chains)
     ∙ ap (λ o. cond (list_any names_any c.chains) o None)
-    (passed_own site c ∙ passed_moved site c sizes 3 0 c.chains
-    (λ j chain is. ap (is_staged d) (same j) ∙ builtins_staged site c met j ∙ builtin_at c.chains j chain is))
+    (passed_own asks site c ∙ passed_moved asks site c sizes 3 0 c.chains
+    (λ j chain is. ap (is_staged d) (same j) ∙ builtins_staged asks site c met j ∙ builtin_at c.chains j chain is))
     ∙ picked (list_any names_any c.chains) (passed_at (length site.faces) c.chains 3 0 c.chains)
 
 -- Refusals
@@ -236,11 +237,11 @@ refused (Some n) deep long there is = refl
 refused None (Some n) long there is = refl
 refused None None long there is = ap (option_map diagrams.Long) (is refl) ∙ long_refused long
 
-pub refusals_kept : LoopsAreFound → SizesStandStill → (site : Site) (c : IptConfig) → AreMet c.chains
-    → refusal_there (diagram_of site c) ≡ option_map refused_behind (refusal_of site c)
-refusals_kept find still site c met =
-    let d = diagram_of site c in
-    ap (λ o. else_there (option_map diagrams.Loop o) (else_there (option_map diagrams.Deep (deepest_there d)) (option_map diagrams.Long (long_there d)))) (loop_behind find site c)
-    ∙ ap (λ o. else_there (option_map diagrams.Loop (option_map (λ n. n + 3) (loop_of c.chains))) (else_there (option_map diagrams.Deep o) (option_map diagrams.Long (long_there d)))) (deep_behind site c met)
+pub refusals_kept : LoopsAreFound → SizesStandStill → (asks : SideTest) (site : Site) (c : IptConfig) → AreMet c.chains
+    → refusal_there (drawn_by asks site c) ≡ option_map refused_behind (refusal_of site c)
+refusals_kept find still asks site c met =
+    let d = drawn_by asks site c in
+    ap (λ o. else_there (option_map diagrams.Loop o) (else_there (option_map diagrams.Deep (deepest_there d)) (option_map diagrams.Long (long_there d)))) (loop_behind find asks site c)
+    ∙ ap (λ o. else_there (option_map diagrams.Loop (option_map (λ n. n + 3) (loop_of c.chains))) (else_there (option_map diagrams.Deep o) (option_map diagrams.Long (long_there d)))) (deep_behind asks site c met)
     ∙ refused (loop_of c.chains) (deep_of c.chains) (long_of (length site.faces) c.chains) (long_there d)
-    (λ none. long_behind still site c met (no_loop c.chains none))
+    (λ none. long_behind still asks site c met (no_loop c.chains none))

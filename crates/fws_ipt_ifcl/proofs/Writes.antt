@@ -1,19 +1,25 @@
 -- What the rules for entries write.
-use Rattle.std.proofs.Common.{◌≡◌, ℕ, zero, suc, ◌+◌, ◌<◌, ◌≤◌, true, false, cond, ◌&&◌, ◌||◌, nat_le, List, [], ◌∷◌, arith, refl, sym, ap, ◌∙◌, subst, ⊎_elim}
+use Rattle.std.proofs.Common.{◌≡◌, ℕ, zero, suc, ◌+◌, ◌<◌, ◌≤◌, true, false, cond, ◌&&◌, ◌||◌, nat_le, Option, None, List, [], ◌∷◌, length, arith, refl, sym, ap, ◌∙◌, subst, ⊎_elim}
+use Rattle.std.proofs.lemmas.List.Folds.{list_all-append}
 use Rattle.std.proofs.lemmas.Bool.{le-leb, cond-true, cond-false, false_from_ne_true, cases_eq, leb-true, or_from, and_parts, and_from}
 use Rattle.fws_iv.specs.declared.iv.Iv.{Iv}
 use Rattle.fws_iv.specs.Ivs.{has}
 use Rattle.fws_net.specs.declared.condition.Test.{Test}
+use Rattle.fws_net.specs.declared.condition.Test.TheVariants.{Recv, Xmit}
 use Rattle.fws_net.specs.declared.packet.Packet.{Packet}
 use Rattle.fws_net.specs.declared.connection.Kind.{Kind}
 use Rattle.fws_net.specs.declared.site.Site.{Site}
 use Rattle.fws_net.specs.declared.transit.Transit.{Transit}
 use Rattle.fws_net.specs.Conditions.{holds}
+use Rattle.fws_net.specs.Ends.{host_end}
+use Rattle.fws_net.specs.Faces.{face_addr}
 use Rattle.fws_ifcl.specs.declared.diagram.Act.{Act}
+use Rattle.fws_ifcl.specs.declared.diagram.Act.TheVariants.{Src, Dst}
+use Rattle.fws_ifcl.specs.declared.diagram.Rule.{Rule}
 use Rattle.fws_ifcl.specs.declared.diagram.Stage.{Stage}
 use Rattle.fws_ifcl.specs.Walk.{sees}
 use Rattle.fws_rule.specs.Literals.{one, positive}
-use Rattle.fws_ipt_ifcl.specs.Blocks.{by_entry}
+use Rattle.fws_ipt_ifcl.specs.Blocks.{by_entry, masquerading, redirecting}
 use Rattle.fws_ipt_ifcl.proofs.Guarding.{written, written_by, is_write, are_writes}
 
 -- a number from lo to hi
@@ -38,6 +44,15 @@ pub entries_write : (test : List Iv → Test) (act : ℕ → Act) → ((e : ℕ)
 entries_write test act writes from zero = refl
 entries_write test act writes from (suc n) =
     and_from (is_write (act from)) (are_writes (by_entry test act (suc from) n)) (writes from) (entries_write test act writes (suc from) n)
+
+pub masquerading_writes : (site : Site) → are_writes (masquerading site) ≡ true
+masquerading_writes site = entries_write Xmit (λ entry. Src (host_end (face_addr site entry) None)) (λ e. refl) 1 (length site.faces + 1)
+
+pub redirecting_writes : (site : Site) (port : Option ℕ) → are_writes (redirecting site port) ≡ true
+redirecting_writes site port =
+    let act : ℕ → Act = λ entry. Dst (host_end (face_addr site entry) port) in
+    list_all-append (λ (r : Rule). _) (by_entry Recv act 1 (length site.faces + 1)) (_ ∷ [])
+    ∙ ap (λ b. b && true) (entries_write Recv act (λ e. refl) 1 (length site.faces + 1))
 
 module _ (site : Site) (p : Packet) (k : Kind) (stage : Stage) (test : List Iv → Test) (act : ℕ → Act) where
   -- entries from one on at which no rule's test holds

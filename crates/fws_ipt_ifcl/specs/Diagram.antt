@@ -21,6 +21,8 @@ use Rattle.fws_ipt.specs.declared.hook.Hook.{Hook}
 use Rattle.fws_ipt.specs.declared.hook.Hook.TheVariants.{Prerouting, Input, Output, Postrouting}
 use Rattle.fws_ipt.specs.Refusals.{width_of, head_width}
 use Rattle.fws_ipt.specs.Walk.{hook_name, is_table, shows_recv, shows_xmit, writes_src_at, policy_at, builtin_from, arriving, delivered, forwarded, sent_out}
+use Rattle.fws_ipt_ifcl.specs.declared.side.SideTest.{SideTest}
+use Rattle.fws_ipt_ifcl.specs.declared.side.SideTest.TheVariants.{First}
 use Rattle.fws_ipt_ifcl.specs.Blocks.{unfolded}
 
 -- Chains
@@ -39,19 +41,19 @@ headed Nat (Some accepts) = ruled (positive Est ∷ []) Accept ∷ []
 headed _ _ = []
 
 -- the rules of rules, of which the first has the place at
-abbrev pub unfolded_all : Site → Bool → ℕ → List IptRule → List Rule
-unfolded_all site on_source at [] = []
-unfolded_all site on_source at (r ∷ rs) =
-    unfolded site on_source at r.cond r.go ++ unfolded_all site on_source (at + width_of (length site.faces) r.go) rs
+abbrev pub unfolded_all : SideTest → Site → Bool → ℕ → List IptRule → List Rule
+unfolded_all test site on_source at [] = []
+unfolded_all test site on_source at (r ∷ rs) =
+    unfolded test site on_source at r.cond r.go ++ unfolded_all test site on_source (at + width_of (length site.faces) r.go) rs
 
 -- the names of the built-in chains in which sources are written
 abbrev pub is_on_source : List ℕ → Bool
 is_on_source name = bytes_eq name (hook_name Input) || bytes_eq name (hook_name Postrouting)
 
-abbrev pub chain_for : Site → IptChain → Chain
-chain_for site chain = record {
+abbrev pub chain_for : SideTest → Site → IptChain → Chain
+chain_for test site chain = record {
   name = chain.name;
-  rules = headed chain.table chain.policy ++ unfolded_all site (is_on_source chain.name) (head_width chain.table chain.policy) chain.rules;
+  rules = headed chain.table chain.policy ++ unfolded_all test site (is_on_source chain.name) (head_width chain.table chain.policy) chain.rules;
 }
 
 -- Stages
@@ -87,12 +89,16 @@ abbrev pub stages_for : List IptChain → List (IptTable × Hook) → List Stage
 stages_for chains [] = []
 stages_for chains (at ∷ rest) = tracked_at at.0 at.1 ++ builtin_stage chains at.0 at.1 ++ stages_for chains rest
 
--- the whole diagram: the file's chains stand behind the three of its own
-abbrev pub diagram_of : Site → IptConfig → Ifcl
-diagram_of site c = record {
-  chains = own_chains ++ map (chain_for site) c.chains;
+-- the whole diagram, by where rules that write ask for their side: the file's chains stand behind the three of its own
+abbrev pub drawn_by : SideTest → Site → IptConfig → Ifcl
+drawn_by test site c = record {
+  chains = own_chains ++ map (chain_for test site) c.chains;
   arrive = own_stage 0 ∷ stages_for c.chains arriving;
   deliver = stages_for c.chains delivered;
   forward = stages_for c.chains forwarded;
   send = own_stage 0 ∷ stages_for c.chains sent_out;
 }
+
+-- the diagram of a configuration: the side is asked for with the condition
+abbrev pub diagram_of : Site → IptConfig → Ifcl
+diagram_of site c = drawn_by First site c

@@ -1,13 +1,16 @@
 -- What a diagram keeps of its configuration.
-use Rattle.std.specs.Prelude.{◌≡◌, ℕ, ◌+◌, ◌<◌, ◌≤◌, true, slice_get, [], length, map}
+use Rattle.std.specs.Prelude.{◌≡◌, ℕ, ◌+◌, ◌<◌, ◌≤◌, true, slice_get, List, [], length, map, sum}
 use Rattle.std.specs.Option.{option_map}
 use Rattle.fws_net.specs.declared.connection.Kind.{Kind}
 use Rattle.fws_net.specs.declared.packet.Packet.{Packet}
 use Rattle.fws_net.specs.declared.site.Site.{Site}
 use Rattle.fws_ifcl.specs.declared.diagram.Ifcl.{Ifcl}
+use Rattle.fws_ifcl.specs.declared.diagram.Spot.{Spot}
 use Rattle.fws_ifcl.specs.declared.refusal.UnfoldRefusal.{UnfoldRefusal as DiagramRefusal}
 use Rattle.fws_ifcl.specs.declared.refusal.UnfoldRefusal.TheVariants as diagrams
 use Rattle.fws_ifcl.specs.Refusals.{named_in as calls_in, is_staged, refusal_of as diagram_refusal}
+use Rattle.fws_ifcl.specs.Spots.{told}
+use Rattle.fws_ifcl.specs.Uses.{used_places}
 use Rattle.fws_ifcl.specs.Walk.{means, rules_at}
 use Rattle.fws_ipt.specs.declared.config.IptConfig.{IptConfig}
 use Rattle.fws_ipt.specs.declared.refusal.UnfoldRefusal.{UnfoldRefusal}
@@ -15,6 +18,7 @@ use Rattle.fws_ipt.specs.declared.refusal.UnfoldRefusal.TheVariants.{Loop, Deep,
 use Rattle.fws_ipt.specs.Loops.{NoLoop}
 use Rattle.fws_ipt.specs.Refusals.{named_in, is_builtin, width_at, refusal_of}
 use Rattle.fws_ipt.specs.Soundness.{is_fitting}
+use Rattle.fws_ipt.specs.Uses.{used}
 use Rattle.fws_ipt.specs.Walk.{walk}
 use Rattle.fws_ipt_ifcl.specs.Fitting.{is_sideless_config, are_netmaps_placed, is_met, AreMet}
 
@@ -50,3 +54,14 @@ refused_behind (Long n) = diagrams.Long (n + 3)
 -- where packets meet each built-in chain, the diagram is refused where the configuration is, for the same cause and chain
 abbrev pub KeepsRefusals : Ifcl → Site → IptConfig → Type 0
 KeepsRefusals d site c = AreMet c.chains → diagram_refusal d ≡ option_map refused_behind (refusal_of site c)
+
+-- how many rules a configuration has
+abbrev pub rule_count : IptConfig → ℕ
+rule_count c = sum (map (λ chain. length chain.rules) c.chains)
+
+-- where the diagram keeps walks, the rules at the places that a packet's walk through it uses are those that the configuration's walk
+-- uses, in the order in which it comes to them
+abbrev pub KeepsUses : Ifcl → List Spot → Site → IptConfig → Type 0
+KeepsUses d spots site c =
+    is_fitting c ≡ true → is_sideless_config c ≡ true → are_netmaps_placed c ≡ true → NoLoop c.chains
+    → (p : Packet) (k : Kind) → p.entry ≤ length site.faces + 1 → told spots (used_places d site p k) ≡ used c site p k

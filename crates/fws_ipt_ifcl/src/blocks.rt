@@ -1,14 +1,16 @@
 //! The rules to which a rule is unfolded.
 
-ghost use Rattle.std.specs.Prelude.{◌≡◌, ◌+◌, [], ◌∷◌, ◌++◌, false, length, IfOk, OnOk};
+ghost use Rattle.std.specs.Prelude.{◌≡◌, ◌+◌, [], ◌∷◌, ◌++◌, true, false, length, map, IfOk, OnOk};
 ghost use Rattle.fws_net.specs.Routes.{IsSound};
-ghost use Rattle.fws_draw.specs.Rules.{always, ruled};
-ghost use Rattle.fws_ipt_ifcl.specs.Blocks.{all_entries, at_side, guarded_writes, mapping, masquerading, redirecting, unfolded};
+ghost use Rattle.fws_draw.specs.Rules.{always, guarded, ruled};
+ghost use Rattle.fws_ipt_ifcl.specs.declared.side.SideTest.TheVariants.{Each, First};
+ghost use Rattle.fws_ipt_ifcl.specs.Blocks.{all_entries, at_side, guarded_writes, mapping, masquerading, redirecting, side_writes, sided, unfolded};
 ghost use Rattle.fws_rule.specs.Literals.{positive};
 
 use crate::guards::{all_entries, one_entry, put_guarded, put_write};
-use crate::places::file_chain;
-use fws_draw::{narrowed, place_behind, put_rule, ruled_by};
+use crate::numbers::file_chain;
+use crate::side::SideTest;
+use fws_draw::{narrowed, place_behind, put_always, put_guard, put_rule, ruled_by};
 use fws_ifcl::{Act, Rule};
 use fws_ipt::{IptGo, IptRule};
 use fws_net::{Cond, End, LOOPBACK_ADDR, Site, Test, face_addr};
@@ -89,6 +91,16 @@ fn at_side(alloc: Global, cond: &Cond, outward: bool) -> Result<Cond, Memory>
     }
 }
 
+/// The condition that an interface by which the packet goes out is shown. An error is want of memory.
+fn sent(alloc: Global, site: &Site) -> Result<Cond, Memory>
+    requires { IsSound site.now }
+    ensures { IfOk result (λ c. c ≡ positive (Test.Xmit (all_entries site.now)) ∷ []) }
+{
+    let mut cond = Cond::new(alloc);
+    cond.put(positive(Test::Xmit(all_entries(alloc, site)?)))?;
+    Ok(cond)
+}
+
 /// The condition of packets that go out by an interface. An error is want of memory.
 fn leaving(alloc: Global, site: &Site, cond: &Cond) -> Result<Cond, Memory>
     requires { IsSound site.now }
@@ -99,9 +111,57 @@ fn leaving(alloc: Global, site: &Site, cond: &Cond) -> Result<Cond, Memory>
     narrowed(outward, sent)
 }
 
-/// Puts a rule behind the others that writes an end where the condition holds on one side of routing, and
-/// ends the stage there. An error is want of memory.
-fn put_written(
+/// Puts rules behind the others, each of which acts on one side of routing alone. An error is want of memory.
+fn put_sided(
+    alloc: Global,
+    rules: &mut Vec<Rule>,
+    outward: bool,
+    inner: &[Rule],
+) -> Result<(), Memory>
+    ensures { OnOk result (rules.new.items ≡ rules.old.items ++ map (sided outward) inner.now) }
+{
+    for rule in inner {
+        let there = at_side(alloc, &rule.cond, outward)?;
+        put_rule(rules, there, rule.act)?;
+    }
+    Ok(())
+}
+
+/// Puts rules behind the others that are met where the condition holds, and act on one side of routing alone. An error
+/// is want of memory.
+fn put_met(
+    alloc: Global,
+    rules: &mut Vec<Rule>,
+    cond: &Cond,
+    outward: bool,
+    inner: &[Rule],
+) -> Result<(), Memory>
+    ensures { OnOk result (rules.new.items ≡ rules.old.items ++ guarded (length rules.old.items) cond.now (map (sided outward) inner.now)) }
+{
+    let met = cond.copy(alloc)?;
+    put_guard(alloc, rules, met, inner.len())?;
+    put_sided(alloc, rules, outward, inner)
+}
+
+/// Puts rules behind the others that write where the condition holds, and end the stage where one more condition holds, each
+/// of which asks for the side of routing. An error is want of memory.
+fn put_asking(
+    alloc: Global,
+    rules: &mut Vec<Rule>,
+    cond: &Cond,
+    outward: bool,
+    more: Cond,
+    writes: &mut Vec<Rule>,
+) -> Result<(), Memory>
+    ensures { OnOk result (rules.new.items ≡ rules.old.items ++ side_writes Each (length rules.old.items) cond.now outward more writes.old.items) }
+{
+    put_rule(writes, more, Act::Accept)?;
+    put_met(alloc, rules, cond, outward, writes.as_slice())
+}
+
+/// Puts a rule behind the others that writes an end where the condition holds on one side of routing, and ends the stage
+/// there. An error is want of memory.
+fn put_ahead(
     alloc: Global,
     rules: &mut Vec<Rule>,
     cond: &Cond,
@@ -114,18 +174,36 @@ fn put_written(
     put_write(alloc, rules, there, act)
 }
 
-/// Puts the rules of MASQUERADE behind the others. An error is want of memory.
-fn put_masquerade(
+/// The same, where the rules that write and accept ask for the side. An error is want of memory.
+fn put_within(
     alloc: Global,
     rules: &mut Vec<Rule>,
-    site: &Site,
     cond: &Cond,
+    outward: bool,
+    act: Act,
 ) -> Result<(), Memory>
-    requires { IsSound site.now }
-    ensures { OnOk result (rules.new.items ≡ rules.old.items ++ guarded_writes (length rules.old.items) (cond.now ++ positive Test.Outward ∷ positive (Test.Xmit (all_entries site.now)) ∷ []) (masquerading site.now)) }
+    ensures { OnOk result (rules.new.items ≡ rules.old.items ++ side_writes Each (length rules.old.items) cond.now outward [] (always act ∷ [])) }
 {
-    let mut writes = masquerading(alloc, site)?;
-    put_leaving(alloc, rules, site, cond, &mut writes)
+    let mut writes = Vec::new(alloc);
+    put_always(alloc, &mut writes, act)?;
+    put_asking(alloc, rules, cond, outward, Cond::new(alloc), &mut writes)
+}
+
+/// Puts the rules behind the others of a rule that writes an end on one side of routing. An error is want of memory.
+fn put_written(
+    alloc: Global,
+    rules: &mut Vec<Rule>,
+    test: SideTest,
+    cond: &Cond,
+    outward: bool,
+    act: Act,
+) -> Result<(), Memory>
+    ensures { OnOk result (rules.new.items ≡ rules.old.items ++ side_writes test (length rules.old.items) cond.now outward [] (always act ∷ [])) }
+{
+    match test {
+        SideTest::First => put_ahead(alloc, rules, cond, outward, act),
+        SideTest::Each => put_within(alloc, rules, cond, outward, act),
+    }
 }
 
 /// Puts rules behind the others that write where packets go out by an interface. An error is want of memory.
@@ -141,6 +219,39 @@ fn put_leaving(
 {
     let there = leaving(alloc, site, cond)?;
     put_guarded(alloc, rules, there, writes)
+}
+
+/// The same, where the rules that write and accept ask for the side. An error is want of memory.
+fn put_asking_leaving(
+    alloc: Global,
+    rules: &mut Vec<Rule>,
+    site: &Site,
+    cond: &Cond,
+    writes: &mut Vec<Rule>,
+) -> Result<(), Memory>
+    requires { IsSound site.now }
+    ensures { OnOk result (rules.new.items ≡ rules.old.items ++ side_writes Each (length rules.old.items) cond.now true (positive (Test.Xmit (all_entries site.now)) ∷ []) writes.old.items) }
+{
+    let sent = sent(alloc, site)?;
+    put_asking(alloc, rules, cond, true, sent, writes)
+}
+
+/// Puts the rules of MASQUERADE behind the others. An error is want of memory.
+fn put_masquerade(
+    alloc: Global,
+    rules: &mut Vec<Rule>,
+    test: SideTest,
+    site: &Site,
+    cond: &Cond,
+) -> Result<(), Memory>
+    requires { IsSound site.now }
+    ensures { OnOk result (rules.new.items ≡ rules.old.items ++ side_writes test (length rules.old.items) cond.now true (positive (Test.Xmit (all_entries site.now)) ∷ []) (masquerading site.now)) }
+{
+    let mut writes = masquerading(alloc, site)?;
+    match test {
+        SideTest::First => put_leaving(alloc, rules, site, cond, &mut writes),
+        SideTest::Each => put_asking_leaving(alloc, rules, site, cond, &mut writes),
+    }
 }
 
 /// Puts rules behind the others that write where packets come in. An error is want of memory.
@@ -160,27 +271,32 @@ fn put_coming(
 fn put_redirect(
     alloc: Global,
     rules: &mut Vec<Rule>,
+    test: SideTest,
     site: &Site,
     cond: &Cond,
     port: Option<u16>,
 ) -> Result<(), Memory>
     requires { IsSound site.now }
-    ensures { OnOk result (rules.new.items ≡ rules.old.items ++ guarded_writes (length rules.old.items) (at_side false cond.now) (redirecting site.now port)) }
+    ensures { OnOk result (rules.new.items ≡ rules.old.items ++ side_writes test (length rules.old.items) cond.now false [] (redirecting site.now port)) }
 {
     let mut writes = redirecting(alloc, site, port)?;
-    put_coming(alloc, rules, cond, &mut writes)
+    match test {
+        SideTest::First => put_coming(alloc, rules, cond, &mut writes),
+        SideTest::Each => { put_asking(alloc, rules, cond, false, Cond::new(alloc), &mut writes) }
+    }
 }
 
 /// Puts the rules to which a rule is unfolded behind the others. An error is want of memory.
 pub(crate) fn put_unfolded(
     alloc: Global,
+    test: SideTest,
     site: &Site,
     on_source: bool,
     rule: &IptRule,
     rules: &mut Vec<Rule>,
 ) -> Result<(), Memory>
     requires { IsSound site.now }
-    ensures { OnOk result (rules.new.items ≡ rules.old.items ++ unfolded site.now on_source (length rules.old.items) rule.now.cond rule.now.go) }
+    ensures { OnOk result (rules.new.items ≡ rules.old.items ++ unfolded test site.now on_source (length rules.old.items) rule.now.cond rule.now.go) }
 {
     let cond = &rule.cond;
     match rule.go {
@@ -194,10 +310,10 @@ pub(crate) fn put_unfolded(
         IptGo::Jump(c) => put_ruled(alloc, rules, cond, Act::Call(file_chain(c)?)),
         IptGo::Goto(c) => put_ruled(alloc, rules, cond, Act::Goto(file_chain(c)?)),
         IptGo::Mark(mark) => put_ruled(alloc, rules, cond, Act::OnlyTag(mark)),
-        IptGo::Source(end) => put_written(alloc, rules, cond, true, Act::Src(end)),
-        IptGo::Masquerade => put_masquerade(alloc, rules, site, cond),
-        IptGo::Dest(end) => put_written(alloc, rules, cond, false, Act::Dst(end)),
-        IptGo::Redirect(port) => put_redirect(alloc, rules, site, cond, port),
+        IptGo::Source(end) => put_written(alloc, rules, test, cond, true, Act::Src(end)),
+        IptGo::Masquerade => put_masquerade(alloc, rules, test, site, cond),
+        IptGo::Dest(end) => put_written(alloc, rules, test, cond, false, Act::Dst(end)),
+        IptGo::Redirect(port) => put_redirect(alloc, rules, test, site, cond, port),
         IptGo::Netmap(net) => {
             let there = cond.copy(alloc)?;
             put_write(alloc, rules, there, mapping(on_source, net))

@@ -5,6 +5,7 @@ ghost use Rattle.fws_net.specs.Routes.{IsSound};
 ghost use Rattle.fws_ipt_ifcl.specs.Diagram.{own_chain, own_chains, headed, is_on_source, chain_for};
 
 use crate::blocks::put_unfolded;
+use crate::side::SideTest;
 use fws_draw::{always, ruled_by};
 use fws_ifcl::{Act, Chain, Rule};
 use fws_ipt::{Hook, IptChain, IptTable};
@@ -60,14 +61,14 @@ fn is_on_source(name: &[u8]) -> bool
 }
 
 /// The chain for one of the file's. An error is want of memory.
-fn chain_for(alloc: Global, site: &Site, chain: &IptChain) -> Result<Chain, Memory>
+fn chain_for(alloc: Global, test: SideTest, site: &Site, chain: &IptChain) -> Result<Chain, Memory>
     requires { IsSound site.now }
-    ensures { IfOk result (λ made. made ≡ chain_for site.now chain.now) }
+    ensures { IfOk result (λ made. made ≡ chain_for test site.now chain.now) }
 {
     let on_source = is_on_source(chain.name.as_slice());
     let mut rules = headed(alloc, chain.table, chain.policy)?;
     for rule in chain.rules.as_slice() {
-        put_unfolded(alloc, site, on_source, rule, &mut rules)?;
+        put_unfolded(alloc, test, site, on_source, rule, &mut rules)?;
     }
     Ok(Chain {
         name: chain.name.copy(alloc)?,
@@ -78,15 +79,16 @@ fn chain_for(alloc: Global, site: &Site, chain: &IptChain) -> Result<Chain, Memo
 /// The diagram's own chains, and behind them one for each of the file's. An error is want of memory.
 pub(crate) fn chains_for(
     alloc: Global,
+    test: SideTest,
     site: &Site,
     chains: &[IptChain],
 ) -> Result<Items<Chain>, Memory>
     requires { IsSound site.now }
-    ensures { IfOk result (λ made. made ≡ own_chains ++ map (chain_for site.now) chains.now) }
+    ensures { IfOk result (λ made. made ≡ own_chains ++ map (chain_for test site.now) chains.now) }
 {
     let mut made = own_chains(alloc)?;
     for chain in chains {
-        made.put(chain_for(alloc, site, chain)?)?;
+        made.put(chain_for(alloc, test, site, chain)?)?;
     }
     Ok(made)
 }

@@ -4,28 +4,32 @@ ghost use Rattle.std.specs.Prelude.{◌≡◌, true, IfOk};
 ghost use Rattle.fws_net.specs.Routes.{IsSound};
 ghost use Rattle.fws_ifcl.specs.Soundness.{ifcl_ok};
 ghost use Rattle.fws_ipt.specs.Soundness.{is_fitting};
-ghost use Rattle.fws_ipt_ifcl.specs.Diagram.{diagram_of};
+ghost use Rattle.fws_ipt_ifcl.specs.Diagram.{diagram_of, drawn_by};
 ghost use Rattle.fws_ipt_ifcl.specs.Kept.{KeepsWalks, KeepsChains, KeepsStages, KeepsRefusals};
 
 use crate::chains::chains_for;
+use crate::side::SideTest;
 use crate::stages::{arrive_stages, deliver_stages, forward_stages, send_stages};
 use fws_draw::rules_are_right_by_parts;
 use fws_ifcl::Ifcl;
-use fws_ipt::{
-    IptConfig, fitting_names_chains, loops_are_found, sizes_stand_still, walks_stand_still,
-};
+use fws_ipt::{IptConfig, loops_are_found, sizes_stand_still};
 use fws_net::{Site, routes_are_entries};
 use fws_num::Memory;
 use std::alloc::Global;
 
 /// The diagram, put together from its chains and stages. An error is want of memory.
-fn drawn(alloc: Global, c: &IptConfig, site: &Site) -> Result<Ifcl, Memory>
+pub(crate) fn drawn(
+    alloc: Global,
+    test: SideTest,
+    c: &IptConfig,
+    site: &Site,
+) -> Result<Ifcl, Memory>
     requires { IsSound site.now }
-    ensures { IfOk result (λ d. d ≡ diagram_of site.now c.now) }
+    ensures { IfOk result (λ d. d ≡ drawn_by test site.now c.now) }
 {
     let chains = c.chains.as_slice();
     Ok(Ifcl {
-        chains: chains_for(alloc, site, chains)?,
+        chains: chains_for(alloc, test, site, chains)?,
         arrive: arrive_stages(alloc, chains)?,
         deliver: deliver_stages(alloc, chains)?,
         forward: forward_stages(alloc, chains)?,
@@ -52,10 +56,8 @@ pub fn to_ifcl(alloc: Global, c: &IptConfig, site: &Site) -> Result<Ifcl, Memory
 {
     routes_are_entries();
     rules_are_right_by_parts();
-    fitting_names_chains();
-    walks_stand_still();
     loops_are_found();
     sizes_stand_still();
-    let d = drawn(alloc, c, site)?;
+    let d = drawn(alloc, SideTest::First, c, site)?;
     Ok(d)
 }

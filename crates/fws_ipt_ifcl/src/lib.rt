@@ -6,8 +6,12 @@ mod chains;
 mod diagram;
 mod guards;
 mod laws;
-mod places;
+mod numbers;
+mod placing;
+mod side;
+mod spots;
 mod stages;
 
 pub use diagram::to_ifcl;
 pub use laws::spelled_diagrams;
+pub use placing::places;

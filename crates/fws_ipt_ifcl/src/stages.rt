@@ -5,7 +5,7 @@ ghost use Rattle.std.specs.Option.{option_map_or};
 ghost use Rattle.fws_ipt.specs.Walk.{arriving, delivered, forwarded, sent_out, policy_at};
 ghost use Rattle.fws_ipt_ifcl.specs.Diagram.{own_stage, tracked_at, builtin_stage, stages_for};
 
-use crate::places::OWN_CHAINS;
+use crate::numbers::OWN_CHAINS;
 use fws_draw::place_behind;
 use fws_ifcl::Stage;
 use fws_ipt::{Hook, IptChain, IptTable, builtin_at};

@@ -4,4 +4,4 @@ use Rattle.fws_ipt_ifcl.proofs.chains.chain_for.Given as goal
 
 abbrev pub invariant-loop-rule : goal.invariant-loop-rule
 invariant-loop-rule l =
-    l.rules.items ++ unfolded_all l.site (is_on_source l.chain.name) (length l.rules.items) (drop l.rule-index l.chain.rules) ≡ (chain_for l.site l.chain).rules
+    l.rules.items ++ unfolded_all l.test l.site (is_on_source l.chain.name) (length l.rules.items) (drop l.rule-index l.chain.rules) ≡ (chain_for l.test l.site l.chain).rules
