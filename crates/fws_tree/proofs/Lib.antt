@@ -33,4 +33,5 @@ pub mod Showing
 pub mod Spreading
 pub mod Steps
 pub mod Subtrees
+pub mod Touching
 pub mod WayDown

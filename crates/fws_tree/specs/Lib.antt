@@ -24,6 +24,7 @@ pub mod Recoloured
 pub mod RecolouringLaws
 pub mod Regular
 pub mod RegularLists
+pub mod Rising
 pub mod RowLists
 pub mod Rows
 pub mod Settled
@@ -31,4 +32,5 @@ pub mod Shared
 pub mod Shown
 pub mod Spread
 pub mod Subtrees
+pub mod Touched
 pub mod Tree

@@ -1,6 +1,6 @@
 //! Cells by number, equal cells stored once.
 
-ghost use Rattle.std.specs.Prelude.{◌≡◌, ◌⊎◌, ◌<◌, ◌≤◌, ◌++◌, [], ◌∷◌, ℕ, List, Some, length, slice_get, slice_index, if◌then◌else◌, IfOk, OnOk, OnErr, All};
+ghost use Rattle.std.specs.Prelude.{◌≡◌, ◌⊎◌, ◌<◌, ◌≤◌, ◌++◌, [], ◌∷◌, ℕ, List, Some, take, length, slice_get, slice_index, if◌then◌else◌, IfOk, OnOk, OnErr, All};
 
 use crate::arena::{Exact, place_of};
 use crate::digest::digest;
@@ -57,6 +57,17 @@ pub struct Store {
     cells: IndexSet<Cell>,
     // How many steps all cells have, and how many cells there are.
     size: u64,
+    // The greatest number of a leaf, or a greater one.
+    greatest: u32,
+}
+
+/// How far a store goes, so that what comes behind can be thrown away.
+#[derive(Clone, Copy)]
+pub(crate) struct Extent {
+    /// How many cells there are.
+    pub(crate) cells: usize,
+    size: u64,
+    greatest: u32,
 }
 
 impl Model for Store {
@@ -79,6 +90,7 @@ impl Store {
         Store {
             cells: IndexSet::new(alloc),
             size: 0,
+            greatest: 0,
         }
     }
 
@@ -92,6 +104,7 @@ impl Store {
         ensures held { IfOk result (λ r. (p : List ℕ) → held_at self.new r p ≡ held_over p (held_after p [] self.old) cell) }
     {
         let steps = steps_in(&cell);
+        self.greatest = greatest_with(self.greatest, &cell);
         let (place, is_new) = place_of(&mut self.cells, cell)?;
         self.size = grown(self.size, is_new, steps);
         match u32::try_from(place) {
@@ -103,6 +116,35 @@ impl Store {
     /// How much the store holds: its cells and their steps, all in all. Nothing hangs on it but time.
     pub(crate) fn size(&self) -> u64 {
         self.size
+    }
+
+    /// A number that no leaf has, nor has one a greater number. Nothing is proved of it. An error is want of memory: there is
+    /// none.
+    pub(crate) fn unused(&self) -> Result<u32, Memory> {
+        match self.greatest.checked_add(1) {
+            Some(number) => Ok(number),
+            None => Err(Memory),
+        }
+    }
+
+    /// How far the store goes.
+    pub(crate) fn extent(&self) -> Extent
+        ensures { result.cells ≡ length self.now }
+    {
+        Extent {
+            cells: self.cells.len(),
+            size: self.size,
+            greatest: self.greatest,
+        }
+    }
+
+    /// Throws away the cells behind the extent. The time is that of the cells that go.
+    pub(crate) fn cut_back(&mut self, to: Extent)
+        ensures { self.new ≡ take to.cells self.old }
+    {
+        self.cells.truncate(to.cells);
+        self.size = to.size;
+        self.greatest = to.greatest;
     }
 
     /// How many cells there are.
@@ -149,6 +191,14 @@ fn steps_in(cell: &Cell) -> u64 {
     match cell {
         Cell::Leaf(_) => 1,
         Cell::Cut(_, steps, _) => (steps.as_slice().len() as u64).saturating_add(1),
+    }
+}
+
+// The greatest number of a leaf, with the cell.
+fn greatest_with(greatest: u32, cell: &Cell) -> u32 {
+    match cell {
+        Cell::Leaf(n) => greatest.max(*n),
+        Cell::Cut(_, _, _) => greatest,
     }
 }
 

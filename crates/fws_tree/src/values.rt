@@ -1,6 +1,6 @@
 //! The bits of values, by number.
 
-ghost use Rattle.std.specs.Prelude.{◌≡◌, ◌<◌, ◌^◌, ◌++◌, ◌∷◌, [], length, IfOk, OnOk, OnErr, All};
+ghost use Rattle.std.specs.Prelude.{◌≡◌, ◌<◌, ◌^◌, ◌++◌, ◌∷◌, [], take, length, IfOk, OnOk, OnErr, All};
 ghost use Rattle.fws_tree.specs.Bits.{bits_in};
 ghost use Rattle.fws_tree.specs.Building.{Extends};
 
@@ -55,6 +55,13 @@ impl Values {
         ensures { result ≡ bits_in self.now value }
     {
         self.bits.get(value as usize).copied().unwrap_or(u64::MAX)
+    }
+
+    /// Takes away the values behind the first so many.
+    pub(crate) fn keep_first(&mut self, count: usize)
+        ensures { self.new ≡ take count self.old }
+    {
+        self.bits.truncate(count);
     }
 
     /// How many values there are.
