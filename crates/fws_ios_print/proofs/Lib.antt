@@ -7,6 +7,7 @@ pub mod LinesTaken
 pub mod ListsRead
 pub mod NamesDiffer
 pub mod NatsRead
+pub mod Numbering
 pub mod ReadBack
 pub mod Shapes
 pub mod Sides

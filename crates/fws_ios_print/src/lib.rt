@@ -5,6 +5,7 @@ mod addresses;
 mod conditions;
 mod entries;
 mod interfaces;
+mod labelling;
 mod lists;
 mod names;
 mod order;
@@ -15,5 +16,6 @@ mod tests;
 mod translations;
 mod values;
 
+pub use labelling::{labels, labels_are_counted};
 pub use printable_configs::printable;
 pub use printing::print;

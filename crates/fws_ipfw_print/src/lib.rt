@@ -3,6 +3,7 @@
 
 mod addresses;
 mod instances;
+mod labelling;
 mod lines;
 mod printable_configs;
 mod printing;
@@ -11,5 +12,6 @@ mod sets;
 mod tests;
 mod values;
 
+pub use labelling::{labels, labels_are_counted};
 pub use printable_configs::printable;
 pub use printing::print;

@@ -8,6 +8,7 @@ pub mod TakenLines
 pub mod LinesPut
 pub mod Literals
 pub mod Marks
+pub mod Numbering
 pub mod PlainNames
 pub mod Plain
 pub mod PlainRules

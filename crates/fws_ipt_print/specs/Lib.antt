@@ -1,3 +1,4 @@
+pub mod Labels
 pub mod Printable
 pub mod PrintedText
 pub mod ReadBack

@@ -2,6 +2,7 @@
 #![tactic(auto)]
 
 mod acts;
+mod labelling;
 mod lines;
 mod names;
 mod numbers;
@@ -12,5 +13,6 @@ mod rules;
 mod sets;
 mod tests;
 
+pub use labelling::{labels, labels_are_counted};
 pub use printable_configs::printable;
 pub use printing::print;

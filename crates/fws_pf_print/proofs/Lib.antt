@@ -7,6 +7,7 @@ pub mod LinesPut
 pub mod LinesTaken
 pub mod NamesRead
 pub mod NatsRead
+pub mod Numbering
 pub mod OptionsRead
 pub mod ReadBack
 pub mod RulesRead

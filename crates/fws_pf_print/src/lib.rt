@@ -3,6 +3,7 @@
 
 mod addresses;
 mod conditions;
+mod labelling;
 mod printable_configs;
 mod printing;
 mod rules;
@@ -12,5 +13,6 @@ mod tests;
 mod translations;
 mod values;
 
+pub use labelling::{labels, labels_are_counted};
 pub use printable_configs::printable;
 pub use printing::print;
