@@ -1,5 +1,5 @@
 -- What conditions see of two classes with one view.
-use Rattle.std.proofs.Common.{◌≡◌, ℕ, Bool, true, false, cond, ◌&&◌, ◌||◌, not, Option, Some, None, IfSome, List, [], ◌∷◌, refl, sym, ◌∙◌, ap, subst}
+use Rattle.std.proofs.Common.{◌≡◌, ℕ, ◌+◌, Bool, true, false, cond, ◌&&◌, ◌||◌, not, Option, Some, None, IfSome, List, [], ◌∷◌, refl, sym, ◌∙◌, ap, subst}
 use Rattle.std.specs.List.{list_all}
 use Rattle.std.proofs.lemmas.Bool.{and_parts, false≢true}
 use Rattle.fws_iv.specs.declared.iv.Iv.{Iv}
@@ -27,7 +27,7 @@ use Rattle.fws_exec.specs.declared.spot.Class.{Class}
 use Rattle.fws_exec.specs.declared.views.Sides.{Sides}
 use Rattle.fws_exec.specs.Classes.{standing_by, transit_of}
 use Rattle.fws_exec.specs.Goings.{label_of}
-use Rattle.fws_exec.specs.Runs.{picked}
+use Rattle.fws_exec.specs.Runs.{numbered, picked}
 use Rattle.fws_exec.specs.Sheets.{among, IsUsed}
 use Rattle.fws_exec.specs.Views.{is_of_src, is_of_dst, shows, shows_all, shows_code, end_if, seen_by, fits_tag, tags_fit, is_tag, is_tagless, AreAlike, AllFit}
 use Rattle.fws_exec.proofs.Moved.{same_used}
@@ -115,6 +115,17 @@ alike_picked site kind part p g h sides m n same place (ins ∷ code) is less =
     ap (λ b. cond b (label_of place ins.act) (picked place (sees site kind part (transit_of g p)) code)) (alike_holds site kind part p g h sides m n same ins.cond shown.0 (tagless_fit g.tags ins.cond free.0) (tagless_fit h.tags ins.cond free.0))
     ∙ ap (λ k. cond (holds ins.cond (sees site kind part (transit_of h p))) (label_of place ins.act) k) (alike_picked site kind part p g h sides m n same place code shown.1 free.1)
 
+-- and the same number
+pub alike_numbered : (site : Site) (kind : Kind) (part : Part) (p : List ℕ) (g h : Progress) (sides : Sides) (m n : ℕ) → seen_by g sides m ≡ seen_by h sides n → (first : ℕ) (code : List Ins)
+    → shows_code sides code ≡ true → list_all (λ ins. is_tagless ins.cond) code ≡ true
+    → numbered first (sees site kind part (transit_of g p)) code ≡ numbered first (sees site kind part (transit_of h p)) code
+alike_numbered site kind part p g h sides m n same first [] is less = refl
+alike_numbered site kind part p g h sides m n same first (ins ∷ code) is less =
+    let shown = and_parts (shows_all sides ins.cond) (shows_code sides code) is in
+    let free = and_parts (is_tagless ins.cond) (list_all (λ i. is_tagless i.cond) code) less in
+    ap (λ b. cond b first (numbered (first + 1) (sees site kind part (transit_of g p)) code)) (alike_holds site kind part p g h sides m n same ins.cond shown.0 (tagless_fit g.tags ins.cond free.0) (tagless_fit h.tags ins.cond free.0))
+    ∙ ap (λ k. cond (holds ins.cond (sees site kind part (transit_of h p))) first k) (alike_numbered site kind part p g h sides m n same (first + 1) code shown.1 free.1)
+
 -- two classes of a group have one view
 pub views : (sides : Sides) (classes : List Class) (group : Group) → AreAlike sides classes group
     → (m n : ℕ) (f d : Class) → among group.numbers.items m ≡ true → among group.numbers.items n ≡ true → IsUsed classes m f → IsUsed classes n d
@@ -137,6 +148,13 @@ pub group_picked : (sides : Sides) (classes : List Class) (group : Group) (place
     → (site : Site) (kind : Kind) (part : Part) (p : List ℕ) → picked place (sees site kind part (transit_of f.progress p)) code ≡ picked place (sees site kind part (transit_of d.progress p)) code
 group_picked sides classes group place code alike shown less m n f d a b uf ud site kind part p =
     alike_picked site kind part p f.progress d.progress sides m n (views sides classes group alike m n f d a b uf ud) place code shown less
+
+-- and the same number
+pub group_numbered : (sides : Sides) (classes : List Class) (group : Group) (first : ℕ) (code : List Ins) → AreAlike sides classes group → shows_code sides code ≡ true → list_all (λ ins. is_tagless ins.cond) code ≡ true
+    → (m n : ℕ) (f d : Class) → among group.numbers.items m ≡ true → among group.numbers.items n ≡ true → IsUsed classes m f → IsUsed classes n d
+    → (site : Site) (kind : Kind) (part : Part) (p : List ℕ) → numbered first (sees site kind part (transit_of f.progress p)) code ≡ numbered first (sees site kind part (transit_of d.progress p)) code
+group_numbered sides classes group first code alike shown less m n f d a b uf ud site kind part p =
+    alike_numbered site kind part p f.progress d.progress sides m n (views sides classes group alike m n f d a b uf ud) first code shown less
 
 or_true : (a : Bool) → (a || true) ≡ true
 or_true true = refl

@@ -1,5 +1,5 @@
 -- What becomes of a packet at an instruction, by what becomes of it behind.
-use Rattle.std.proofs.Common.{◌≡◌, ℕ, zero, suc, ◌+◌, ◌-◌, ◌<◌, ◌≤◌, Bool, true, false, cond, ◌&&◌, nat_eq, nat_le, nat_lt, Option, Some, None, List, [], ◌∷◌, length, take, drop, slice_get, inl, inr, ◌⊎◌, refl, sym, ◌∙◌, ap, subst, arith, add-one}
+use Rattle.std.proofs.Common.{◌≡◌, ℕ, zero, suc, ◌+◌, ◌-◌, ◌<◌, ◌≤◌, Bool, true, false, cond, ◌&&◌, nat_eq, nat_le, nat_lt, Some, None, List, [], ◌∷◌, length, take, drop, slice_get, inl, inr, ◌⊎◌, refl, sym, ◌∙◌, ap, subst, arith, add-one}
 use Rattle.std.proofs.lemmas.Bool.{and_parts, leb-true}
 use borrow.Author.Tests.{ltb-true}
 use Rattle.std.proofs.lemmas.Bool.Decides.{nat_tests}
@@ -19,12 +19,11 @@ use Rattle.fws_flat.specs.declared.code.Ins.{Ins}
 use Rattle.fws_flat.specs.declared.code.Part.{Part}
 use Rattle.fws_flat.specs.declared.step.Step.{Step}
 use Rattle.fws_flat.specs.declared.step.Step.TheVariants.{Leave, Onwards}
-use Rattle.fws_flat.specs.Walk.{code_walk, sees, step_of, stepped, part_code}
+use Rattle.fws_flat.specs.Walk.{sees, step_of, part_code}
 use Rattle.fws_flat.specs.Soundness.{act_ok, code_ok, part_ok}
 use Rattle.fws_exec.specs.declared.errand.Errand.{Errand}
-use Rattle.fws_exec.specs.declared.spot.Stage.{Stage}
 use Rattle.fws_exec.specs.Classes.{kind_of, meant_behind}
-use Rattle.fws_exec.specs.Courses.{left, code_from, course, Obeys, AllObey}
+use Rattle.fws_exec.specs.Courses.{caught, fate, fate_behind, code_from, course, Aim, Obeys, AllObey}
 use Rattle.fws_exec.specs.Runs.{run_of}
 
 not_below_self : (n : ℕ) → nat_lt n n ≡ false
@@ -36,31 +35,31 @@ not_below_zero n = grind (arith, nat_tests)
 below : (m n : ℕ) → m < n → nat_lt m n ≡ true
 below m n lt = grind (arith, nat_tests)
 
--- the walk from an instruction on
-here_walk : (site : Site) (p : Packet) (k : Kind) (part : Part) (at : ℕ) (x : Ins) (xs : List Ins) (t : Transit)
-    → code_walk site p k part at (x ∷ xs) 0 t ≡ cond (holds x.cond (sees site k part t)) (stepped (code_walk site p k part (suc at) xs) (step_of p k x.act t)) (code_walk site p k part (suc at) xs 0 t)
-here_walk site p k part at x xs t =
-    ap (λ b. cond b (code_walk site p k part (suc at) xs 0 t) (cond (holds x.cond (sees site k part t)) (stepped (code_walk site p k part (suc at) xs) (step_of p k x.act t)) (code_walk site p k part (suc at) xs 0 t))) (not_below_zero at)
+-- what becomes of a packet from an instruction on
+here_fate : (site : Site) (p : Packet) (k : Kind) (part : Part) (sought : ℕ → Bool) (next : Transit → Outcome) (at : ℕ) (x : Ins) (xs : List Ins) (t : Transit)
+    → fate site p k part sought next at (x ∷ xs) 0 t ≡ cond (holds x.cond (sees site k part t)) (cond (sought at) caught (fate_behind next (fate site p k part sought next (suc at) xs) (step_of p k x.act t))) (fate site p k part sought next (suc at) xs 0 t)
+here_fate site p k part sought next at x xs t =
+    ap (λ b. cond b (fate site p k part sought next (suc at) xs 0 t) (cond (holds x.cond (sees site k part t)) (cond (sought at) caught (fate_behind next (fate site p k part sought next (suc at) xs) (step_of p k x.act t))) (fate site p k part sought next (suc at) xs 0 t))) (not_below_zero at)
 
--- a walk that is to go on at its first instruction
-walk_here : (site : Site) (p : Packet) (k : Kind) (part : Part) (at : ℕ) (xs : List Ins) (t : Transit) → code_walk site p k part at xs at t ≡ code_walk site p k part at xs 0 t
-walk_here site p k part at [] t = refl
-walk_here site p k part at (x ∷ xs) t =
-    ap (λ b. cond b (code_walk site p k part (suc at) xs at t) (cond (holds x.cond (sees site k part t)) (stepped (code_walk site p k part (suc at) xs) (step_of p k x.act t)) (code_walk site p k part (suc at) xs 0 t))) (not_below_self at)
-    ∙ sym (here_walk site p k part at x xs t)
+-- the same where it is to go on at its first instruction
+fate_here : (site : Site) (p : Packet) (k : Kind) (part : Part) (sought : ℕ → Bool) (next : Transit → Outcome) (at : ℕ) (xs : List Ins) (t : Transit) → fate site p k part sought next at xs at t ≡ fate site p k part sought next at xs 0 t
+fate_here site p k part sought next at [] t = refl
+fate_here site p k part sought next at (x ∷ xs) t =
+    ap (λ b. cond b (fate site p k part sought next (suc at) xs at t) (cond (holds x.cond (sees site k part t)) (cond (sought at) caught (fate_behind next (fate site p k part sought next (suc at) xs) (step_of p k x.act t))) (fate site p k part sought next (suc at) xs 0 t))) (not_below_self at)
+    ∙ sym (here_fate site p k part sought next at x xs t)
 
--- instructions before the place at which a walk is to go on are passed over
-skip : (site : Site) (p : Packet) (k : Kind) (part : Part) (xs : List Ins) (at n to : ℕ) (t : Transit) → to ≡ at + n → code_walk site p k part at xs to t ≡ code_walk site p k part to (drop n xs) 0 t
-skip site p k part [] at zero to t e = refl
-skip site p k part [] at (suc n) to t e = refl
-skip site p k part (x ∷ xs) at zero to t e =
+-- instructions before the place at which a packet is to go on are passed over
+skip : (site : Site) (p : Packet) (k : Kind) (part : Part) (sought : ℕ → Bool) (next : Transit → Outcome) (xs : List Ins) (at n to : ℕ) (t : Transit) → to ≡ at + n → fate site p k part sought next at xs to t ≡ fate site p k part sought next to (drop n xs) 0 t
+skip site p k part sought next [] at zero to t e = refl
+skip site p k part sought next [] at (suc n) to t e = refl
+skip site p k part sought next (x ∷ xs) at zero to t e =
     let same : at ≡ to = omega arith in
-    subst (λ k0. code_walk site p k part k0 (x ∷ xs) to t ≡ code_walk site p k part to (x ∷ xs) 0 t) (sym same) (walk_here site p k part to (x ∷ xs) t)
-skip site p k part (x ∷ xs) at (suc n) to t e =
+    subst (λ k0. fate site p k part sought next k0 (x ∷ xs) to t ≡ fate site p k part sought next to (x ∷ xs) 0 t) (sym same) (fate_here site p k part sought next to (x ∷ xs) t)
+skip site p k part sought next (x ∷ xs) at (suc n) to t e =
     let more : at < to = omega arith in
-    let next : to ≡ suc at + n = omega arith in
-    ap (λ b. cond b (code_walk site p k part (suc at) xs to t) (cond (holds x.cond (sees site k part t)) (stepped (code_walk site p k part (suc at) xs) (step_of p k x.act t)) (code_walk site p k part (suc at) xs 0 t))) (below at to more)
-    ∙ skip site p k part xs (suc at) n to t next
+    let later : to ≡ suc at + n = omega arith in
+    ap (λ b. cond b (fate site p k part sought next (suc at) xs to t) (cond (holds x.cond (sees site k part t)) (cond (sought at) caught (fate_behind next (fate site p k part sought next (suc at) xs) (step_of p k x.act t))) (fate site p k part sought next (suc at) xs 0 t))) (below at to more)
+    ∙ skip site p k part sought next xs (suc at) n to t later
 
 -- the instructions from a place on, by those from an earlier place on
 from_later : (code : List Ins) (part : Part) (at n to : ℕ) → to ≡ at + n → to ≤ part.past → drop n (code_from code part at) ≡ code_from code part to
@@ -97,34 +96,29 @@ step_forward past p k (acts.OnlyTag n) at t f = inl refl
 step_forward past p k (acts.DelTag n) at t f = inl refl
 
 -- what becomes of a packet behind an instruction
-behind_step : (e : Errand) (next : Stage → Transit → Outcome) (p : List ℕ) (at : ℕ) (step : Step) → IsForward e.part.past at step
-    → left (next e.stage) (stepped (code_walk e.ground.site.now (packet_of p) (kind_of e.ground.state p) e.part (at + 1) (code_from e.code.now e.part (at + 1))) step) ≡ meant_behind (course e next p) next e.stage at step
-behind_step e next p at (Leave None) f = refl
-behind_step e next p at (Leave (Some t)) f = refl
-behind_step e next p at (Onwards to t) f = elim f [
-  | inl none ↦ subst (λ k. left (next e.stage) (code_walk e.ground.site.now (packet_of p) (kind_of e.ground.state p) e.part (at + 1) (code_from e.code.now e.part (at + 1)) k t) ≡ course e next p (cond (nat_eq k 0) (at + 1) k) t) (sym none) refl
+behind_step : (e : Errand) (aim : Aim) (p : List ℕ) (at : ℕ) (step : Step) → IsForward e.part.past at step
+    → fate_behind (aim.next e.stage) (fate e.ground.site.now (packet_of p) (kind_of e.ground.state p) e.part aim.sought (aim.next e.stage) (at + 1) (code_from e.code.now e.part (at + 1))) step ≡ meant_behind (course e aim p) aim.next e.stage at step
+behind_step e aim p at (Leave None) f = refl
+behind_step e aim p at (Leave (Some t)) f = refl
+behind_step e aim p at (Onwards to t) f = elim f [
+  | inl none ↦ subst (λ k. fate e.ground.site.now (packet_of p) (kind_of e.ground.state p) e.part aim.sought (aim.next e.stage) (at + 1) (code_from e.code.now e.part (at + 1)) k t ≡ course e aim p (cond (nat_eq k 0) (at + 1) k) t) (sym none) refl
   | inr ahead ↦ (
       let low : at < to = ahead.0 in
       let some : nat_eq to 0 ≡ false = grind (arith, nat_tests) in
       let n : to ≡ (at + 1) + (to - (at + 1)) = omega arith in
-      ap (left (next e.stage)) (skip e.ground.site.now (packet_of p) (kind_of e.ground.state p) e.part (code_from e.code.now e.part (at + 1)) (at + 1) (to - (at + 1)) to t n
-      ∙ ap (λ xs. code_walk e.ground.site.now (packet_of p) (kind_of e.ground.state p) e.part to xs 0 t) (from_later e.code.now e.part (at + 1) (to - (at + 1)) to n ahead.1))
-      ∙ ap (λ b. course e next p (cond b (at + 1) to) t) (sym some))
+      skip e.ground.site.now (packet_of p) (kind_of e.ground.state p) e.part aim.sought (aim.next e.stage) (code_from e.code.now e.part (at + 1)) (at + 1) (to - (at + 1)) to t n
+      ∙ ap (λ xs. fate e.ground.site.now (packet_of p) (kind_of e.ground.state p) e.part aim.sought (aim.next e.stage) to xs 0 t) (from_later e.code.now e.part (at + 1) (to - (at + 1)) to n ahead.1)
+      ∙ ap (λ b. course e aim p (cond b (at + 1) to) t) (sym some))
 ]
 
-left_cond : (f : Transit → Outcome) (b : Bool) (x y : Option Transit) → left f (cond b x y) ≡ cond b (left f x) (left f y)
-left_cond f true x y = refl
-left_cond f false x y = refl
-
 -- the code of a part says what becomes of packets at each of its instructions
-pub course_obeys : (e : Errand) (next : Stage → Transit → Outcome) (p : List ℕ) (at : ℕ) (ins : Ins) → at < e.part.past → slice_get e.code.now at ≡ Some ins
-    → ((to : ℕ) → ins.act ≡ acts.Jump to → (at < to) × (to ≤ e.part.past)) → Obeys e next p at ins
-course_obeys e next p at ins lt got f t =
-    ap (λ xs. left (next e.stage) (code_walk e.ground.site.now (packet_of p) (kind_of e.ground.state p) e.part at xs 0 t)) (front e.code.now e.part at ins lt got)
-    ∙ ap (left (next e.stage)) (here_walk e.ground.site.now (packet_of p) (kind_of e.ground.state p) e.part at ins (code_from e.code.now e.part (at + 1)) t
-    ∙ ap (λ k. cond (holds ins.cond (sees e.ground.site.now (kind_of e.ground.state p) e.part t)) (stepped (code_walk e.ground.site.now (packet_of p) (kind_of e.ground.state p) e.part k (code_from e.code.now e.part (at + 1))) (step_of (packet_of p) (kind_of e.ground.state p) ins.act t)) (code_walk e.ground.site.now (packet_of p) (kind_of e.ground.state p) e.part k (code_from e.code.now e.part (at + 1)) 0 t)) (sym (add-one at)))
-    ∙ left_cond (next e.stage) (holds ins.cond (sees e.ground.site.now (kind_of e.ground.state p) e.part t)) (stepped (code_walk e.ground.site.now (packet_of p) (kind_of e.ground.state p) e.part (at + 1) (code_from e.code.now e.part (at + 1))) (step_of (packet_of p) (kind_of e.ground.state p) ins.act t)) (code_walk e.ground.site.now (packet_of p) (kind_of e.ground.state p) e.part (at + 1) (code_from e.code.now e.part (at + 1)) 0 t)
-    ∙ ap (λ o. cond (holds ins.cond (sees e.ground.site.now (kind_of e.ground.state p) e.part t)) o (course e next p (at + 1) t)) (behind_step e next p at (step_of (packet_of p) (kind_of e.ground.state p) ins.act t) (step_forward e.part.past (packet_of p) (kind_of e.ground.state p) ins.act at t f))
+pub course_obeys : (e : Errand) (aim : Aim) (p : List ℕ) (at : ℕ) (ins : Ins) → at < e.part.past → slice_get e.code.now at ≡ Some ins
+    → ((to : ℕ) → ins.act ≡ acts.Jump to → (at < to) × (to ≤ e.part.past)) → Obeys e aim p at ins
+course_obeys e aim p at ins lt got f t =
+    ap (λ xs. fate e.ground.site.now (packet_of p) (kind_of e.ground.state p) e.part aim.sought (aim.next e.stage) at xs 0 t) (front e.code.now e.part at ins lt got)
+    ∙ here_fate e.ground.site.now (packet_of p) (kind_of e.ground.state p) e.part aim.sought (aim.next e.stage) at ins (code_from e.code.now e.part (at + 1)) t
+    ∙ ap (λ k. cond (holds ins.cond (sees e.ground.site.now (kind_of e.ground.state p) e.part t)) (cond (aim.sought at) caught (fate_behind (aim.next e.stage) (fate e.ground.site.now (packet_of p) (kind_of e.ground.state p) e.part aim.sought (aim.next e.stage) k (code_from e.code.now e.part (at + 1))) (step_of (packet_of p) (kind_of e.ground.state p) ins.act t))) (fate e.ground.site.now (packet_of p) (kind_of e.ground.state p) e.part aim.sought (aim.next e.stage) k (code_from e.code.now e.part (at + 1)) 0 t)) (sym (add-one at))
+    ∙ ap (λ o. cond (holds ins.cond (sees e.ground.site.now (kind_of e.ground.state p) e.part t)) (cond (aim.sought at) caught o) (course e aim p (at + 1) t)) (behind_step e aim p at (step_of (packet_of p) (kind_of e.ground.state p) ins.act t) (step_forward e.part.past (packet_of p) (kind_of e.ground.state p) ins.act at t f))
 
 -- the jumps of a part go forward
 code_ok_drop : (past : ℕ) (xs : List Ins) (at n to : ℕ) → to ≡ at + n → code_ok past at xs ≡ true → code_ok past to (drop n xs) ≡ true
@@ -167,20 +161,20 @@ part_long code part ok past le =
     omega arith
 
 -- the code of a part says what becomes of packets at each instruction of a run in it
-pub run_obeys : (e : Errand) (next : Stage → Transit → Outcome) (p : List ℕ) (n place past : ℕ) → part_ok e.code.now e.part ≡ true → past ≡ place + n → e.part.first ≤ place → past ≤ e.part.past
-    → AllObey e next p place (run_of e.code.now place past)
-run_obeys e next p zero place past ok long low high =
+pub run_obeys : (e : Errand) (aim : Aim) (p : List ℕ) (n place past : ℕ) → part_ok e.code.now e.part ≡ true → past ≡ place + n → e.part.first ≤ place → past ≤ e.part.past
+    → AllObey e aim p place (run_of e.code.now place past)
+run_obeys e aim p zero place past ok long low high =
     let none : past - place ≡ 0 = omega arith in
-    subst (λ k. AllObey e next p place (take k (drop place e.code.now))) (sym none) tt
-run_obeys e next p (suc n) place past ok long low high =
+    subst (λ k. AllObey e aim p place (take k (drop place e.code.now))) (sym none) tt
+run_obeys e aim p (suc n) place past ok long low high =
     let lower : place < past = omega arith in
     let lt : place < e.part.past = omega arith in
     let within : place < length e.code.now = part_within e.code.now e.part place ok lt in
     let after : past ≡ (place + 1) + n = omega arith in
     let from : e.part.first ≤ place + 1 = omega arith in
     elim (slice_get_cases e.code.now place).1 [
-      | inl (x, inside, got, is) ↦ subst (λ xs. AllObey e next p place xs) (sym (head x lower within got))
-          (course_obeys e next p place x lt got (part_jumps e.code.now e.part place x ok low lt got), run_obeys e next p n (place + 1) past ok after from high)
+      | inl (x, inside, got, is) ↦ subst (λ xs. AllObey e aim p place xs) (sym (head x lower within got))
+          (course_obeys e aim p place x lt got (part_jumps e.code.now e.part place x ok low lt got), run_obeys e aim p n (place + 1) past ok after from high)
       | inr (past_end, none) ↦ absurd (let no : place < place = omega arith in omega arith)
     ]
   where

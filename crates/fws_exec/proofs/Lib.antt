@@ -9,13 +9,16 @@ pub mod Marking
 pub mod Meaning
 pub mod Merging
 pub mod Moved
+pub mod Noted
 pub mod Pasts
 pub mod Passed
 pub mod Putting
+pub mod Reached
 pub mod Recoloured
 pub mod Routed
 pub mod Running
 pub mod Sent
+pub mod Telling
 pub mod Turning
 pub mod Untested
 pub mod Valued

@@ -12,7 +12,7 @@ use Rattle.fws_tree.specs.declared.mark.Mark.{Mark}
 use Rattle.fws_tree.specs.Marks.{mark_at}
 use Rattle.fws_tree.specs.Marks as marks
 use Rattle.fws_exec.specs.Goings.{label_of}
-use Rattle.fws_exec.specs.Runs.{boxed, picked}
+use Rattle.fws_exec.specs.Runs.{boxed, numbered, picked}
 
 -- a mark behind others
 pub mark_behind : (ms : List Mark) (m : Mark) (rest : ℕ) (p : List ℕ) → mark_at (ms ++ m ∷ []) rest p ≡ mark_at ms (cond (sides_have (marks.sides_of m) p) m.label rest) p
@@ -51,6 +51,17 @@ pub picked_step : (b : Bool) (place : ℕ) (v : View) (ins : Ins) (code left : L
 picked_step b place v ins code left e = inside b (holds ins.cond v) ∙ sym (ap (λ xs. cond b (picked place v xs) 0) e)
   where
     inside : (b h : Bool) → cond (b && h) (label_of place ins.act) (cond b (picked place v code) 0) ≡ cond b (cond h (label_of place ins.act) (picked place v code)) 0
+    inside true true = refl
+    inside true false = refl
+    inside false true = refl
+    inside false false = refl
+
+-- the same by the numbers of instructions
+pub numbered_step : (b : Bool) (n : ℕ) (v : View) (ins : Ins) (code rest : List Ins) → rest ≡ ins ∷ code
+    → cond (b && holds ins.cond v) n (cond b (numbered (n + 1) v code) 0) ≡ cond b (numbered n v rest) 0
+numbered_step b n v ins code rest e = inside b (holds ins.cond v) ∙ sym (ap (λ xs. cond b (numbered n v xs) 0) e)
+  where
+    inside : (b h : Bool) → cond (b && h) n (cond b (numbered (n + 1) v code) 0) ≡ cond b (cond h n (numbered (n + 1) v code)) 0
     inside true true = refl
     inside true false = refl
     inside false true = refl

@@ -5,15 +5,18 @@ use Rattle.std.proofs.lemmas.Bool.Decides.{nat_tests}
 use Rattle.std.proofs.lemmas.Option.{same_Some}
 use Rattle.fws_box.specs.Sides.{IsWithin}
 use Rattle.fws_exec.specs.declared.going.Going.{Going}
+use Rattle.fws_exec.specs.declared.going.Going.TheVariants.{To, Behind, Leaving}
 use Rattle.fws_exec.specs.declared.progress.Progress.{Progress}
 use Rattle.fws_exec.specs.declared.sheet.Sheet.{Sheet}
 use Rattle.fws_exec.specs.declared.spot.Class.{Class}
 use Rattle.fws_exec.specs.declared.spot.Spot.{Spot}
 use Rattle.fws_exec.specs.declared.spot.Spot.TheVariants.{At}
 use Rattle.fws_exec.specs.Classes.{is_before, is_unused}
-use Rattle.fws_exec.specs.Divided.{AreMoved}
+use Rattle.fws_exec.specs.Courses.{Tells}
+use Rattle.fws_exec.specs.Divided.{says_of, AreMoved, AreNoted, IsSaid}
 use Rattle.fws_exec.specs.Goings.{lands, IsGone}
-use Rattle.fws_exec.specs.Sheets.{tops_in, class_at, IsUsed, Grows, StandsAt, AllAt}
+use Rattle.fws_exec.specs.Sheets.{tops_in, class_at, IsSheet, IsUsed, Grows, StandsAt, AllAt}
+use Rattle.fws_exec.proofs.Telling.{tells_by, tells_same, tells_then}
 
 -- a used class has one number alone
 pub same_used : (cs : List Class) (n : ℕ) (c d : Class) → IsUsed cs n c → IsUsed cs n d → c ≡ d
@@ -99,3 +102,88 @@ moved_label going A f g old new same moved p c w used = elim (moved p c w used) 
   | inl h ↦ inl (h.0, subst (λ l. l ≢ 0) (same p c w used h.0) h.1, subst (λ l. IsGone going l c.progress new.roll.classes.items (class_at new p)) (same p c w used h.0) h.2)
   | inr h ↦ inr (λ a. sym (same p c w used a) ∙ h.0 a, h.1)
 ]
+
+-- What is noted of their uses
+
+pub noted_none : (says : ℕ → ℕ → Bool) (A : ℕ → Bool) (label : Progress → List ℕ → ℕ) (s : Sheet) → ((n : ℕ) → A n ≡ false) → AreNoted says A label s s
+noted_none says A label s none = record {
+  noted = λ k m. absurd (false≢true (sym (none (class_at s m.0)) ∙ m.4));
+  tells = tells_same s.reached.items (IsSaid says A label s);
+}
+
+-- those of some classes are noted, and then those of others
+pub noted_both : (going : Going) (says : ℕ → ℕ → Bool) (A B C : ℕ → Bool) (label : Progress → List ℕ → ℕ) (old mid new : Sheet) (here : Spot) → IsSheet old
+    → ((n : ℕ) → C n ≡ (A n || B n)) → Grows old.roll.classes.items mid.roll.classes.items → tops_in mid ≡ tops_in old
+    → AllAt here mid.roll.classes.items B → ((l : ℕ) → lands going l ≢ here)
+    → AreMoved going A label old mid → AreNoted says A label old mid → AreNoted says B label mid new → AreNoted says C label old new
+noted_both going says A B C label old mid new here sheet parts before tops stand apart moved first second = record {
+  noted = noted;
+  tells = tells_then old.reached.items mid.reached.items new.reached.items (IsSaid says A label old) (IsSaid says B label mid) (IsSaid says C label old) first.tells second.tells
+      (λ k m. (m.0, m.1, m.2, m.3, or_left (A (class_at old m.0)) (B (class_at old m.0)) (C (class_at old m.0)) (parts (class_at old m.0)) m.4, m.5))
+      (λ k got m. (
+      let inside : IsWithin (tops_in old) m.0 = subst (λ ts. IsWithin ts m.0) tops m.2 in
+      let c = (sheet.used m.0 inside).0 in
+      let used = (sheet.used m.0 inside).1 in
+      let same : class_at mid m.0 ≡ class_at old m.0 = elim (moved m.0 c inside used) [
+        | inl h ↦ absurd (away here mid.roll.classes.items (class_at mid m.0) h.2.0 (stand (class_at mid m.0) m.4) h.2.1.0 (λ e. apart (label c.progress m.0) (sym h.2.2.0 ∙ e)))
+        | inr h ↦ h.1
+      ] in
+      let own : m.1 ≡ c = same_used mid.roll.classes.items (class_at mid m.0) m.1 c m.3 (subst (λ n. IsUsed mid.roll.classes.items n c) (sym same) (before (class_at old m.0) c used)) in (
+        m.0,
+        c,
+        inside,
+        used,
+        or_right (A (class_at old m.0)) (B (class_at old m.0)) (C (class_at old m.0)) (parts (class_at old m.0)) (ap B (sym same) ∙ m.4),
+        ap (λ (d : Class). says (label d.progress m.0) k) (sym own) ∙ m.5,
+      )));
+}
+  where
+    noted : (k : ℕ) → IsSaid says C label old k → slice_get new.reached.items k ≢ Some false
+    noted k m free = elim (cases_Bool (A (class_at old m.0))) [
+      | inl a ↦ first.noted k (m.0, m.1, m.2, m.3, a, m.5) (second.tells.opens k free)
+      | inr a ↦ (
+          let same : class_at mid m.0 ≡ class_at old m.0 = elim (moved m.0 m.1 m.2 m.3) [ inl h ↦ absurd (false≢true (sym a ∙ h.0)) | inr h ↦ h.1 ] in
+          let b : B (class_at old m.0) ≡ true = or_either (B (class_at old m.0) ≡ true) (A (class_at old m.0)) (B (class_at old m.0)) (C (class_at old m.0)) (parts (class_at old m.0)) m.4 (λ t. absurd (false≢true (sym a ∙ t))) (λ t. t) in
+          second.noted k (
+            m.0,
+            m.1,
+            subst (λ ts. IsWithin ts m.0) (sym tops) m.2,
+            subst (λ n. IsUsed mid.roll.classes.items n m.1) (sym same) (before (class_at old m.0) m.1 m.3),
+            ap B same ∙ b,
+            m.5,
+          ) free)
+    ]
+
+-- a test with the same answers, where there is a label that says something
+pub noted_test : (says : ℕ → ℕ → Bool) (A B : ℕ → Bool) (label : Progress → List ℕ → ℕ) (old new : Sheet) → ((k : ℕ) → says 0 k ≡ false) → ((n : ℕ) → A n ≡ true → B n ≡ true)
+    → ((p : List ℕ) (c : Class) → IsUsed old.roll.classes.items (class_at old p) c → B (class_at old p) ≡ true → A (class_at old p) ≡ false → label c.progress p ≡ 0)
+    → AreNoted says A label old new → AreNoted says B label old new
+noted_test says A B label old new none more left noted = record {
+  noted = λ k m. elim (cases_Bool (A (class_at old m.0))) [
+    | inl a ↦ noted.noted k (m.0, m.1, m.2, m.3, a, m.5)
+    | inr a ↦ absurd (false≢true (sym (none k) ∙ ap (λ l. says l k) (sym (left m.0 m.1 m.3 m.4 a)) ∙ m.5))
+  ];
+  tells = tells_by old.reached.items new.reached.items (IsSaid says A label old) (IsSaid says B label old) (λ k got m. (m.0, m.1, m.2, m.3, more (class_at old m.0) m.4, m.5)) noted.tells;
+}
+
+-- another label that is the same at the points of the classes that are meant
+pub noted_label : (says : ℕ → ℕ → Bool) (A : ℕ → Bool) (f g : Progress → List ℕ → ℕ) (old new : Sheet)
+    → ((p : List ℕ) (c : Class) → IsWithin (tops_in old) p → IsUsed old.roll.classes.items (class_at old p) c → A (class_at old p) ≡ true → f c.progress p ≡ g c.progress p)
+    → AreNoted says A f old new → AreNoted says A g old new
+noted_label says A f g old new same noted = record {
+  noted = λ k m. noted.noted k (m.0, m.1, m.2, m.3, m.4, ap (λ l. says l k) (same m.0 m.1 m.2 m.3 m.4) ∙ m.5);
+  tells = tells_by old.reached.items new.reached.items (IsSaid says A f old) (IsSaid says A g old) (λ k got m. (m.0, m.1, m.2, m.3, m.4, ap (λ l. says l k) (sym (same m.0 m.1 m.2 m.3 m.4)) ∙ m.5)) noted.tells;
+}
+
+-- what is noted stays so where points move
+pub noted_onwards : (says : ℕ → ℕ → Bool) (A : ℕ → Bool) (label : Progress → List ℕ → ℕ) (old mid new : Sheet) → new.reached.items ≡ mid.reached.items → AreNoted says A label old mid → AreNoted says A label old new
+noted_onwards says A label old mid new same noted = record {
+  noted = λ k m. subst (λ xs. slice_get xs k ≢ Some false) (sym same) (noted.noted k m);
+  tells = subst (λ xs. Tells old.reached.items xs (IsSaid says A label old)) (sym same) noted.tells;
+}
+
+-- no label says anything
+pub says_nothing : (going : Going) (k : ℕ) → says_of going 0 k ≡ false
+says_nothing (To spot) k = refl
+says_nothing (Behind state stage place act) k = refl
+says_nothing (Leaving stage place) k = refl

@@ -1,15 +1,16 @@
 -- How points pass instructions one after another.
-use Rattle.std.proofs.Common.{◌≡◌, ◌≢◌, ℕ, ◌+◌, ◌≤◌, Bool, true, false, cond, ◌&&◌, ◌||◌, not, Some, option_map, List, [], ◌∷◌, length, slice_get, inl, inr, ◌⊎◌, refl, sym, ◌∙◌, ap, subst, arith}
-use Rattle.std.proofs.lemmas.Bool.{cases_Bool, false≢true}
+use Rattle.std.proofs.Common.{◌≡◌, ◌≢◌, ℕ, ◌+◌, ◌≤◌, Bool, true, false, cond, ◌&&◌, ◌||◌, not, nat_eq, Some, option_map, List, [], ◌∷◌, length, slice_get, inl, inr, ◌⊎◌, refl, sym, ◌∙◌, ap, subst, arith}
+use Rattle.std.proofs.lemmas.Bool.{cases_Bool, eq-eqb, eqb-true, false≢true}
 use Rattle.std.proofs.lemmas.Option.{same_Some}
 use Rattle.std.proofs.Math.Nat.{le_refl, le_trans}
 use Rattle.fws_box.specs.Sides.{IsWithin}
 use Rattle.fws_net.specs.declared.outcome.Outcome.{Outcome}
+use Rattle.fws_net.specs.declared.outcome.Outcome.TheVariants as outcomes
 use Rattle.fws_net.specs.declared.transit.Transit.{Transit}
 use Rattle.fws_net.specs.Conditions.{holds}
-use Rattle.fws_net.specs.Points.{packet_of, tops_of}
+use Rattle.fws_net.specs.Points.{tops_of}
 use Rattle.fws_flat.specs.declared.code.Ins.{Ins}
-use Rattle.fws_flat.specs.Walk.{sees, step_of}
+use Rattle.fws_flat.specs.Walk.{sees}
 use Rattle.fws_tree.specs.declared.canvas.Canvas.{Canvas}
 use Rattle.fws_tree.specs.Painted as painted
 use Rattle.fws_exec.specs.declared.errand.Errand.{Errand}
@@ -23,116 +24,187 @@ use Rattle.fws_exec.specs.declared.spot.Class.{Class}
 use Rattle.fws_exec.specs.declared.spot.Spot.{Spot}
 use Rattle.fws_exec.specs.declared.spot.Spot.TheVariants.{At}
 use Rattle.fws_exec.specs.declared.spot.Stage.{Stage}
-use Rattle.fws_exec.specs.Classes.{kind_of, meant, meant_behind, transit_of, future, is_before, is_unused}
-use Rattle.fws_exec.specs.Courses.{course, Obeys, Keeps}
-use Rattle.fws_exec.specs.Divided.{AreMoved}
+use Rattle.fws_exec.specs.Classes.{kind_of, meant, transit_of, future, is_before, is_unused}
+use Rattle.fws_exec.specs.Courses.{aim_at, caught, course, course_used, Aim, IsOpen, Keeps, Meets, Obeys}
+use Rattle.fws_exec.specs.Divided.{says_at, AreMoved, AreNoted, IsSaid}
 use Rattle.fws_exec.specs.Goings.{lands, Goes, IsGone}
 use Rattle.fws_exec.specs.Moving.{IsGrown}
-use Rattle.fws_exec.specs.Passing.{is_apart, is_together, is_parted, HasPassed, Passed, IsOnward}
+use Rattle.fws_exec.specs.Passing.{is_apart, is_together, is_parted, HasPassed, MeetsFrom, Passed, IsOnward}
 use Rattle.fws_exec.specs.Sheets.{among, tops_in, class_at, IsPut, IsUsed, Grows, IsSheet, AllAt, AreSent, KeepsFutures}
 use Rattle.fws_exec.specs.Views.{is_in}
 use Rattle.fws_exec.proofs.Dividing.{before_less}
 use Rattle.fws_exec.proofs.Hulled.{same_hulled}
-use Rattle.fws_exec.proofs.Moved.{at_grows, behind_away, or_left, or_right, or_neither}
+use Rattle.fws_exec.proofs.Moved.{at_grows, behind_away, or_left, or_right, or_neither, same_used}
 use Rattle.fws_exec.proofs.Putting.{future_of, future_same, same_or_not}
+use Rattle.fws_exec.proofs.Running.{used_caught, used_free}
+use Rattle.fws_exec.proofs.Telling.{open_at, open_before, tells_by, tells_equal, tells_same, tells_then, unsought}
 
 -- a point that went on stays where it is while the classes of others pass
-stays_on : (e : Errand) (next : Stage → Transit → Outcome) (p : List ℕ) (B : ℕ → Bool) (place at here : ℕ) (mid new : Sheet) (d : Class)
-    → IsWithin (tops_in mid) p → Passed e B at here mid new → AllAt (At place) mid.roll.classes.items B → IsUsed mid.roll.classes.items (class_at mid p) d → is_before (place + 1) d.spot ≡ false
+stays_on : (e : Errand) (aim : Aim) (p : List ℕ) (B : ℕ → Bool) (place at here : ℕ) (mid new : Sheet) (d : Class)
+    → IsOpen new.reached.items aim → IsWithin (tops_in mid) p → Passed e B at here mid new → AllAt (At place) mid.roll.classes.items B → IsUsed mid.roll.classes.items (class_at mid p) d → is_before (place + 1) d.spot ≡ false
     → class_at new p ≡ class_at mid p
-stays_on e next p B place at here mid new d w second stand used behind = elim (second next p d w used) [
+stays_on e aim p B place at here mid new d free w second stand used behind = elim (second.kept aim p d free w used) [
   | inl k ↦ absurd (behind_away place mid.roll.classes.items (class_at mid p) d (stand (class_at mid p) k.0) used.0 behind)
   | inr k ↦ k.1
 ]
 
+-- a point whose class still stands at the place stayed in it, and goes on as at the other place if its class passed
+still : (e : Errand) (aim : Aim) (p : List ℕ) (A B : ℕ → Bool) (place at : ℕ) (old mid : Sheet) (c : Class) → IsOpen mid.reached.items aim → IsWithin (tops_in old) p
+    → IsUsed old.roll.classes.items (class_at old p) c → Passed e A place at old mid → AllAt (At place) mid.roll.classes.items B → B (class_at mid p) ≡ true
+    → (class_at mid p ≡ class_at old p) × (A (class_at old p) ≡ true → course e aim p place (transit_of c.progress p) ≡ course e aim p at (transit_of c.progress p))
+still e aim p A B place at old mid c free w used first stand called = elim (first.kept aim p c free w used) [
+  | inl h ↦ elim h.1 [
+    | inl s ↦ (s.0, λ a. s.1)
+    | inr d ↦ absurd (behind_away place mid.roll.classes.items (class_at mid p) d.0 (stand (class_at mid p) called) d.1.0 d.2)
+  ]
+  | inr h ↦ (h.1, λ a. absurd (false≢true (sym h.0 ∙ a)))
+]
+
+-- nothing becomes of packets
+no_stage : Stage → Transit → Outcome
+no_stage stage t = outcomes.Drop
+
+-- a point that uses an instruction while classes that stand at the place pass, used it before
+met_before : (e : Errand) (A B C : ℕ → Bool) (place at here : ℕ) (old mid : Sheet) → IsSheet old → Grows old.roll.classes.items mid.roll.classes.items → tops_in mid ≡ tops_in old
+    → AllAt (At place) mid.roll.classes.items B → Passed e A place at old mid → ((n : ℕ) → B n ≡ true → C n ≡ true)
+    → ((aim : Aim) (p : List ℕ) (t : Transit) (n : ℕ) → B n ≡ true → (A n ≡ true → course e aim p place t ≡ course e aim p at t) → course e aim p here t ≡ caught → course e aim p place t ≡ caught)
+    → (k : ℕ) → slice_get mid.reached.items k ≡ Some false → MeetsFrom e B here mid k → MeetsFrom e C place old k
+met_before e A B C place at here old mid sheet before tops stand first more goes k got m =
+    let inside : IsWithin (tops_in old) m.0 = subst (λ ts. IsWithin ts m.0) tops m.2 in
+    let c = (sheet.used m.0 inside).0 in
+    let used = (sheet.used m.0 inside).1 in
+    let stays = λ (next : Stage → Transit → Outcome). still e (aim_at k next) m.0 A B place at old mid c (open_at mid.reached.items k next got) inside used first stand m.4 in
+    let same : class_at mid m.0 ≡ class_at old m.0 = (stays no_stage).0 in
+    let called : B (class_at old m.0) ≡ true = ap B (sym same) ∙ m.4 in
+    let own : m.1 ≡ c = same_used mid.roll.classes.items (class_at mid m.0) m.1 c m.3 (subst (λ n. IsUsed mid.roll.classes.items n c) (sym same) (before (class_at old m.0) c used)) in (
+      m.0,
+      c,
+      inside,
+      used,
+      more (class_at old m.0) called,
+      λ next. goes (aim_at k next) m.0 (transit_of c.progress m.0) (class_at old m.0) called (stays next).1 (subst (λ (d : Class). course e (aim_at k next) m.0 here (transit_of d.progress m.0) ≡ caught) own (m.5 next)),
+    )
+
+-- the same for more classes
+met_more : (e : Errand) (A C : ℕ → Bool) (place : ℕ) (s : Sheet) → ((n : ℕ) → A n ≡ true → C n ≡ true) → (k : ℕ) → MeetsFrom e A place s k → MeetsFrom e C place s k
+met_more e A C place s more k m = (m.0, m.1, m.2, m.3, more (class_at s m.0) m.4, m.5)
+
 -- some classes pass, and then others
-pub passed_both : (e : Errand) (A B C : ℕ → Bool) (place at : ℕ) (old mid new : Sheet)
+pub passed_both : (e : Errand) (A B C : ℕ → Bool) (place at : ℕ) (old mid new : Sheet) → IsSheet old
     → ((n : ℕ) → C n ≡ (A n || B n)) → Grows old.roll.classes.items mid.roll.classes.items → Grows mid.roll.classes.items new.roll.classes.items → tops_in mid ≡ tops_in old
     → AllAt (At place) mid.roll.classes.items B → Passed e A place at old mid → Passed e B place at mid new → Passed e C place at old new
-passed_both e A B C place at old mid new parts before after tops stand first second next p c w used =
-    let inside : IsWithin (tops_in mid) p = subst (λ ts. IsWithin ts p) (sym tops) w in
-    elim (first next p c w used) [
-      | inl h ↦ inl (
-        or_left (A (class_at old p)) (B (class_at old p)) (C (class_at old p)) (parts (class_at old p)) h.0,
-        elim h.1 [
-          | inl s ↦ elim (second next p c inside (subst (λ n. IsUsed mid.roll.classes.items n c) (sym s.0) (before (class_at old p) c used))) [
-            | inl k ↦ subst (λ n. HasPassed e next p place at c.progress new.roll.classes.items n (class_at new p)) s.0 k.1
-            | inr k ↦ inl (k.1 ∙ s.0, s.1)
-          ]
-          | inr d ↦ inr (
-            d.0,
-            subst (λ n. IsUsed new.roll.classes.items n d.0) (sym (stays_on e next p B place place at mid new d.0 inside second stand d.1 d.2)) (after (class_at mid p) d.0 d.1),
-            d.2,
-            d.3,
+passed_both e A B C place at old mid new sheet parts before after tops stand first second = record {
+  kept = kept;
+  tells = tells_then old.reached.items mid.reached.items new.reached.items (MeetsFrom e A place old) (MeetsFrom e B place mid) (MeetsFrom e C place old) first.tells second.tells
+      (met_more e A C place old (λ n a. or_left (A n) (B n) (C n) (parts n) a))
+      (met_before e A B C place at place old mid sheet before tops stand first (λ n b. or_right (A n) (B n) (C n) (parts n) b) (λ aim p t n b same got. got));
+}
+  where
+    kept : (aim : Aim) (p : List ℕ) (c : Class) → IsOpen new.reached.items aim → IsWithin (tops_in old) p → IsUsed old.roll.classes.items (class_at old p) c
+        → ((C (class_at old p) ≡ true) × HasPassed e aim p place at c.progress new.roll.classes.items (class_at old p) (class_at new p))
+        ⊎ ((C (class_at old p) ≡ false) × (class_at new p ≡ class_at old p))
+    kept aim p c free w used =
+        let inside : IsWithin (tops_in mid) p = subst (λ ts. IsWithin ts p) (sym tops) w in
+        let earlier : IsOpen mid.reached.items aim = open_before mid.reached.items new.reached.items (MeetsFrom e B place mid) aim second.tells free in
+        elim (first.kept aim p c earlier w used) [
+          | inl h ↦ inl (
+            or_left (A (class_at old p)) (B (class_at old p)) (C (class_at old p)) (parts (class_at old p)) h.0,
+            elim h.1 [
+              | inl s ↦ elim (second.kept aim p c free inside (subst (λ n. IsUsed mid.roll.classes.items n c) (sym s.0) (before (class_at old p) c used))) [
+                | inl k ↦ subst (λ n. HasPassed e aim p place at c.progress new.roll.classes.items n (class_at new p)) s.0 k.1
+                | inr k ↦ inl (k.1 ∙ s.0, s.1)
+              ]
+              | inr d ↦ inr (
+                d.0,
+                subst (λ n. IsUsed new.roll.classes.items n d.0) (sym (stays_on e aim p B place place at mid new d.0 free inside second stand d.1 d.2)) (after (class_at mid p) d.0 d.1),
+                d.2,
+                d.3,
+              )
+            ],
           )
-        ],
-      )
-      | inr h ↦ elim (second next p c inside (subst (λ n. IsUsed mid.roll.classes.items n c) (sym h.1) (before (class_at old p) c used))) [
-        | inl k ↦ inl (
-          or_right (A (class_at old p)) (B (class_at old p)) (C (class_at old p)) (parts (class_at old p)) (ap B (sym h.1) ∙ k.0),
-          subst (λ n. HasPassed e next p place at c.progress new.roll.classes.items n (class_at new p)) h.1 k.1,
-        )
-        | inr k ↦ inr (or_neither (A (class_at old p)) (B (class_at old p)) (C (class_at old p)) (parts (class_at old p)) h.0 (ap B (sym h.1) ∙ k.0), k.1 ∙ h.1)
-      ]
-    ]
+          | inr h ↦ elim (second.kept aim p c free inside (subst (λ n. IsUsed mid.roll.classes.items n c) (sym h.1) (before (class_at old p) c used))) [
+            | inl k ↦ inl (
+              or_right (A (class_at old p)) (B (class_at old p)) (C (class_at old p)) (parts (class_at old p)) (ap B (sym h.1) ∙ k.0),
+              subst (λ n. HasPassed e aim p place at c.progress new.roll.classes.items n (class_at new p)) h.1 k.1,
+            )
+            | inr k ↦ inr (or_neither (A (class_at old p)) (B (class_at old p)) (C (class_at old p)) (parts (class_at old p)) h.0 (ap B (sym h.1) ∙ k.0), k.1 ∙ h.1)
+          ]
+        ]
 
 -- classes pass one more instruction
-pub passed_on : (e : Errand) (A : ℕ → Bool) (place at : ℕ) (old mid new : Sheet) → place ≤ at
+pub passed_on : (e : Errand) (A : ℕ → Bool) (place at : ℕ) (old mid new : Sheet) → IsSheet old → place ≤ at
     → Grows old.roll.classes.items mid.roll.classes.items → Grows mid.roll.classes.items new.roll.classes.items → tops_in mid ≡ tops_in old
     → AllAt (At place) mid.roll.classes.items A → Passed e A place at old mid → Passed e A at (at + 1) mid new → Passed e A place (at + 1) old new
-passed_on e A place at old mid new le before after tops stand first second next p c w used =
-    let inside : IsWithin (tops_in mid) p = subst (λ ts. IsWithin ts p) (sym tops) w in
-    elim (first next p c w used) [
-      | inl h ↦ inl (
-        h.0,
-        elim h.1 [
-          | inl s ↦ elim (second next p c inside (subst (λ n. IsUsed mid.roll.classes.items n c) (sym s.0) (before (class_at old p) c used))) [
-            | inl k ↦ elim k.1 [
-              | inl t ↦ inl (t.0 ∙ s.0, s.1 ∙ t.1)
-              | inr d ↦ inr (d.0, d.1, before_less (place + 1) (at + 1) d.0.spot (let more : place + 1 ≤ at + 1 = omega arith in more) d.2, d.3 ∙ sym s.1)
-            ]
-            | inr k ↦ absurd (false≢true (sym k.0 ∙ ap A s.0 ∙ h.0))
-          ]
-          | inr d ↦ inr (
-            d.0,
-            subst (λ n. IsUsed new.roll.classes.items n d.0) (sym (stays_on e next p A place at (at + 1) mid new d.0 inside second stand d.1 d.2)) (after (class_at mid p) d.0 d.1),
-            d.2,
-            d.3,
+passed_on e A place at old mid new sheet le before after tops stand first second = record {
+  kept = kept;
+  tells = tells_then old.reached.items mid.reached.items new.reached.items (MeetsFrom e A place old) (MeetsFrom e A at mid) (MeetsFrom e A place old) first.tells second.tells (λ k m. m)
+      (met_before e A A A place at at old mid sheet before tops stand first (λ n a. a) (λ aim p t n a same got. same a ∙ got));
+}
+  where
+    kept : (aim : Aim) (p : List ℕ) (c : Class) → IsOpen new.reached.items aim → IsWithin (tops_in old) p → IsUsed old.roll.classes.items (class_at old p) c
+        → ((A (class_at old p) ≡ true) × HasPassed e aim p place (at + 1) c.progress new.roll.classes.items (class_at old p) (class_at new p))
+        ⊎ ((A (class_at old p) ≡ false) × (class_at new p ≡ class_at old p))
+    kept aim p c free w used =
+        let inside : IsWithin (tops_in mid) p = subst (λ ts. IsWithin ts p) (sym tops) w in
+        let earlier : IsOpen mid.reached.items aim = open_before mid.reached.items new.reached.items (MeetsFrom e A at mid) aim second.tells free in
+        elim (first.kept aim p c earlier w used) [
+          | inl h ↦ inl (
+            h.0,
+            elim h.1 [
+              | inl s ↦ elim (second.kept aim p c free inside (subst (λ n. IsUsed mid.roll.classes.items n c) (sym s.0) (before (class_at old p) c used))) [
+                | inl k ↦ elim k.1 [
+                  | inl t ↦ inl (t.0 ∙ s.0, s.1 ∙ t.1)
+                  | inr d ↦ inr (d.0, d.1, before_less (place + 1) (at + 1) d.0.spot (let more : place + 1 ≤ at + 1 = omega arith in more) d.2, d.3 ∙ sym s.1)
+                ]
+                | inr k ↦ absurd (false≢true (sym k.0 ∙ ap A s.0 ∙ h.0))
+              ]
+              | inr d ↦ inr (
+                d.0,
+                subst (λ n. IsUsed new.roll.classes.items n d.0) (sym (stays_on e aim p A place at (at + 1) mid new d.0 free inside second stand d.1 d.2)) (after (class_at mid p) d.0 d.1),
+                d.2,
+                d.3,
+              )
+            ],
           )
-        ],
-      )
-      | inr h ↦ elim (second next p c inside (subst (λ n. IsUsed mid.roll.classes.items n c) (sym h.1) (before (class_at old p) c used))) [
-        | inl k ↦ absurd (false≢true (sym h.0 ∙ ap A (sym h.1) ∙ k.0))
-        | inr k ↦ inr (h.0, k.1 ∙ h.1)
-      ]
-    ]
+          | inr h ↦ elim (second.kept aim p c free inside (subst (λ n. IsUsed mid.roll.classes.items n c) (sym h.1) (before (class_at old p) c used))) [
+            | inl k ↦ absurd (false≢true (sym h.0 ∙ ap A (sym h.1) ∙ k.0))
+            | inr k ↦ inr (h.0, k.1 ∙ h.1)
+          ]
+        ]
 
 -- classes pass no instruction
 pub passed_same : (e : Errand) (A : ℕ → Bool) (place : ℕ) (s : Sheet) → Passed e A place place s s
-passed_same e A place s next p c w used = elim (cases_Bool (A (class_at s p))) [
-  | inl a ↦ inl (a, inl (refl, refl))
-  | inr a ↦ inr (a, refl)
-]
+passed_same e A place s = record {
+  kept = λ aim p c free w used. elim (cases_Bool (A (class_at s p))) [
+    | inl a ↦ inl (a, inl (refl, refl))
+    | inr a ↦ inr (a, refl)
+  ];
+  tells = tells_same s.reached.items (MeetsFrom e A place s);
+}
 
 -- classes whose packets go on as if they had passed
 pub passed_wide : (e : Errand) (A B : ℕ → Bool) (place at : ℕ) (old new : Sheet) → ((n : ℕ) → A n ≡ true → B n ≡ true)
-    → ((n : ℕ) (c : Class) → B n ≡ true → A n ≡ false → slice_get old.roll.classes.items n ≡ Some c → (next : Stage → Transit → Outcome) (p : List ℕ) → course e next p place (transit_of c.progress p) ≡ course e next p at (transit_of c.progress p))
+    → ((n : ℕ) (c : Class) → B n ≡ true → A n ≡ false → slice_get old.roll.classes.items n ≡ Some c → (aim : Aim) (p : List ℕ) → IsOpen new.reached.items aim → course e aim p place (transit_of c.progress p) ≡ course e aim p at (transit_of c.progress p))
     → Passed e A place at old new → Passed e B place at old new
-passed_wide e A B place at old new more stay passed next p c w used = elim (passed next p c w used) [
-  | inl h ↦ inl (more (class_at old p) h.0, h.1)
-  | inr h ↦ elim (cases_Bool (B (class_at old p))) [
-    | inl b ↦ inl (b, inl (h.1, stay (class_at old p) c b h.0 used.0 next p))
-    | inr b ↦ inr (b, h.1)
-  ]
-]
+passed_wide e A B place at old new more stay passed = record {
+  kept = λ aim p c free w used. elim (passed.kept aim p c free w used) [
+    | inl h ↦ inl (more (class_at old p) h.0, h.1)
+    | inr h ↦ elim (cases_Bool (B (class_at old p))) [
+      | inl b ↦ inl (b, inl (h.1, stay (class_at old p) c b h.0 used.0 aim p free))
+      | inr b ↦ inr (b, h.1)
+    ]
+  ];
+  tells = tells_by old.reached.items new.reached.items (MeetsFrom e A place old) (MeetsFrom e B place old) (λ k got m. met_more e A B place old more k m) passed.tells;
+}
 
--- packets that an instruction leaves as they are go on as behind it
-pub stay_on : (e : Errand) (place : ℕ) (ins : Ins) (g : Progress) → ((next : Stage → Transit → Outcome) (p : List ℕ) → Obeys e next p place ins)
-    → Goes (goings.Behind e.ground.state e.stage place ins.act) 1 g (record { spot = At (place + 1); progress = g })
-    → (next : Stage → Transit → Outcome) (p : List ℕ) → course e next p place (transit_of g p) ≡ course e next p (place + 1) (transit_of g p)
-stay_on e place ins g obeys goes next p =
-    obeys next p (transit_of g p)
-    ∙ either (holds ins.cond (sees e.ground.site.now (kind_of e.ground.state p) e.part (transit_of g p))) (sym (goes.1 (course e next p) next p))
+-- packets that an instruction leaves as they are go on as behind it, if it isn't sought
+pub stay_on : (e : Errand) (place : ℕ) (ins : Ins) (g : Progress) (xs : List Bool) → ((aim : Aim) (p : List ℕ) → Obeys e aim p place ins)
+    → Goes (goings.Behind e.ground.state e.stage place ins.act) 1 g (record { spot = At (place + 1); progress = g }) → slice_get xs place ≢ Some false
+    → (aim : Aim) (p : List ℕ) → IsOpen xs aim → course e aim p place (transit_of g p) ≡ course e aim p (place + 1) (transit_of g p)
+stay_on e place ins g xs obeys goes known aim p free =
+    obeys aim p (transit_of g p)
+    ∙ either (holds ins.cond (sees e.ground.site.now (kind_of e.ground.state p) e.part (transit_of g p)))
+    (used_free e aim p place ins (transit_of g p) (unsought xs aim place free known) ∙ sym (goes.1 (course e aim p) aim.next p))
   where
     either : {x y : Outcome} → (b : Bool) → x ≡ y → cond b x y ≡ y
     either true h = h
@@ -140,14 +212,17 @@ stay_on e place ins g obeys goes next p =
 
 -- no class passes
 pub passed_none : (e : Errand) (A : ℕ → Bool) (place at : ℕ) (s : Sheet) → ((n : ℕ) → A n ≡ false) → Passed e A place at s s
-passed_none e A place at s none next p c w used = inr (none (class_at s p), refl)
+passed_none e A place at s none = record { kept = λ aim p c free w used. inr (none (class_at s p), refl); tells = tells_same s.reached.items (MeetsFrom e A place s) }
 
 -- a test with the same answers
 pub passed_test : (e : Errand) (A B : ℕ → Bool) (place at : ℕ) (old new : Sheet) → ((n : ℕ) → B n ≡ A n) → Passed e A place at old new → Passed e B place at old new
-passed_test e A B place at old new same passed next p c w used = elim (passed next p c w used) [
-  | inl h ↦ inl (same (class_at old p) ∙ h.0, h.1)
-  | inr h ↦ inr (same (class_at old p) ∙ h.0, h.1)
-]
+passed_test e A B place at old new same passed = record {
+  kept = λ aim p c free w used. elim (passed.kept aim p c free w used) [
+    | inl h ↦ inl (same (class_at old p) ∙ h.0, h.1)
+    | inr h ↦ inr (same (class_at old p) ∙ h.0, h.1)
+  ];
+  tells = tells_by old.reached.items new.reached.items (MeetsFrom e A place old) (MeetsFrom e B place old) (λ k got m. met_more e A B place old (λ n a. same n ∙ a) k m) passed.tells;
+}
 
 -- classes that are added, from a place on
 pub onward_same : (place : ℕ) (cs : List Class) → IsOnward place cs cs
@@ -186,32 +261,49 @@ sent_sheet spot A mid new used canvas hulls sent sheet = record { used = sent_us
 -- what becomes of each packet stays, if the classes passed and those that stood at the place are sent on
 pub sent_kept : (e : Errand) (A : ℕ → Bool) (place at : ℕ) (old mid new : Sheet) → IsSheet old → tops_in old ≡ tops_of e.ground.site.now
     → Grows old.roll.classes.items mid.roll.classes.items → AllAt (At place) old.roll.classes.items A → Passed e A place at old mid
-    → new.canvas ≡ mid.canvas → AreSent (At at) A mid.roll.classes.items new.roll.classes.items → Keeps e old new
-sent_kept e A place at old mid new sheet tops grows stand passed canvas sent next p w =
-    let inside : IsWithin (tops_in old) p = subst (λ ts. IsWithin ts p) (sym tops) w in
-    let c = (sheet.used p inside).0 in
-    let used = (sheet.used p inside).1 in
-    ap (λ k. future (course e next p) next new.roll.classes.items (painted.value_at k p) p) canvas
-    ∙ (elim (passed next p c inside used) [
-      | inl h ↦ (
-          let spot : c.spot ≡ At place = ap (λ k. k.spot) (same_Some c (record { spot = At place; progress = (stand (class_at old p) h.0).0 }) (sym used.0 ∙ (stand (class_at old p) h.0).1)) in
-          let before : future (course e next p) next old.roll.classes.items (class_at old p) p ≡ course e next p place (transit_of c.progress p) =
-          future_of (course e next p) next old.roll.classes.items (class_at old p) c p used.0 ∙ ap (λ s. meant (course e next p) next s (transit_of c.progress p)) spot in
-          elim h.1 [
-            | inl s ↦ future_of (course e next p) next new.roll.classes.items (class_at mid p) (record c { spot = At at }) p
-                (sent_at (At at) A mid.roll.classes.items new.roll.classes.items (class_at mid p) c sent (ap A s.0 ∙ h.0) (ap (λ n. slice_get mid.roll.classes.items n) s.0 ∙ (grows (class_at old p) c used).0))
-                ∙ sym s.1 ∙ sym before
-            | inr d ↦ future_of (course e next p) next new.roll.classes.items (class_at mid p) d.0 p
-                (sent_away (At at) A mid.roll.classes.items new.roll.classes.items (class_at mid p) sent (elim (cases_Bool (A (class_at mid p))) [
-                  | inl a ↦ absurd (behind_away place mid.roll.classes.items (class_at mid p) d.0 (at_grows (At place) old.roll.classes.items mid.roll.classes.items A refl grows stand (class_at mid p) a) d.1.0 d.2)
-                  | inr a ↦ a
-                ]) ∙ d.1.0)
-                ∙ d.3 ∙ sym before
-          ])
-      | inr h ↦ future_of (course e next p) next new.roll.classes.items (class_at mid p) c p
-          (sent_away (At at) A mid.roll.classes.items new.roll.classes.items (class_at mid p) sent (ap A h.1 ∙ h.0) ∙ ap (λ n. slice_get mid.roll.classes.items n) h.1 ∙ (grows (class_at old p) c used).0)
-          ∙ sym (future_of (course e next p) next old.roll.classes.items (class_at old p) c p used.0)
-    ])
+    → new.canvas ≡ mid.canvas → new.reached.items ≡ mid.reached.items → AreSent (At at) A mid.roll.classes.items new.roll.classes.items → Keeps e old new
+sent_kept e A place at old mid new sheet tops grows stand passed canvas same sent = record {
+  kept = kept;
+  tells = tells_by old.reached.items new.reached.items (MeetsFrom e A place old) (Meets e old)
+      (λ k got m. (
+        m.0,
+        subst (λ ts. IsWithin ts m.0) tops m.2,
+        λ next. future_here (aim_at k next) m.0 m.1 m.3 m.4 ∙ m.5 next,
+      ))
+      (tells_equal old.reached.items old.reached.items mid.reached.items new.reached.items (MeetsFrom e A place old) refl same passed.tells);
+}
+  where
+    future_here : (aim : Aim) (p : List ℕ) (c : Class) → IsUsed old.roll.classes.items (class_at old p) c → A (class_at old p) ≡ true
+        → future (course e aim p) aim.next old.roll.classes.items (class_at old p) p ≡ course e aim p place (transit_of c.progress p)
+    future_here aim p c used a =
+        let spot : c.spot ≡ At place = ap (λ k. k.spot) (same_Some c (record { spot = At place; progress = (stand (class_at old p) a).0 }) (sym used.0 ∙ (stand (class_at old p) a).1)) in
+        future_of (course e aim p) aim.next old.roll.classes.items (class_at old p) c p used.0 ∙ ap (λ s. meant (course e aim p) aim.next s (transit_of c.progress p)) spot
+
+    kept : (aim : Aim) (p : List ℕ) → IsOpen new.reached.items aim → IsWithin (tops_of e.ground.site.now) p
+        → future (course e aim p) aim.next new.roll.classes.items (class_at new p) p ≡ future (course e aim p) aim.next old.roll.classes.items (class_at old p) p
+    kept aim p free w =
+        let inside : IsWithin (tops_in old) p = subst (λ ts. IsWithin ts p) (sym tops) w in
+        let c = (sheet.used p inside).0 in
+        let used = (sheet.used p inside).1 in
+        ap (λ k. future (course e aim p) aim.next new.roll.classes.items (painted.value_at k p) p) canvas
+        ∙ (elim (passed.kept aim p c (subst (λ xs. IsOpen xs aim) same free) inside used) [
+          | inl h ↦ (
+              let before = future_here aim p c used h.0 in
+              elim h.1 [
+                | inl s ↦ future_of (course e aim p) aim.next new.roll.classes.items (class_at mid p) (record c { spot = At at }) p
+                    (sent_at (At at) A mid.roll.classes.items new.roll.classes.items (class_at mid p) c sent (ap A s.0 ∙ h.0) (ap (λ n. slice_get mid.roll.classes.items n) s.0 ∙ (grows (class_at old p) c used).0))
+                    ∙ sym s.1 ∙ sym before
+                | inr d ↦ future_of (course e aim p) aim.next new.roll.classes.items (class_at mid p) d.0 p
+                    (sent_away (At at) A mid.roll.classes.items new.roll.classes.items (class_at mid p) sent (elim (cases_Bool (A (class_at mid p))) [
+                      | inl a ↦ absurd (behind_away place mid.roll.classes.items (class_at mid p) d.0 (at_grows (At place) old.roll.classes.items mid.roll.classes.items A refl grows stand (class_at mid p) a) d.1.0 d.2)
+                      | inr a ↦ a
+                    ]) ∙ d.1.0)
+                    ∙ d.3 ∙ sym before
+              ])
+          | inr h ↦ future_of (course e aim p) aim.next new.roll.classes.items (class_at mid p) c p
+              (sent_away (At at) A mid.roll.classes.items new.roll.classes.items (class_at mid p) sent (ap A h.1 ∙ h.0) ∙ ap (λ n. slice_get mid.roll.classes.items n) h.1 ∙ (grows (class_at old p) c used).0)
+              ∙ sym (future_of (course e aim p) aim.next old.roll.classes.items (class_at old p) c p used.0)
+        ])
 
 -- a sheet one of whose classes is put in the place of another is one
 pub put_sheet : (number : ℕ) (d : Class) (old new : Sheet) → is_unused d.spot ≡ false → new.canvas ≡ old.canvas → new.hulls.items ≡ old.hulls.items → IsPut number d old.roll.classes.items new.roll.classes.items → IsSheet old → IsSheet new
@@ -226,27 +318,90 @@ put_sheet number d old new used canvas hulls put sheet = record { used = put_use
           | inr away ↦ (before.0, subst (λ n. IsUsed new.roll.classes.items n before.0) (sym same) (put.1 (class_at old p) away ∙ before.1.0, before.1.1))
         ]
 
--- what becomes of each packet stays, if a class passes an instruction as a whole
-pub whole_kept : (e : Errand) (place : ℕ) (ins : Ins) (number : ℕ) (c d : Class) (old new : Sheet)
-    → IsUsed old.roll.classes.items number c → c.spot ≡ At place → Goes (goings.Behind e.ground.state e.stage place ins.act) 1 c.progress d → IsPut number d old.roll.classes.items new.roll.classes.items
-    → new.canvas ≡ old.canvas → ins.cond ≡ [] → ((next : Stage → Transit → Outcome) (p : List ℕ) → Obeys e next p place ins) → Keeps e old new
-whole_kept e place ins number c d old new used spot goes put canvas always obeys next p w =
-    ap (λ k. future (course e next p) next new.roll.classes.items (painted.value_at k p) p) canvas
-    ∙ elim (same_or_not (class_at old p) number) [
-      | inl here ↦ (
-          let acts : course e next p place (transit_of c.progress p) ≡ meant_behind (course e next p) next e.stage place (step_of (packet_of p) (kind_of e.ground.state p) ins.act (transit_of c.progress p)) =
-          obeys next p (transit_of c.progress p) ∙ ap (λ ls. cond (holds ls (sees e.ground.site.now (kind_of e.ground.state p) e.part (transit_of c.progress p))) (meant_behind (course e next p) next e.stage place (step_of (packet_of p) (kind_of e.ground.state p) ins.act (transit_of c.progress p))) (course e next p (place + 1) (transit_of c.progress p))) always in
-          ap (λ n. future (course e next p) next new.roll.classes.items n p) here
-          ∙ future_of (course e next p) next new.roll.classes.items number d p put.0 ∙ goes.1 (course e next p) next p ∙ sym acts
-          ∙ sym (ap (λ n. future (course e next p) next old.roll.classes.items n p) here ∙ future_of (course e next p) next old.roll.classes.items number c p used.0 ∙ ap (λ s. meant (course e next p) next s (transit_of c.progress p)) spot))
-      | inr away ↦ future_same (course e next p) next old.roll.classes.items new.roll.classes.items (class_at old p) p (put.1 (class_at old p) away)
-    ]
+-- what becomes of each packet stays, if a class passes an instruction as a whole whose uses were noted
+pub whole_kept : (e : Errand) (place : ℕ) (ins : Ins) (number : ℕ) (c d : Class) (old mid new : Sheet) → IsSheet old → tops_in old ≡ tops_of e.ground.site.now
+    → ((p : List ℕ) → class_at mid p ≡ class_at old p) → mid.roll.classes.items ≡ old.roll.classes.items
+    → IsUsed old.roll.classes.items number c → c.spot ≡ At place → Goes (goings.Behind e.ground.state e.stage place ins.act) 1 c.progress d → IsPut number d mid.roll.classes.items new.roll.classes.items
+    → new.canvas ≡ mid.canvas → new.reached.items ≡ mid.reached.items → ins.cond ≡ [] → ((aim : Aim) (p : List ℕ) → Obeys e aim p place ins)
+    → AreNoted (says_at place) (among (number ∷ [])) (λ g p. 1) old mid → Keeps e old new
+whole_kept e place ins number c d old mid new sheet tops stays roll used spot goes put canvas same always obeys noted = record {
+  kept = kept;
+  tells = tells_by old.reached.items new.reached.items (IsSaid (says_at place) (among (number ∷ [])) (λ g p. 1) old) (Meets e old)
+      (λ k got m. (
+        m.0,
+        subst (λ ts. IsWithin ts m.0) tops m.2,
+        λ next. future_here (aim_at k next) m.0 (one_number (class_at old m.0) m.4)
+            ∙ acts (aim_at k next) m.0 ∙ used_caught e (aim_at k next) m.0 place ins (transit_of c.progress m.0) (eq-eqb k place (eqb-true k place m.5)),
+      ))
+      (tells_equal old.reached.items old.reached.items mid.reached.items new.reached.items (IsSaid (says_at place) (among (number ∷ [])) (λ g p. 1) old) refl same noted.tells);
+}
+  where
+    one_number : (n : ℕ) → among (number ∷ []) n ≡ true → n ≡ number
+    one_number n a = eqb-true n number (or_nothing (nat_eq n number) a)
+      where
+        or_nothing : (b : Bool) → (b || false) ≡ true → b ≡ true
+        or_nothing true h = refl
+        or_nothing false h = h
+
+    number_one : (n : ℕ) → n ≡ number → among (number ∷ []) n ≡ true
+    number_one n e = ap (λ b. b || false) (eq-eqb n number e)
+
+    acts : (aim : Aim) (p : List ℕ) → course e aim p place (transit_of c.progress p) ≡ course_used e aim p place ins (transit_of c.progress p)
+    acts aim p =
+        obeys aim p (transit_of c.progress p)
+        ∙ ap (λ ls. cond (holds ls (sees e.ground.site.now (kind_of e.ground.state p) e.part (transit_of c.progress p))) (course_used e aim p place ins (transit_of c.progress p)) (course e aim p (place + 1) (transit_of c.progress p))) always
+
+    future_here : (aim : Aim) (p : List ℕ) → class_at old p ≡ number → future (course e aim p) aim.next old.roll.classes.items (class_at old p) p ≡ course e aim p place (transit_of c.progress p)
+    future_here aim p here =
+        ap (λ n. future (course e aim p) aim.next old.roll.classes.items n p) here ∙ future_of (course e aim p) aim.next old.roll.classes.items number c p used.0
+        ∙ ap (λ s. meant (course e aim p) aim.next s (transit_of c.progress p)) spot
+
+    kept : (aim : Aim) (p : List ℕ) → IsOpen new.reached.items aim → IsWithin (tops_of e.ground.site.now) p
+        → future (course e aim p) aim.next new.roll.classes.items (class_at new p) p ≡ future (course e aim p) aim.next old.roll.classes.items (class_at old p) p
+    kept aim p free w =
+        let inside : IsWithin (tops_in old) p = subst (λ ts. IsWithin ts p) (sym tops) w in
+        ap (λ k. future (course e aim p) aim.next new.roll.classes.items (painted.value_at k p) p) canvas
+        ∙ ap (λ n. future (course e aim p) aim.next new.roll.classes.items n p) (stays p)
+        ∙ elim (same_or_not (class_at old p) number) [
+          | inl here ↦ (
+              let out : aim.sought place ≡ false = unsought mid.reached.items aim place (subst (λ xs. IsOpen xs aim) same free)
+              (noted.noted place (p, (sheet.used p inside).0, inside, (sheet.used p inside).1, number_one (class_at old p) here, eq-eqb place place refl)) in
+              ap (λ n. future (course e aim p) aim.next new.roll.classes.items n p) here
+              ∙ future_of (course e aim p) aim.next new.roll.classes.items number d p put.0 ∙ goes.1 (course e aim p) aim.next p
+              ∙ sym (acts aim p ∙ used_free e aim p place ins (transit_of c.progress p) out)
+              ∙ sym (future_here aim p here))
+          | inr away ↦ future_same (course e aim p) aim.next mid.roll.classes.items new.roll.classes.items (class_at old p) p (put.1 (class_at old p) away)
+              ∙ ap (λ cs. future (course e aim p) aim.next cs (class_at old p) p) roll
+        ]
 
 -- the same from a sheet with the same classes at the same points
-pub passed_from : (e : Errand) (A : ℕ → Bool) (place at : ℕ) (old mid new : Sheet) → ((p : List ℕ) → class_at mid p ≡ class_at old p) → mid.roll ≡ old.roll → tops_in mid ≡ tops_in old → Passed e A place at mid new → Passed e A place at old new
-passed_from e A place at old mid new same roll tops passed next p c w used =
-    subst (λ n. ((A n ≡ true) × HasPassed e next p place at c.progress new.roll.classes.items n (class_at new p)) ⊎ ((A n ≡ false) × (class_at new p ≡ n))) (same p)
-    (passed next p c (subst (λ ts. IsWithin ts p) (sym tops) w) (subst (λ n. IsUsed mid.roll.classes.items n c) (sym (same p)) (subst (λ (r : Roll). IsUsed r.classes.items (class_at old p) c) (sym roll) used)))
+pub noted_from : (says : ℕ → ℕ → Bool) (A : ℕ → Bool) (label : Progress → List ℕ → ℕ) (old mid new : Sheet) → ((p : List ℕ) → class_at mid p ≡ class_at old p) → mid.roll ≡ old.roll → tops_in mid ≡ tops_in old → mid.reached.items ≡ old.reached.items
+    → AreNoted says A label mid new → AreNoted says A label old new
+noted_from says A label old mid new same roll tops reached noted = record {
+  noted = λ k m. noted.noted k (later k m);
+  tells = tells_by old.reached.items new.reached.items (IsSaid says A label mid) (IsSaid says A label old) (λ k got m. earlier k m)
+      (tells_equal old.reached.items mid.reached.items new.reached.items new.reached.items (IsSaid says A label mid) reached refl noted.tells);
+}
+  where
+    later : (k : ℕ) → IsSaid says A label old k → IsSaid says A label mid k
+    later k m = (
+      m.0,
+      m.1,
+      subst (λ ts. IsWithin ts m.0) (sym tops) m.2,
+      subst (λ n. IsUsed mid.roll.classes.items n m.1) (sym (same m.0)) (subst (λ (r : Roll). IsUsed r.classes.items (class_at old m.0) m.1) (sym roll) m.3),
+      ap A (same m.0) ∙ m.4,
+      m.5,
+    )
+
+    earlier : (k : ℕ) → IsSaid says A label mid k → IsSaid says A label old k
+    earlier k m = (
+      m.0,
+      m.1,
+      subst (λ ts. IsWithin ts m.0) tops m.2,
+      subst (λ n. IsUsed old.roll.classes.items n m.1) (same m.0) (subst (λ (r : Roll). IsUsed r.classes.items (class_at mid m.0) m.1) roll m.3),
+      ap A (sym (same m.0)) ∙ m.4,
+      m.5,
+    )
 
 pub moved_from : (going : Going) (A : ℕ → Bool) (label : Progress → List ℕ → ℕ) (old mid new : Sheet) → ((p : List ℕ) → class_at mid p ≡ class_at old p) → mid.roll ≡ old.roll → tops_in mid ≡ tops_in old → AreMoved going A label mid new → AreMoved going A label old new
 moved_from going A label old mid new same roll tops moved p c w used =

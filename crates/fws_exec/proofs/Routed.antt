@@ -24,14 +24,16 @@ use Rattle.fws_exec.specs.declared.spot.Spot.{Spot}
 use Rattle.fws_exec.specs.declared.spot.Spot.TheVariants.{Unused, Dropped, At, Before}
 use Rattle.fws_exec.specs.declared.spot.Stage.{Stage}
 use Rattle.fws_exec.specs.declared.spot.Stage.TheVariants.{Arrive, Deliver, Forward, Send}
+use Rattle.fws_exec.specs.Courses.{Aim, IsOpen}
 use Rattle.fws_exec.specs.Classes.{transit_of, meant, future, is_inside, is_at_stage, is_unused}
-use Rattle.fws_exec.specs.Divided.{seen_at, held, AreMoved}
+use Rattle.fws_exec.specs.Divided.{held, says_of, seen_at, AreMoved, AreNoted, IsSaid}
 use Rattle.fws_exec.specs.Moving.{IsGrown}
 use Rattle.fws_exec.specs.Sheets.{among, tops_in, class_at, stands, IsUsed, Grows, IsSheet, StandsAt, AllAt, AreSent}
-use Rattle.fws_exec.specs.Stages.{nowhere, Becomes, IsWhole, through_routing, onward_spot}
+use Rattle.fws_exec.specs.Stages.{nowhere, Becomes, IsWhole, MeetsBefore, through_routing, onward_spot}
 use Rattle.fws_exec.proofs.Moved.{at_grows, away}
 use Rattle.fws_exec.proofs.Passed.{sent_at, sent_away}
 use Rattle.fws_exec.proofs.Putting.{future_of}
+use Rattle.fws_exec.proofs.Telling.{tells_by, tells_equal}
 
 -- the part without instructions, between those of a packet's way
 abbrev pub between : Part
@@ -59,14 +61,14 @@ none_held false h = refl
 none_held true h = absurd (omega arith)
 
 -- a class that stands elsewhere than before routing has its own future there
-not_arriving : (site : Site) (next : Stage → Transit → Outcome) (p : List ℕ) (s : Spot) (t : Transit) → (s ≡ Before Arrive → ⊥) → meant nowhere next s t ≡ meant nowhere (through_routing site next p) s t
-not_arriving site next p Unused t h = refl
-not_arriving site next p Dropped t h = refl
-not_arriving site next p (At place) t h = refl
-not_arriving site next p (Before Arrive) t h = absurd (h refl)
-not_arriving site next p (Before Deliver) t h = refl
-not_arriving site next p (Before Forward) t h = refl
-not_arriving site next p (Before Send) t h = refl
+not_arriving : (site : Site) (aim : Aim) (p : List ℕ) (s : Spot) (t : Transit) → (s ≡ Before Arrive → ⊥) → meant nowhere aim.next s t ≡ meant nowhere (through_routing site aim p) s t
+not_arriving site aim p Unused t h = refl
+not_arriving site aim p Dropped t h = refl
+not_arriving site aim p (At place) t h = refl
+not_arriving site aim p (Before Arrive) t h = absurd (h refl)
+not_arriving site aim p (Before Deliver) t h = refl
+not_arriving site aim p (Before Forward) t h = refl
+not_arriving site aim p (Before Send) t h = refl
 
 pub deliver_apart : Before Deliver ≢ Before Arrive
 deliver_apart e = false≢true (ap (is_at_stage Arrive) e)
@@ -86,37 +88,44 @@ whole_at cs whole n a = (whole.0, ap (λ k. slice_get cs k) (eqb-true n 0 (or_no
 pub routed : (site : Site) (state : State) (part : Part) (lits : List Lit) (A : ℕ → Bool) (old mid new : Sheet) → IsSheet old → tops_in old ≡ tops_of site
     → ((v : View) → holds lits v ≡ is_local site v.packet.dst) → AllAt (Before Arrive) old.roll.classes.items A → ((n : ℕ) → StandsAt (Before Arrive) old.roll.classes.items n → A n ≡ true)
     → Grows old.roll.classes.items mid.roll.classes.items → AreMoved (goings.To (Before Deliver)) A (held site state part lits) old mid
-    → new.canvas ≡ mid.canvas → AreSent (onward_spot site.forwarding) A mid.roll.classes.items new.roll.classes.items → Becomes site old new (through_routing site)
-routed site state part lits A old mid new sheet tops local stand all grows moved canvas sent next p w =
-    let inside : IsWithin (tops_in old) p = subst (λ ts. IsWithin ts p) (sym tops) w in
-    let c = (sheet.used p inside).0 in
-    let used = (sheet.used p inside).1 in
-    ap (λ k. future nowhere next new.roll.classes.items (painted.value_at k p) p) canvas
-    ∙ elim (moved p c inside used) [
-      | inl h ↦ (
-          let spot : c.spot ≡ Before Arrive = ap (λ k. k.spot) (same_Some c (record { spot = Before Arrive; progress = (stand (class_at old p) h.0).0 }) (sym used.0 ∙ (stand (class_at old p) h.0).1)) in
-          future_of nowhere next new.roll.classes.items (class_at mid p) h.2.0 p
-          (sent_away (onward_spot site.forwarding) A mid.roll.classes.items new.roll.classes.items (class_at mid p) sent (elim (cases_Bool (A (class_at mid p))) [
-            | inl a ↦ absurd (away (Before Arrive) mid.roll.classes.items (class_at mid p) h.2.0 (at_grows (Before Arrive) old.roll.classes.items mid.roll.classes.items A refl grows stand (class_at mid p) a) h.2.1.0 (λ e. deliver_apart (sym h.2.2.0 ∙ e)))
-            | inr a ↦ a
-          ]) ∙ h.2.1.0)
-          ∙ h.2.2.1 nowhere next p
-          ∙ ap (λ b. cond b (next Deliver (transit_of c.progress p)) (cond site.forwarding (next Forward (transit_of c.progress p)) outcomes.Drop)) (sym (sym (local (seen_at site state part c.progress p)) ∙ some_held (holds lits (seen_at site state part c.progress p)) h.1))
-          ∙ sym (future_of nowhere (through_routing site next p) old.roll.classes.items (class_at old p) c p used.0 ∙ ap (λ s. meant nowhere (through_routing site next p) s (transit_of c.progress p)) spot))
-      | inr h ↦ elim (cases_Bool (A (class_at old p))) [
-        | inl a ↦ (
-            let spot : c.spot ≡ Before Arrive = ap (λ k. k.spot) (same_Some c (record { spot = Before Arrive; progress = (stand (class_at old p) a).0 }) (sym used.0 ∙ (stand (class_at old p) a).1)) in
-            future_of nowhere next new.roll.classes.items (class_at mid p) (record c { spot = onward_spot site.forwarding }) p
-            (sent_at (onward_spot site.forwarding) A mid.roll.classes.items new.roll.classes.items (class_at mid p) c sent (ap A h.1 ∙ a) (ap (λ n. slice_get mid.roll.classes.items n) h.1 ∙ (grows (class_at old p) c used).0))
-            ∙ onward site.forwarding next (transit_of c.progress p)
-            ∙ ap (λ b. cond b (next Deliver (transit_of c.progress p)) (cond site.forwarding (next Forward (transit_of c.progress p)) outcomes.Drop)) (sym (sym (local (seen_at site state part c.progress p)) ∙ none_held (holds lits (seen_at site state part c.progress p)) (h.0 a)))
-            ∙ sym (future_of nowhere (through_routing site next p) old.roll.classes.items (class_at old p) c p used.0 ∙ ap (λ s. meant nowhere (through_routing site next p) s (transit_of c.progress p)) spot))
-        | inr a ↦ future_of nowhere next new.roll.classes.items (class_at mid p) c p
-            (sent_away (onward_spot site.forwarding) A mid.roll.classes.items new.roll.classes.items (class_at mid p) sent (ap A h.1 ∙ a) ∙ ap (λ n. slice_get mid.roll.classes.items n) h.1 ∙ (grows (class_at old p) c used).0)
-            ∙ not_arriving site next p c.spot (transit_of c.progress p) (λ e. false≢true (sym a ∙ all (class_at old p) (c.progress, used.0 ∙ ap (λ (s : Spot). Some (record { spot = s; progress = c.progress })) e)))
-            ∙ sym (future_of nowhere (through_routing site next p) old.roll.classes.items (class_at old p) c p used.0)
-      ]
-    ]
+    → new.canvas ≡ mid.canvas → new.reached.items ≡ mid.reached.items → AreNoted (says_of (goings.To (Before Deliver))) A (held site state part lits) old mid → AreSent (onward_spot site.forwarding) A mid.roll.classes.items new.roll.classes.items → Becomes site old new (through_routing site)
+routed site state part lits A old mid new sheet tops local stand all grows moved canvas same noted sent = record {
+  kept = kept;
+  tells = tells_by old.reached.items new.reached.items (IsSaid (says_of (goings.To (Before Deliver))) A (held site state part lits) old) (MeetsBefore site old (through_routing site)) (λ k got m. absurd (false≢true m.5))
+      (tells_equal old.reached.items old.reached.items mid.reached.items new.reached.items (IsSaid (says_of (goings.To (Before Deliver))) A (held site state part lits) old) refl same noted.tells);
+}
+  where
+    kept : (aim : Aim) (p : List ℕ) → IsOpen new.reached.items aim → IsWithin (tops_of site) p → future nowhere aim.next new.roll.classes.items (class_at new p) p ≡ future nowhere (through_routing site aim p) old.roll.classes.items (class_at old p) p
+    kept aim p free w =
+        let inside : IsWithin (tops_in old) p = subst (λ ts. IsWithin ts p) (sym tops) w in
+        let c = (sheet.used p inside).0 in
+        let used = (sheet.used p inside).1 in
+        ap (λ k. future nowhere aim.next new.roll.classes.items (painted.value_at k p) p) canvas
+        ∙ elim (moved p c inside used) [
+          | inl h ↦ (
+              let spot : c.spot ≡ Before Arrive = ap (λ k. k.spot) (same_Some c (record { spot = Before Arrive; progress = (stand (class_at old p) h.0).0 }) (sym used.0 ∙ (stand (class_at old p) h.0).1)) in
+              future_of nowhere aim.next new.roll.classes.items (class_at mid p) h.2.0 p
+              (sent_away (onward_spot site.forwarding) A mid.roll.classes.items new.roll.classes.items (class_at mid p) sent (elim (cases_Bool (A (class_at mid p))) [
+                | inl a ↦ absurd (away (Before Arrive) mid.roll.classes.items (class_at mid p) h.2.0 (at_grows (Before Arrive) old.roll.classes.items mid.roll.classes.items A refl grows stand (class_at mid p) a) h.2.1.0 (λ e. deliver_apart (sym h.2.2.0 ∙ e)))
+                | inr a ↦ a
+              ]) ∙ h.2.1.0)
+              ∙ h.2.2.1 nowhere aim.next p
+              ∙ ap (λ b. cond b (aim.next Deliver (transit_of c.progress p)) (cond site.forwarding (aim.next Forward (transit_of c.progress p)) outcomes.Drop)) (sym (sym (local (seen_at site state part c.progress p)) ∙ some_held (holds lits (seen_at site state part c.progress p)) h.1))
+              ∙ sym (future_of nowhere (through_routing site aim p) old.roll.classes.items (class_at old p) c p used.0 ∙ ap (λ s. meant nowhere (through_routing site aim p) s (transit_of c.progress p)) spot))
+          | inr h ↦ elim (cases_Bool (A (class_at old p))) [
+            | inl a ↦ (
+                let spot : c.spot ≡ Before Arrive = ap (λ k. k.spot) (same_Some c (record { spot = Before Arrive; progress = (stand (class_at old p) a).0 }) (sym used.0 ∙ (stand (class_at old p) a).1)) in
+                future_of nowhere aim.next new.roll.classes.items (class_at mid p) (record c { spot = onward_spot site.forwarding }) p
+                (sent_at (onward_spot site.forwarding) A mid.roll.classes.items new.roll.classes.items (class_at mid p) c sent (ap A h.1 ∙ a) (ap (λ n. slice_get mid.roll.classes.items n) h.1 ∙ (grows (class_at old p) c used).0))
+                ∙ onward site.forwarding aim.next (transit_of c.progress p)
+                ∙ ap (λ b. cond b (aim.next Deliver (transit_of c.progress p)) (cond site.forwarding (aim.next Forward (transit_of c.progress p)) outcomes.Drop)) (sym (sym (local (seen_at site state part c.progress p)) ∙ none_held (holds lits (seen_at site state part c.progress p)) (h.0 a)))
+                ∙ sym (future_of nowhere (through_routing site aim p) old.roll.classes.items (class_at old p) c p used.0 ∙ ap (λ s. meant nowhere (through_routing site aim p) s (transit_of c.progress p)) spot))
+            | inr a ↦ future_of nowhere aim.next new.roll.classes.items (class_at mid p) c p
+                (sent_away (onward_spot site.forwarding) A mid.roll.classes.items new.roll.classes.items (class_at mid p) sent (ap A h.1 ∙ a) ∙ ap (λ n. slice_get mid.roll.classes.items n) h.1 ∙ (grows (class_at old p) c used).0)
+                ∙ not_arriving site aim p c.spot (transit_of c.progress p) (λ e. false≢true (sym a ∙ all (class_at old p) (c.progress, used.0 ∙ ap (λ (s : Spot). Some (record { spot = s; progress = c.progress })) e)))
+                ∙ sym (future_of nowhere (through_routing site aim p) old.roll.classes.items (class_at old p) c p used.0)
+          ]
+        ]
 
 -- no class stands at an instruction then
 pub routed_outside : (f : Bool) (A : ℕ → Bool) (old mid new : List Class) → ((n : ℕ) → stands is_inside old n ≡ false) → IsGrown (goings.To (Before Deliver)) old mid → AreSent (onward_spot f) A mid new → (n : ℕ) → stands is_inside new n ≡ false

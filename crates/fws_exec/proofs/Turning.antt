@@ -3,11 +3,8 @@ use Rattle.std.proofs.Common.{◌≡◌, ℕ, ◌-◌, ◌≤◌, Bool, true, fa
 use Rattle.std.specs.Option.{option_map_or}
 use Rattle.std.proofs.lemmas.Bool.{false≢true}
 use Rattle.std.proofs.lemmas.Bool.Decides.{nat_tests}
-use Rattle.fws_net.specs.declared.outcome.Outcome.{Outcome}
 use Rattle.fws_net.specs.declared.outcome.Outcome.TheVariants as outcomes
-use Rattle.fws_net.specs.declared.transit.Transit.{Transit}
 use Rattle.fws_net.specs.Points.{packet_of}
-use Rattle.fws_flat.specs.Walk.{code_walk, part_walk}
 use Rattle.fws_exec.specs.declared.errand.Errand.{Errand}
 use Rattle.fws_exec.specs.declared.progress.Progress.{Progress}
 use Rattle.fws_exec.specs.declared.spot.Class.{Class}
@@ -19,14 +16,14 @@ use Rattle.fws_exec.specs.declared.turn.Turn.{Turn}
 use Rattle.fws_exec.specs.declared.turn.Turn.TheVariants.{Enter, Leave}
 use Rattle.fws_flat.specs.declared.code.Part.{Part}
 use Rattle.fws_exec.specs.Classes.{kind_of, meant, transit_of, future, same_stage, is_inside, is_before, is_unused}
-use Rattle.fws_exec.specs.Courses.{left, course}
+use Rattle.fws_exec.specs.Courses.{fate, left, course, Aim}
 use Rattle.fws_box.specs.Sides.{IsWithin}
 use Rattle.fws_tree.specs.declared.canvas.Canvas.{Canvas}
 use Rattle.fws_tree.specs.Painted as painted
 use Rattle.fws_exec.specs.declared.sheet.Sheet.{Sheet}
 use Rattle.fws_exec.specs.Sheets.{tops_in, class_at, IsSheet, IsUsed, stands}
 use Rattle.fws_exec.proofs.Hulled.{same_hulled}
-use Rattle.fws_exec.specs.Stages.{turned, nowhere, through_part}
+use Rattle.fws_exec.specs.Stages.{part_fate, turned, nowhere, through_part}
 
 pub same_stages : (a b : Stage) → same_stage a b ≡ true → b ≡ a
 same_stages Arrive Arrive h = refl
@@ -47,35 +44,35 @@ same_stages Send Deliver h = absurd (false≢true h)
 same_stages Send Forward h = absurd (false≢true h)
 
 -- what becomes of a class that enters
-enter_meant : (e : Errand) (next : Stage → Transit → Outcome) (p : List ℕ) (s : Spot) (g : Progress) → is_inside s ≡ false
-    → meant (course e next p) next (turned (Enter e.part e.stage) (record { spot = s; progress = g })).spot (transit_of (turned (Enter e.part e.stage) (record { spot = s; progress = g })).progress p)
-    ≡ meant nowhere (through_part e.code.now e.ground.site.now e.ground.state e.stage e.part next p) s (transit_of g p)
-enter_meant e next p Unused g h = refl
-enter_meant e next p Dropped g h = refl
-enter_meant e next p (At place) g h = absurd (false≢true (sym h))
-enter_meant e next p (Before other) g h = by (same_stage e.stage other) (same_stages e.stage other)
+enter_meant : (e : Errand) (aim : Aim) (p : List ℕ) (s : Spot) (g : Progress) → is_inside s ≡ false
+    → meant (course e aim p) aim.next (turned (Enter e.part e.stage) (record { spot = s; progress = g })).spot (transit_of (turned (Enter e.part e.stage) (record { spot = s; progress = g })).progress p)
+    ≡ meant nowhere (through_part e.code.now e.ground.site.now e.ground.state e.stage e.part aim p) s (transit_of g p)
+enter_meant e aim p Unused g h = refl
+enter_meant e aim p Dropped g h = refl
+enter_meant e aim p (At place) g h = absurd (false≢true (sym h))
+enter_meant e aim p (Before other) g h = by (same_stage e.stage other) (same_stages e.stage other)
   where
     by : (b : Bool) → (b ≡ true → other ≡ e.stage)
-        → meant (course e next p) next (cond {A = Class} b (record { spot = At e.part.first; progress = record g { verdict = e.part.end } }) (record { spot = Before other; progress = g })).spot (transit_of (cond {A = Class} b (record { spot = At e.part.first; progress = record g { verdict = e.part.end } }) (record { spot = Before other; progress = g })).progress p)
-        ≡ cond b (left (next other) (part_walk e.code.now e.ground.site.now (packet_of p) (kind_of e.ground.state p) e.part (transit_of g p))) (next other (transit_of g p))
-    by true same = ap (λ k. left (next k) (part_walk e.code.now e.ground.site.now (packet_of p) (kind_of e.ground.state p) e.part (transit_of g p))) (sym (same refl))
+        → meant (course e aim p) aim.next (cond {A = Class} b (record { spot = At e.part.first; progress = record g { verdict = e.part.end } }) (record { spot = Before other; progress = g })).spot (transit_of (cond {A = Class} b (record { spot = At e.part.first; progress = record g { verdict = e.part.end } }) (record { spot = Before other; progress = g })).progress p)
+        ≡ cond b (part_fate e.code.now e.ground.site.now (packet_of p) (kind_of e.ground.state p) aim.sought e.part (aim.next other) (transit_of g p)) (aim.next other (transit_of g p))
+    by true same = ap (λ k. part_fate e.code.now e.ground.site.now (packet_of p) (kind_of e.ground.state p) aim.sought e.part (aim.next k) (transit_of g p)) (sym (same refl))
     by false same = refl
 
 -- what becomes of a class that leaves
-leave_meant : (e : Errand) (next : Stage → Transit → Outcome) (p : List ℕ) (s : Spot) (g : Progress) → is_before e.part.past s ≡ false
-    → meant nowhere next (turned (Leave e.stage) (record { spot = s; progress = g })).spot (transit_of (turned (Leave e.stage) (record { spot = s; progress = g })).progress p)
-    ≡ meant (course e next p) next s (transit_of g p)
-leave_meant e next p Unused g h = refl
-leave_meant e next p Dropped g h = refl
-leave_meant e next p (Before other) g h = refl
-leave_meant e next p (At place) g h =
+leave_meant : (e : Errand) (aim : Aim) (p : List ℕ) (s : Spot) (g : Progress) → is_before e.part.past s ≡ false
+    → meant nowhere aim.next (turned (Leave e.stage) (record { spot = s; progress = g })).spot (transit_of (turned (Leave e.stage) (record { spot = s; progress = g })).progress p)
+    ≡ meant (course e aim p) aim.next s (transit_of g p)
+leave_meant e aim p Unused g h = refl
+leave_meant e aim p Dropped g h = refl
+leave_meant e aim p (Before other) g h = refl
+leave_meant e aim p (At place) g h =
     by g.verdict
-    ∙ ap (λ k. left (next e.stage) (code_walk e.ground.site.now (packet_of p) (kind_of e.ground.state p) e.part place (take k (drop place e.code.now)) 0 (transit_of g p))) (sym (none_left e.part.past place h))
+    ∙ ap (λ k. fate e.ground.site.now (packet_of p) (kind_of e.ground.state p) e.part aim.sought (aim.next e.stage) place (take k (drop place e.code.now)) 0 (transit_of g p)) (sym (none_left e.part.past place h))
   where
     none_left : (past place : ℕ) → nat_lt place past ≡ false → past - place ≡ 0
     none_left past place h = let le : past ≤ place = grind (arith, nat_tests) in omega arith
 
-    by : (b : Bool) → meant nowhere next (cond b (Before e.stage) Dropped) (transit_of g p) ≡ left (next e.stage) (cond b (Some (transit_of g p)) None)
+    by : (b : Bool) → meant nowhere aim.next (cond b (Before e.stage) Dropped) (transit_of g p) ≡ left (aim.next e.stage) (cond b (Some (transit_of g p)) None)
     by true = refl
     by false = refl
 
@@ -103,27 +100,27 @@ leave_inside stage (At place) g = by g.verdict
     by false = refl
 
 -- the same for classes by number
-pub enter_future : (e : Errand) (next : Stage → Transit → Outcome) (p : List ℕ) (old new : List Class) (n : ℕ) → slice_get new n ≡ option_map (turned (Enter e.part e.stage)) (slice_get old n) → stands is_inside old n ≡ false
-    → future (course e next p) next new n p ≡ future nowhere (through_part e.code.now e.ground.site.now e.ground.state e.stage e.part next p) old n p
-enter_future e next p old new n step out =
-    ap (λ (o : Option Class). option_map_or (λ c. meant (course e next p) next c.spot (transit_of c.progress p)) o outcomes.Drop) step ∙ by (slice_get old n) out
+pub enter_future : (e : Errand) (aim : Aim) (p : List ℕ) (old new : List Class) (n : ℕ) → slice_get new n ≡ option_map (turned (Enter e.part e.stage)) (slice_get old n) → stands is_inside old n ≡ false
+    → future (course e aim p) aim.next new n p ≡ future nowhere (through_part e.code.now e.ground.site.now e.ground.state e.stage e.part aim p) old n p
+enter_future e aim p old new n step out =
+    ap (λ (o : Option Class). option_map_or (λ c. meant (course e aim p) aim.next c.spot (transit_of c.progress p)) o outcomes.Drop) step ∙ by (slice_get old n) out
   where
     by : (o : Option Class) → option_map_or (λ c. is_inside c.spot) o false ≡ false
-        → option_map_or (λ c. meant (course e next p) next c.spot (transit_of c.progress p)) (option_map (turned (Enter e.part e.stage)) o) outcomes.Drop
-        ≡ option_map_or (λ c. meant nowhere (through_part e.code.now e.ground.site.now e.ground.state e.stage e.part next p) c.spot (transit_of c.progress p)) o outcomes.Drop
+        → option_map_or (λ c. meant (course e aim p) aim.next c.spot (transit_of c.progress p)) (option_map (turned (Enter e.part e.stage)) o) outcomes.Drop
+        ≡ option_map_or (λ c. meant nowhere (through_part e.code.now e.ground.site.now e.ground.state e.stage e.part aim p) c.spot (transit_of c.progress p)) o outcomes.Drop
     by None h = refl
-    by (Some c) h = enter_meant e next p c.spot c.progress h
+    by (Some c) h = enter_meant e aim p c.spot c.progress h
 
-pub leave_future : (e : Errand) (next : Stage → Transit → Outcome) (p : List ℕ) (old new : List Class) (n : ℕ) → slice_get new n ≡ option_map (turned (Leave e.stage)) (slice_get old n) → stands (is_before e.part.past) old n ≡ false
-    → future nowhere next new n p ≡ future (course e next p) next old n p
-leave_future e next p old new n step out =
-    ap (λ (o : Option Class). option_map_or (λ c. meant nowhere next c.spot (transit_of c.progress p)) o outcomes.Drop) step ∙ by (slice_get old n) out
+pub leave_future : (e : Errand) (aim : Aim) (p : List ℕ) (old new : List Class) (n : ℕ) → slice_get new n ≡ option_map (turned (Leave e.stage)) (slice_get old n) → stands (is_before e.part.past) old n ≡ false
+    → future nowhere aim.next new n p ≡ future (course e aim p) aim.next old n p
+leave_future e aim p old new n step out =
+    ap (λ (o : Option Class). option_map_or (λ c. meant nowhere aim.next c.spot (transit_of c.progress p)) o outcomes.Drop) step ∙ by (slice_get old n) out
   where
     by : (o : Option Class) → option_map_or (λ c. is_before e.part.past c.spot) o false ≡ false
-        → option_map_or (λ c. meant nowhere next c.spot (transit_of c.progress p)) (option_map (turned (Leave e.stage)) o) outcomes.Drop
-        ≡ option_map_or (λ c. meant (course e next p) next c.spot (transit_of c.progress p)) o outcomes.Drop
+        → option_map_or (λ c. meant nowhere aim.next c.spot (transit_of c.progress p)) (option_map (turned (Leave e.stage)) o) outcomes.Drop
+        ≡ option_map_or (λ c. meant (course e aim p) aim.next c.spot (transit_of c.progress p)) o outcomes.Drop
     by None h = refl
-    by (Some c) h = leave_meant e next p c.spot c.progress h
+    by (Some c) h = leave_meant e aim p c.spot c.progress h
 
 pub enter_stands : (e : Errand) (old new : List Class) (n : ℕ) → slice_get new n ≡ option_map (turned (Enter e.part e.stage)) (slice_get old n) → stands is_inside old n ≡ false → stands (is_before e.part.first) new n ≡ false
 enter_stands e old new n step out = ap (λ (o : Option Class). option_map_or (λ c. is_before e.part.first c.spot) o false) step ∙ by (slice_get old n) out

@@ -1,5 +1,5 @@
 -- What stays the same where idle tags aren't put.
-use Rattle.std.proofs.Common.{◌≡◌, ℕ, zero, suc, ◌-◌, Bool, true, false, cond, ◌&&◌, ◌||◌, not, nat_eq, nat_lt, nat_le, Option, Some, None, option_and_then, List, [], ◌∷◌, ◌++◌, length, take, drop, refl, sym, ◌∙◌, ap, subst, inl, inr}
+use Rattle.std.proofs.Common.{◌≡◌, ℕ, zero, suc, ◌-◌, Bool, true, false, cond, ◌&&◌, ◌||◌, not, nat_eq, nat_lt, nat_le, Some, None, List, [], ◌∷◌, ◌++◌, length, take, drop, refl, sym, ◌∙◌, ap, subst, inl, inr}
 use Rattle.std.specs.List.{list_any, list_all, filter}
 use Rattle.std.proofs.lemmas.Bool.{cases_Bool, true≢false, false≢true, or_left, or_right, or_parts, not-false, cond-true, cond-false, eqb-true, eq-eqb, ne_eqb}
 use Rattle.std.proofs.lemmas.List.{length-map, take-map, drop-map}
@@ -10,8 +10,8 @@ use Rattle.fws_net.specs.declared.condition.Test.{Test}
 use Rattle.fws_net.specs.declared.condition.Test.TheVariants as tests
 use Rattle.fws_net.specs.declared.connection.Kind.{Kind}
 use Rattle.fws_net.specs.declared.connection.Kind.TheVariants as kinds
-use Rattle.fws_net.specs.declared.exit.Exit.{Exit}
-use Rattle.fws_net.specs.declared.exit.Exit.TheVariants as exits
+use Rattle.fws_net.specs.declared.outcome.Outcome.{Outcome}
+use Rattle.fws_net.specs.declared.outcome.Outcome.TheVariants as outcomes
 use Rattle.fws_net.specs.declared.outcome.Rewrite.{Rewrite}
 use Rattle.fws_net.specs.declared.packet.Packet.{Packet}
 use Rattle.fws_net.specs.declared.site.Site.{Site}
@@ -19,17 +19,21 @@ use Rattle.fws_net.specs.declared.transit.Transit.{Transit}
 use Rattle.fws_net.specs.declared.view.View.{View}
 use Rattle.fws_net.specs.Conditions.{test_holds, lit_holds, holds}
 use Rattle.fws_net.specs.Connections.{is_est}
-use Rattle.fws_net.specs.Routes.{exit_at}
+use Rattle.fws_net.specs.Routes.{is_local}
 use Rattle.fws_net.specs.Showing.{receiving, sending}
-use Rattle.fws_net.specs.Transits.{rewritten, tracked_src, tracked_dst, has_tag, entered, with_verdict, with_src, with_dst, with_tracked_src, with_tracked_dst, with_tag, with_only_tag, without_tag, onwards, outcome_of}
+use Rattle.fws_net.specs.Transits.{rewritten, tracked_src, tracked_dst, has_tag, entered, with_verdict, with_src, with_dst, with_tracked_src, with_tracked_dst, with_tag, with_only_tag, without_tag, decided, outcome_of}
 use Rattle.fws_flat.specs.declared.code.Flat.{Flat}
 use Rattle.fws_flat.specs.declared.code.FlatAct.{FlatAct}
 use Rattle.fws_flat.specs.declared.code.FlatAct.TheVariants.{Accept, Drop, Hold, Jump, Src, Dst, RecSrc, RecDst, AddTag, OnlyTag, DelTag}
 use Rattle.fws_flat.specs.declared.code.Ins.{Ins}
 use Rattle.fws_flat.specs.declared.code.Part.{Part}
 use Rattle.fws_flat.specs.Soundness.{act_ok, code_ok, part_ok, flat_ok}
-use Rattle.fws_flat.specs.Walk.{sees, step_of, stepped, code_walk, part_code, part_walk, parts_walk, way_of, means}
+use Rattle.fws_flat.specs.Uses.{uses}
+use Rattle.fws_flat.specs.Walk.{sees, step_of, part_code, means}
+use Rattle.fws_exec.specs.Courses.{caught, fate, fate_behind, left}
 use Rattle.fws_exec.specs.Idle.{asks_for, tests_tag, is_tested, is_idle, puts_idle, act_without_idle, ins_without_idle, without_idle}
+use Rattle.fws_exec.specs.Stages.{part_fate, parts_fate}
+use Rattle.fws_exec.proofs.Meaning.{behind_routing, means_fate, same_caught, uses_fate, way_fate}
 
 -- two transits that differ in no more than tags that aren't tested
 record Agree (tested : ℕ → Bool) (s t : Transit) : Type 0 where
@@ -38,21 +42,12 @@ record Agree (tested : ℕ → Bool) (s t : Transit) : Type 0 where
   wrote : s.wrote ≡ t.wrote
   tags : (n : ℕ) → tested n ≡ true → list_any (nat_eq n) s.tags ≡ list_any (nat_eq n) t.tags
 
-abbrev EndsAgree : (ℕ → Bool) → Option Transit → Option Transit → Type 0
-EndsAgree tested None None = Unit
-EndsAgree tested (Some s) (Some t) = Agree tested s t
-EndsAgree tested (Some s) None = ⊥
-EndsAgree tested None (Some t) = ⊥
+-- what becomes of two such packets is the same
+abbrev IsBlind : (ℕ → Bool) → (Transit → Outcome) → (Transit → Outcome) → Type 0
+IsBlind tested f g = (s t : Transit) → Agree tested s t → f s ≡ g t
 
 same_transit : (tested : ℕ → Bool) (t : Transit) → Agree tested t t
 same_transit tested t = record { packet = refl; verdict = refl; wrote = refl; tags = λ n e. refl }
-
--- equal tests choose ends that agree
-chosen : (tested : ℕ → Bool) (b c : Bool) (x y u v : Option Transit) → b ≡ c → EndsAgree tested x u → EndsAgree tested y v → EndsAgree tested (cond b x y) (cond c u v)
-chosen tested true true x y u v e first second = first
-chosen tested false false x y u v e first second = second
-chosen tested true false x y u v e first second = absurd (true≢false e)
-chosen tested false true x y u v e first second = absurd (false≢true e)
 
 -- Conditions
 
@@ -153,52 +148,58 @@ idle_added tested n s t idle a =
     ∙ ap (λ b. not b && list_any (nat_eq m) t.tags) (sym (another_back tested m n e idle)) ∙ sym (any_taken m n t.tags)))
 
 -- a step goes on alike with the act that puts no idle tag
-step_agrees : (tested : ℕ → Bool) (mark : ℕ) → tested mark ≡ false → (p : Packet) (k : Kind) (go late : ℕ → Transit → Option Transit)
-    → ((to : ℕ) (s t : Transit) → Agree tested s t → EndsAgree tested (go to s) (late to t)) → (act : FlatAct) (s t : Transit) → Agree tested s t
-    → EndsAgree tested (stepped go (step_of p k act s)) (stepped late (step_of p k (act_without_idle tested mark act) t))
-step_agrees tested mark idle p k go late both Accept s t a = a
-step_agrees tested mark idle p k go late both Drop s t a = tt
-step_agrees tested mark idle p k go late both (Hold accepts) s t a = both 0 (with_verdict accepts s) (with_verdict accepts t) (record { packet = a.packet; verdict = refl; wrote = a.wrote; tags = a.tags })
-step_agrees tested mark idle p k go late both (Jump to) s t a = both to s t a
-step_agrees tested mark idle p k go late both (Src end) s t a =
+step_agrees : (tested : ℕ → Bool) (mark : ℕ) → tested mark ≡ false → (p : Packet) (k : Kind) (next other : Transit → Outcome) → IsBlind tested next other → (go late : ℕ → Transit → Outcome)
+    → ((to : ℕ) → IsBlind tested (go to) (late to)) → (act : FlatAct) (s t : Transit) → Agree tested s t
+    → fate_behind next go (step_of p k act s) ≡ fate_behind other late (step_of p k (act_without_idle tested mark act) t)
+step_agrees tested mark idle p k next other blind go late both Accept s t a = blind s t a
+step_agrees tested mark idle p k next other blind go late both Drop s t a = refl
+step_agrees tested mark idle p k next other blind go late both (Hold accepts) s t a = both 0 (with_verdict accepts s) (with_verdict accepts t) (record { packet = a.packet; verdict = refl; wrote = a.wrote; tags = a.tags })
+step_agrees tested mark idle p k next other blind go late both (Jump to) s t a = both to s t a
+step_agrees tested mark idle p k next other blind go late both (Src end) s t a =
     let put : Rewrite → Rewrite = λ w. record w { src = Some end } in
     both 0 (with_src p end s) (with_src p end t) (record { packet = ap (λ w. rewritten p (put w)) a.wrote; verdict = a.verdict; wrote = ap put a.wrote; tags = a.tags })
-step_agrees tested mark idle p k go late both (Dst end) s t a =
+step_agrees tested mark idle p k next other blind go late both (Dst end) s t a =
     let put : Rewrite → Rewrite = λ w. record w { dst = Some end } in
     both 0 (with_dst p end s) (with_dst p end t) (record { packet = ap (λ w. rewritten p (put w)) a.wrote; verdict = a.verdict; wrote = ap put a.wrote; tags = a.tags })
-step_agrees tested mark idle p k go late both RecSrc s t a = both 0 (with_tracked_src k s) (with_tracked_src k t) (record { packet = ap (λ q. tracked_src k q) a.packet; verdict = a.verdict; wrote = a.wrote; tags = a.tags })
-step_agrees tested mark idle p k go late both RecDst s t a = both 0 (with_tracked_dst k s) (with_tracked_dst k t) (record { packet = ap (λ q. tracked_dst k q) a.packet; verdict = a.verdict; wrote = a.wrote; tags = a.tags })
-step_agrees tested mark idle p k go late both (AddTag n) s t a = by (tested n) refl
+step_agrees tested mark idle p k next other blind go late both RecSrc s t a = both 0 (with_tracked_src k s) (with_tracked_src k t) (record { packet = ap (λ q. tracked_src k q) a.packet; verdict = a.verdict; wrote = a.wrote; tags = a.tags })
+step_agrees tested mark idle p k next other blind go late both RecDst s t a = both 0 (with_tracked_dst k s) (with_tracked_dst k t) (record { packet = ap (λ q. tracked_dst k q) a.packet; verdict = a.verdict; wrote = a.wrote; tags = a.tags })
+step_agrees tested mark idle p k next other blind go late both (AddTag n) s t a = by (tested n) refl
   where
-    by : (b : Bool) → tested n ≡ b → EndsAgree tested (go 0 (with_tag n s)) (stepped late (step_of p k (cond b (AddTag n) (DelTag n)) t))
+    by : (b : Bool) → tested n ≡ b → go 0 (with_tag n s) ≡ fate_behind other late (step_of p k (cond b (AddTag n) (DelTag n)) t)
     by true e = both 0 (with_tag n s) (with_tag n t) (both_added tested n s t a)
     by false e = both 0 (with_tag n s) (without_tag n t) (idle_added tested n s t e a)
-step_agrees tested mark idle p k go late both (OnlyTag n) s t a = by (tested n) refl
+step_agrees tested mark idle p k next other blind go late both (OnlyTag n) s t a = by (tested n) refl
   where
-    by : (b : Bool) → tested n ≡ b → EndsAgree tested (go 0 (with_only_tag n s)) (stepped late (step_of p k (cond b (OnlyTag n) (OnlyTag mark)) t))
+    by : (b : Bool) → tested n ≡ b → go 0 (with_only_tag n s) ≡ fate_behind other late (step_of p k (cond b (OnlyTag n) (OnlyTag mark)) t)
     by true e = both 0 (with_only_tag n s) (with_only_tag n t) (retagged tested s t (n ∷ []) (n ∷ []) a (λ m h. refl))
     by false e = both 0 (with_only_tag n s) (with_only_tag mark t) (retagged tested s t (n ∷ []) (mark ∷ []) a (λ m h. ap (λ b. b || false) (another tested m n h e ∙ sym (another tested m mark h idle))))
-step_agrees tested mark idle p k go late both (DelTag n) s t a = both 0 (without_tag n s) (without_tag n t)
+step_agrees tested mark idle p k next other blind go late both (DelTag n) s t a = both 0 (without_tag n s) (without_tag n t)
     (retagged tested s t (filter (λ tag. not (nat_eq n tag)) s.tags) (filter (λ tag. not (nat_eq n tag)) t.tags) a (λ m e.
     any_taken m n s.tags ∙ ap (λ b. not (nat_eq n m) && b) (a.tags m e) ∙ sym (any_taken m n t.tags)))
 
--- Walks
+-- What becomes of packets
 
--- instructions that test no other tags
-walk_agrees : (tested : ℕ → Bool) (mark : ℕ) → tested mark ≡ false → (site : Site) (p : Packet) (k : Kind) (part : Part) (at : ℕ) (is : List Ins) → ((n : ℕ) → is_tested is n ≡ true → tested n ≡ true)
-    → (to : ℕ) (s t : Transit) → Agree tested s t → EndsAgree tested (code_walk site p k part at is to s) (code_walk site p k part at (without_idle tested mark is) to t)
-walk_agrees tested mark idle site p k part at [] only to s t a = chosen tested s.verdict t.verdict (Some s) None (Some t) None a.verdict a tt
-walk_agrees tested mark idle site p k part at (i ∷ is) only to s t a =
-    let go : ℕ → Transit → Option Transit = code_walk site p k part (suc at) is in
-    let late : ℕ → Transit → Option Transit = code_walk site p k part (suc at) (without_idle tested mark is) in
-    let both = walk_agrees tested mark idle site p k part (suc at) is (λ n e. only n (or_right (tests_tag n i.cond) (is_tested is n) e)) in
-    let here : Option Transit = stepped go (step_of p k i.act s) in
-    let there : Option Transit = stepped late (step_of p k (act_without_idle tested mark i.act) t) in
-    let s_holds : Bool = holds i.cond (sees site k part s) in
-    let t_holds : Bool = holds i.cond (sees site k part t) in
-    chosen tested (nat_lt at to) (nat_lt at to) (go to s) (cond s_holds here (go 0 s)) (late to t) (cond t_holds there (late 0 t)) refl (both to s t a)
-    (chosen tested s_holds t_holds here (go 0 s) there (late 0 t) (cond_same tested site k part s t a i.cond (λ n e. only n (or_left (tests_tag n i.cond) (is_tested is n) e)))
-    (step_agrees tested mark idle p k go late both i.act s t a) (both 0 s t a))
+-- where the verdict so far decides
+decided_agrees : (tested : ℕ → Bool) (next other : Transit → Outcome) → IsBlind tested next other → (s t : Transit) → Agree tested s t → left next (decided s) ≡ left other (decided t)
+decided_agrees tested next other blind s t a = by s.verdict t.verdict a.verdict
+  where
+    by : (b c : Bool) → b ≡ c → left next (cond b (Some s) None) ≡ left other (cond c (Some t) None)
+    by true true e = blind s t a
+    by false false e = refl
+    by true false e = absurd (true≢false e)
+    by false true e = absurd (false≢true e)
+
+-- in instructions that test no other tags
+fate_agrees : (tested : ℕ → Bool) (mark : ℕ) → tested mark ≡ false → (site : Site) (p : Packet) (k : Kind) (part : Part) (sought : ℕ → Bool) (next other : Transit → Outcome) → IsBlind tested next other
+    → (at : ℕ) (is : List Ins) → ((n : ℕ) → is_tested is n ≡ true → tested n ≡ true) → (to : ℕ) → IsBlind tested (fate site p k part sought next at is to) (fate site p k part sought other at (without_idle tested mark is) to)
+fate_agrees tested mark idle site p k part sought next other blind at [] only to s t a = decided_agrees tested next other blind s t a
+fate_agrees tested mark idle site p k part sought next other blind at (i ∷ is) only to s t a =
+    let both = fate_agrees tested mark idle site p k part sought next other blind (suc at) is (λ n e. only n (or_right (tests_tag n i.cond) (is_tested is n) e)) in
+    let met = cond_same tested site k part s t a i.cond (λ n e. only n (or_left (tests_tag n i.cond) (is_tested is n) e)) in
+    let step = step_agrees tested mark idle p k next other blind (fate site p k part sought next (suc at) is) (fate site p k part sought other (suc at) (without_idle tested mark is)) both i.act s t a in
+    let missed = both 0 s t a in
+    let passed = both to s t a in
+    λ j. cond (nat_lt at to) (passed j) (cond (met j) (cond (sought at) caught (step j)) (missed j))
 
 either : (x y z : Bool) → (y ≡ true → z ≡ true) → (x || y) ≡ true → (x || z) ≡ true
 either true y z h e = refl
@@ -219,65 +220,56 @@ part_code_is : (tested : ℕ → Bool) (mark : ℕ) (code : List Ins) (part : Pa
 part_code_is tested mark code part =
     ap (λ is. take (part.past - part.first) is) (drop-map (ins_without_idle tested mark) part.first code) ∙ take-map (ins_without_idle tested mark) (part.past - part.first) (drop part.first code)
 
-part_agrees : (tested : ℕ → Bool) (mark : ℕ) → tested mark ≡ false → (code : List Ins) → ((n : ℕ) → is_tested code n ≡ true → tested n ≡ true) → (site : Site) (p : Packet) (k : Kind) (part : Part) (s t : Transit)
-    → Agree tested s t → EndsAgree tested (part_walk code site p k part s) (part_walk (without_idle tested mark code) site p k part t)
-part_agrees tested mark idle code only site p k part s t a =
-    subst (λ is. EndsAgree tested (part_walk code site p k part s) (code_walk site p k part part.first is 0 (with_verdict part.end t))) (sym (part_code_is tested mark code part))
-    (walk_agrees tested mark idle site p k part part.first (part_code code part)
+part_agrees : (tested : ℕ → Bool) (mark : ℕ) → tested mark ≡ false → (code : List Ins) → ((n : ℕ) → is_tested code n ≡ true → tested n ≡ true) → (site : Site) (p : Packet) (k : Kind) (sought : ℕ → Bool) (part : Part) (next other : Transit → Outcome)
+    → IsBlind tested next other → IsBlind tested (part_fate code site p k sought part next) (part_fate (without_idle tested mark code) site p k sought part other)
+part_agrees tested mark idle code only site p k sought part next other blind s t a =
+    subst (λ is. part_fate code site p k sought part next s ≡ fate site p k part sought other part.first is 0 (with_verdict part.end t)) (sym (part_code_is tested mark code part))
+    (fate_agrees tested mark idle site p k part sought next other blind part.first (part_code code part)
     (λ n e. only n (any_of_drop (λ ins. tests_tag n ins.cond) part.first code (any_of_take (λ ins. tests_tag n ins.cond) (part.past - part.first) (drop part.first code) e)))
     0 (with_verdict part.end s) (with_verdict part.end t) (record { packet = a.packet; verdict = refl; wrote = a.wrote; tags = a.tags }))
 
-then_agrees : (tested : ℕ → Bool) (f g : Transit → Option Transit) → ((s t : Transit) → Agree tested s t → EndsAgree tested (f s) (g t)) → (x y : Option Transit) → EndsAgree tested x y
-    → EndsAgree tested (option_and_then f x) (option_and_then g y)
-then_agrees tested f g both None None e = tt
-then_agrees tested f g both (Some s) (Some t) e = both s t e
-then_agrees tested f g both (Some s) None e = absurd e
-then_agrees tested f g both None (Some t) e = absurd e
+parts_agree : (tested : ℕ → Bool) (mark : ℕ) → tested mark ≡ false → (code : List Ins) → ((n : ℕ) → is_tested code n ≡ true → tested n ≡ true) → (site : Site) (p : Packet) (k : Kind) (sought : ℕ → Bool) (parts : List Part) (next other : Transit → Outcome)
+    → IsBlind tested next other → IsBlind tested (parts_fate code site p k sought parts next) (parts_fate (without_idle tested mark code) site p k sought parts other)
+parts_agree tested mark idle code only site p k sought [] next other blind s t a = blind s t a
+parts_agree tested mark idle code only site p k sought (part ∷ parts) next other blind s t a =
+    part_agrees tested mark idle code only site p k sought part (parts_fate code site p k sought parts next) (parts_fate (without_idle tested mark code) site p k sought parts other)
+    (parts_agree tested mark idle code only site p k sought parts next other blind) s t a
 
-parts_agree : (tested : ℕ → Bool) (mark : ℕ) → tested mark ≡ false → (code : List Ins) → ((n : ℕ) → is_tested code n ≡ true → tested n ≡ true) → (site : Site) (p : Packet) (k : Kind) (parts : List Part) (s t : Transit)
-    → Agree tested s t → EndsAgree tested (parts_walk code site p k parts s) (parts_walk (without_idle tested mark code) site p k parts t)
-parts_agree tested mark idle code only site p k [] s t a = a
-parts_agree tested mark idle code only site p k (part ∷ parts) s t a =
-    then_agrees tested (parts_walk code site p k parts) (parts_walk (without_idle tested mark code) site p k parts) (parts_agree tested mark idle code only site p k parts)
-    (part_walk code site p k part s) (part_walk (without_idle tested mark code) site p k part t) (part_agrees tested mark idle code only site p k part s t a)
-
-routed_agrees : (tested : ℕ → Bool) (f g h l : Transit → Option Transit) → ((s t : Transit) → Agree tested s t → EndsAgree tested (f s) (h t)) → ((s t : Transit) → Agree tested s t → EndsAgree tested (g s) (l t))
-    → (exit : Exit) (s t : Transit) → Agree tested s t → EndsAgree tested (onwards f g exit s) (onwards h l exit t)
-routed_agrees tested f g h l delivered forwarded exits.Deliver s t a = delivered s t a
-routed_agrees tested f g h l delivered forwarded (exits.Out entry) s t a = forwarded s t a
-routed_agrees tested f g h l delivered forwarded exits.Lost s t a = tt
-
-way_agrees : (tested : ℕ → Bool) (mark : ℕ) → tested mark ≡ false → (f : Flat) → ((n : ℕ) → is_tested f.code n ≡ true → tested n ≡ true) → (site : Site) (p : Packet) (k : Kind)
-    → EndsAgree tested (way_of f site p k) (way_of (record f { code = without_idle tested mark f.code }) site p k)
-way_agrees tested mark idle f only site p k =
-    let code : List Ins = without_idle tested mark f.code in
-    let walk : List Part → Transit → Option Transit = parts_walk f.code site p k in
-    let late : List Part → Transit → Option Transit = parts_walk code site p k in
-    let both = parts_agree tested mark idle f.code only site p k in
-    let goes : Transit → Option Transit = λ t. onwards (walk f.deliver) (walk f.forward) (exit_at site p.entry t.packet.dst) t in
-    let follows : Transit → Option Transit = λ t. onwards (late f.deliver) (late f.forward) (exit_at site p.entry t.packet.dst) t in
-    chosen tested (nat_eq p.entry 0) (nat_eq p.entry 0) (walk f.send (entered p)) (option_and_then goes (walk f.arrive (entered p))) (late f.send (entered p)) (option_and_then follows (late f.arrive (entered p)))
-    refl (both f.send (entered p) (entered p) (same_transit tested (entered p)))
-    (then_agrees tested goes follows (λ s t a.
-    subst (λ exit. EndsAgree tested (goes s) (onwards (late f.deliver) (late f.forward) exit t)) (ap (λ q. exit_at site p.entry q.dst) a.packet)
-    (routed_agrees tested (walk f.deliver) (walk f.forward) (late f.deliver) (late f.forward) (both f.deliver) (both f.forward) (exit_at site p.entry s.packet.dst) s t a))
-    (walk f.arrive (entered p)) (late f.arrive (entered p)) (both f.arrive (entered p) (entered p) (same_transit tested (entered p))))
-
-outcome_agrees : (tested : ℕ → Bool) (k : Kind) (x y : Option Transit) → EndsAgree tested x y → outcome_of k y ≡ outcome_of k x
-outcome_agrees tested kinds.New None None a = refl
-outcome_agrees tested (kinds.Est r) None None a = refl
-outcome_agrees tested kinds.New (Some s) (Some t) a = ap (λ w. outcome_of kinds.New (Some (record s { wrote = w }))) (sym a.wrote)
-outcome_agrees tested (kinds.Est r) (Some s) (Some t) a = refl
-outcome_agrees tested k (Some s) None a = absurd a
-outcome_agrees tested k None (Some t) a = absurd a
+way_agrees : (tested : ℕ → Bool) (mark : ℕ) → tested mark ≡ false → (f : Flat) → ((n : ℕ) → is_tested f.code n ≡ true → tested n ≡ true) → (site : Site) (p : Packet) (k : Kind) (sought : ℕ → Bool) (next : Transit → Outcome) → IsBlind tested next next
+    → way_fate f site p k sought next ≡ way_fate (record f { code = without_idle tested mark f.code }) site p k sought next
+way_agrees tested mark idle f only site p k sought next blind =
+    let both = parts_agree tested mark idle f.code only site p k sought in
+    let sent = both f.send next next blind (entered p) (entered p) (same_transit tested (entered p)) in
+    let arrived = both f.arrive (behind_routing f site p k sought next) (behind_routing (record f { code = without_idle tested mark f.code }) site p k sought next)
+    (λ s t a. (
+    let delivered = both f.deliver next next blind s t a in
+    let forwarded = both f.forward next next blind s t a in
+    λ j. cond (is_local site (a.packet j).dst) (delivered j) (cond site.forwarding (forwarded j) outcomes.Drop)))
+    (entered p) (entered p) (same_transit tested (entered p)) in
+    λ j. cond (nat_eq p.entry 0) (sent j) (arrived j)
 
 -- code that puts no idle tag means the same
 pub same_means : (f : Flat) (code late : List Ins) (tested : ℕ → Bool) (mark : ℕ) → code ≡ f.code → ((n : ℕ) → tested n ≡ is_tested code n) → tested mark ≡ false → late ≡ without_idle tested mark code
     → (site : Site) (p : Packet) (k : Kind) → means (record f { code = late }) site p k ≡ means f site p k
 same_means f code late tested mark is those idle made site p k =
     ap (λ c. means (record f { code = c }) site p k) (made ∙ ap (λ c. without_idle tested mark c) is)
-    ∙ outcome_agrees tested k (way_of f site p k) (way_of (record f { code = without_idle tested mark f.code }) site p k)
-    (way_agrees tested mark idle f (λ n e. those n ∙ ap (λ c. is_tested c n) is ∙ e) site p k)
+    ∙ sym (sym (means_fate f site p k)
+    ∙ way_agrees tested mark idle f (λ n e. those n ∙ ap (λ c. is_tested c n) is ∙ e) site p k (λ n. false) (λ t. outcome_of k (Some t)) (outcome_blind k)
+    ∙ means_fate (record f { code = without_idle tested mark f.code }) site p k)
+  where
+    outcome_blind : (k : Kind) → IsBlind tested (λ t. outcome_of k (Some t)) (λ t. outcome_of k (Some t))
+    outcome_blind kinds.New s t a = ap outcomes.Accept a.wrote
+    outcome_blind (kinds.Est r) s t a = refl
+
+-- and the same instructions of it are used
+pub same_uses : (f : Flat) (code late : List Ins) (tested : ℕ → Bool) (mark : ℕ) → code ≡ f.code → ((n : ℕ) → tested n ≡ is_tested code n) → tested mark ≡ false → late ≡ without_idle tested mark code
+    → (site : Site) (p : Packet) (k : Kind) (n : ℕ) → uses (record f { code = late }) site p k n ≡ uses f site p k n
+same_uses f code late tested mark is those idle made site p k n =
+    ap (λ c. uses (record f { code = c }) site p k n) (made ∙ ap (λ c. without_idle tested mark c) is)
+    ∙ sym (same_caught (uses f site p k n) (uses (record f { code = without_idle tested mark f.code }) site p k n)
+    (uses_fate f site p k n
+    ∙ way_agrees tested mark idle f (λ m e. those m ∙ ap (λ c. is_tested c m) is ∙ e) site p k (nat_eq n) (λ t. outcomes.Drop) (λ s t a. refl)
+    ∙ sym (uses_fate (record f { code = without_idle tested mark f.code }) site p k n)))
 
 -- Code that stays
 

@@ -9,6 +9,7 @@ pub mod Joined
 pub mod Moving
 pub mod MovingLaws
 pub mod Passing
+pub mod Reaching
 pub mod Runs
 pub mod Sheets
 pub mod Stages

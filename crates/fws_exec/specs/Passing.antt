@@ -12,21 +12,27 @@ use Rattle.fws_exec.specs.declared.sheet.Sheet.{Sheet}
 use Rattle.fws_exec.specs.declared.spot.Class.{Class}
 use Rattle.fws_exec.specs.declared.spot.Stage.{Stage}
 use Rattle.fws_exec.specs.Classes.{meant, transit_of, is_before}
-use Rattle.fws_exec.specs.Courses.{course}
+use Rattle.fws_exec.specs.Courses.{caught, course, aim_at, Aim, IsOpen, Tells}
 use Rattle.fws_exec.specs.Sheets.{among, tops_in, class_at, IsUsed, Grows, NoneComes}
 
 -- the packet of a point of class x, to which rules did this, passed the instructions from a place on before another: it stays in
 -- its class, and at the first place it goes on as at the other; or it went to class z, where becomes of it what does at the first
-abbrev pub HasPassed : Errand → (Stage → Transit → Outcome) → List ℕ → ℕ → ℕ → Progress → List Class → ℕ → ℕ → Type 0
-HasPassed e next p place at g classes x z =
-    ((z ≡ x) × (course e next p place (transit_of g p) ≡ course e next p at (transit_of g p)))
-    ⊎ ((d : Class) × IsUsed classes z d × (is_before (place + 1) d.spot ≡ false) × (meant (course e next p) next d.spot (transit_of d.progress p) ≡ course e next p place (transit_of g p)))
+abbrev pub HasPassed : Errand → Aim → List ℕ → ℕ → ℕ → Progress → List Class → ℕ → ℕ → Type 0
+HasPassed e a p place at g classes x z =
+    ((z ≡ x) × (course e a p place (transit_of g p) ≡ course e a p at (transit_of g p)))
+    ⊎ ((d : Class) × IsUsed classes z d × (is_before (place + 1) d.spot ≡ false) × (meant (course e a p) a.next d.spot (transit_of d.progress p) ≡ course e a p place (transit_of g p)))
+
+-- the packet of some point of the classes whose numbers pass the test uses the instruction with this number, from a place on
+abbrev pub MeetsFrom : Errand → (ℕ → Bool) → ℕ → Sheet → ℕ → Type 0
+MeetsFrom e test place s k = (p : List ℕ) × (c : Class) × IsWithin (tops_in s) p × IsUsed s.roll.classes.items (class_at s p) c × (test (class_at s p) ≡ true)
+    × ((next : Stage → Transit → Outcome) → course e (aim_at k next) p place (transit_of c.progress p) ≡ caught)
 
 -- so it is for each point of the classes whose numbers pass the test, and all others stay in their classes
-abbrev pub Passed : Errand → (ℕ → Bool) → ℕ → ℕ → Sheet → Sheet → Type 0
-Passed e test place at old new = (next : Stage → Transit → Outcome) (p : List ℕ) (c : Class) → IsWithin (tops_in old) p → IsUsed old.roll.classes.items (class_at old p) c
-    → ((test (class_at old p) ≡ true) × HasPassed e next p place at c.progress new.roll.classes.items (class_at old p) (class_at new p))
-    ⊎ ((test (class_at old p) ≡ false) × (class_at new p ≡ class_at old p))
+pub record Passed (e : Errand) (test : ℕ → Bool) (place at : ℕ) (old new : Sheet) : Type 0 where
+  pub kept : (a : Aim) (p : List ℕ) (c : Class) → IsOpen new.reached.items a → IsWithin (tops_in old) p → IsUsed old.roll.classes.items (class_at old p) c
+      → ((test (class_at old p) ≡ true) × HasPassed e a p place at c.progress new.roll.classes.items (class_at old p) (class_at new p))
+      ⊎ ((test (class_at old p) ≡ false) × (class_at new p ≡ class_at old p))
+  pub tells : Tells old.reached.items new.reached.items (MeetsFrom e test place old)
 
 -- classes that are used stay, and none comes to an instruction before a place or at it
 pub record IsOnward (place : ℕ) (old new : List Class) : Type 0 where

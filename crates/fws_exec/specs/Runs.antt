@@ -1,5 +1,5 @@
 -- Runs: instructions in a row that all send the packets out of the run for which their conditions hold.
-use Rattle.std.specs.Prelude.{ℕ, ◌-◌, Bool, true, false, nat_eq, nat_le, List, [], ◌∷◌, take, drop, if◌then◌else◌}
+use Rattle.std.specs.Prelude.{ℕ, ◌+◌, ◌-◌, Bool, true, false, nat_eq, nat_le, List, [], ◌∷◌, take, drop, if◌then◌else◌}
 use Rattle.fws_box.specs.Boxes.{box_hits}
 use Rattle.fws_box.specs.declared.pbox.PBox.{PBox}
 use Rattle.fws_flat.specs.declared.code.FlatAct.{FlatAct}
@@ -28,3 +28,8 @@ boxed boxes label rest p = if nat_eq (box_hits boxes p) 0 then rest else label
 abbrev pub picked : ℕ → View → List Ins → ℕ
 picked place v [] = 0
 picked place v (ins ∷ code) = if holds ins.cond v then label_of place ins.act else picked place v code
+
+-- the number of the first instruction whose condition holds, of which the first one has a number; 0 if there is none
+abbrev pub numbered : ℕ → View → List Ins → ℕ
+numbered n v [] = 0
+numbered n v (ins ∷ code) = if holds ins.cond v then n else numbered (n + 1) v code

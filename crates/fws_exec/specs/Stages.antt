@@ -4,16 +4,18 @@ use Rattle.fws_box.specs.Sides.{IsWithin}
 use Rattle.fws_net.specs.declared.outcome.Outcome.{Outcome}
 use Rattle.fws_net.specs.declared.outcome.Outcome.TheVariants as outcomes
 use Rattle.fws_net.specs.declared.outcome.Rewrite.{Rewrite}
+use Rattle.fws_net.specs.declared.connection.Kind.{Kind}
+use Rattle.fws_net.specs.declared.packet.Packet.{Packet}
 use Rattle.fws_net.specs.declared.packet.State.{State}
 use Rattle.fws_net.specs.declared.packet.State.TheVariants as states
 use Rattle.fws_net.specs.declared.site.Site.{Site}
 use Rattle.fws_net.specs.declared.transit.Transit.{Transit}
 use Rattle.fws_net.specs.Points.{packet_of, tops_of}
 use Rattle.fws_net.specs.Routes.{is_local}
-use Rattle.fws_net.specs.Transits.{entered, outcome_of, nothing_written}
+use Rattle.fws_net.specs.Transits.{entered, with_verdict, outcome_of, nothing_written}
 use Rattle.fws_flat.specs.declared.code.Ins.{Ins}
 use Rattle.fws_flat.specs.declared.code.Part.{Part}
-use Rattle.fws_flat.specs.Walk.{part_walk, parts_walk}
+use Rattle.fws_flat.specs.Walk.{part_code}
 use Rattle.fws_exec.specs.declared.progress.Progress.{Progress}
 use Rattle.fws_exec.specs.declared.sheet.Sheet.{Sheet}
 use Rattle.fws_exec.specs.declared.spot.Class.{Class}
@@ -24,7 +26,7 @@ use Rattle.fws_exec.specs.declared.spot.Stage.TheVariants.{Arrive, Deliver, Forw
 use Rattle.fws_exec.specs.declared.turn.Turn.{Turn}
 use Rattle.fws_exec.specs.declared.turn.Turn.TheVariants.{Enter, Leave}
 use Rattle.fws_exec.specs.Classes.{kind_of, transit_of, future, same_stage, is_at_stage}
-use Rattle.fws_exec.specs.Courses.{left}
+use Rattle.fws_exec.specs.Courses.{aim_at, caught, fate, Aim, IsOpen, Tells}
 use Rattle.fws_exec.specs.Sheets.{class_at}
 
 -- a class that leaves a part by its end: the verdict so far decides
@@ -45,25 +47,41 @@ IsWhole classes = (g : Progress) × (classes ≡ record { spot = Before Arrive; 
 abbrev pub nowhere : ℕ → Transit → Outcome
 nowhere place t = outcomes.Drop
 
--- what becomes of each packet in the first sheet by the first rule is what becomes of it in the second sheet by the second
-abbrev pub Becomes : Site → Sheet → Sheet → ((Stage → Transit → Outcome) → List ℕ → Stage → Transit → Outcome) → Type 0
-Becomes site old new before = (next : Stage → Transit → Outcome) (p : List ℕ) → IsWithin (tops_of site) p
-    → future nowhere next new.roll.classes.items (class_at new p) p ≡ future nowhere (before next p) old.roll.classes.items (class_at old p) p
+-- the packet of some point uses the instruction with this number, by a rule of what becomes of packets before a stage
+abbrev pub MeetsBefore : Site → Sheet → (Aim → List ℕ → Stage → Transit → Outcome) → ℕ → Type 0
+MeetsBefore site s before k = (p : List ℕ) × IsWithin (tops_of site) p
+    × ((next : Stage → Transit → Outcome) → future nowhere (before (aim_at k next) p) s.roll.classes.items (class_at s p) p ≡ caught)
+
+-- what becomes of each packet in the first sheet by the first rule is what becomes of it in the second sheet by the second, where
+-- nothing is sought that was reached
+pub record Becomes (site : Site) (old new : Sheet) (before : Aim → List ℕ → Stage → Transit → Outcome) : Type 0 where
+  pub kept : (a : Aim) (p : List ℕ) → IsOpen new.reached.items a → IsWithin (tops_of site) p
+      → future nowhere a.next new.roll.classes.items (class_at new p) p ≡ future nowhere (before a p) old.roll.classes.items (class_at old p) p
+  pub tells : Tells old.reached.items new.reached.items (MeetsBefore site old before)
+
+-- what becomes of a packet before a part, by what becomes of it behind
+abbrev pub part_fate : List Ins → Site → Packet → Kind → (ℕ → Bool) → Part → (Transit → Outcome) → Transit → Outcome
+part_fate code site p k sought part next t = fate site p k part sought next part.first (part_code code part) 0 (with_verdict part.end t)
+
+-- what becomes of a packet before parts, by what becomes of it behind
+abbrev pub parts_fate : List Ins → Site → Packet → Kind → (ℕ → Bool) → List Part → (Transit → Outcome) → Transit → Outcome
+parts_fate code site p k sought [] next t = next t
+parts_fate code site p k sought (part ∷ parts) next t = part_fate code site p k sought part (parts_fate code site p k sought parts next) t
 
 -- what becomes of a packet before a part of a stage, by what becomes of it behind
-abbrev pub through_part : List Ins → Site → State → Stage → Part → (Stage → Transit → Outcome) → List ℕ → Stage → Transit → Outcome
-through_part code site state stage part next p other t =
-    if same_stage stage other then left (next other) (part_walk code site (packet_of p) (kind_of state p) part t) else next other t
+abbrev pub through_part : List Ins → Site → State → Stage → Part → Aim → List ℕ → Stage → Transit → Outcome
+through_part code site state stage part a p other t =
+    if same_stage stage other then part_fate code site (packet_of p) (kind_of state p) a.sought part (a.next other) t else a.next other t
 
 -- what becomes of a packet before the parts of a stage
-abbrev pub through_parts : List Ins → Site → State → Stage → List Part → (Stage → Transit → Outcome) → List ℕ → Stage → Transit → Outcome
-through_parts code site state stage parts next p other t =
-    if same_stage stage other then left (next other) (parts_walk code site (packet_of p) (kind_of state p) parts t) else next other t
+abbrev pub through_parts : List Ins → Site → State → Stage → List Part → Aim → List ℕ → Stage → Transit → Outcome
+through_parts code site state stage parts a p other t =
+    if same_stage stage other then parts_fate code site (packet_of p) (kind_of state p) a.sought parts (a.next other) t else a.next other t
 
 -- what becomes of a packet before routing: it is delivered or forwarded, if the site forwards
-abbrev pub through_routing : Site → (Stage → Transit → Outcome) → List ℕ → Stage → Transit → Outcome
-through_routing site next p Arrive t = if is_local site t.packet.dst then next Deliver t else if site.forwarding then next Forward t else outcomes.Drop
-through_routing site next p other t = next other t
+abbrev pub through_routing : Site → Aim → List ℕ → Stage → Transit → Outcome
+through_routing site a p Arrive t = if is_local site t.packet.dst then a.next Deliver t else if site.forwarding then a.next Forward t else outcomes.Drop
+through_routing site a p other t = a.next other t
 
 -- where a packet goes on that isn't delivered
 abbrev pub onward_spot : Bool → Spot

@@ -8,7 +8,7 @@ ghost use Rattle.fws_scene.specs.Areas.{IsOfSite};
 ghost use Rattle.fws_exec.specs.declared.spot.Spot.{Spot as AnySpot};
 ghost use Rattle.fws_exec.specs.declared.views.Sides.{Sides as AnySides};
 ghost use Rattle.fws_exec.specs.Classes.{is_unused};
-ghost use Rattle.fws_exec.specs.Divided.{held, AreMoved};
+ghost use Rattle.fws_exec.specs.Divided.{held, says_of, AreMoved, AreNoted};
 ghost use Rattle.fws_exec.specs.Goings.{lands};
 ghost use Rattle.fws_exec.specs.Grounds.{IsGround};
 ghost use Rattle.fws_exec.specs.Moving.{IsGrown};
@@ -68,6 +68,7 @@ impl Sheet {
         ensures tops { tops_in self.new ≡ tops_in self.old }
         ensures same { (p : List ℕ) → class_at self.new p ≡ class_at self.old p }
         ensures roll { self.new.roll ≡ self.old.roll }
+        ensures reached { self.new.reached ≡ self.old.reached }
     {
         match group.view.own {
             Some(number) => {
@@ -84,8 +85,8 @@ impl Sheet {
         }
     }
 
-    /// The points of the group go where the condition holds, as rules of the part see them. All of them lie in the area, and
-    /// the class with the first number is one of the group.
+    /// The points of the group go where the condition holds, as rules of the part see them, and use the instruction behind which
+    /// they go. All of them lie in the area, and the class with the first number is one of the group.
     fn divide_in<'b>(
         &mut self,
         alloc: Global,
@@ -107,11 +108,13 @@ impl Sheet {
         requires first { among group.now.numbers.items first ≡ true }
         ensures sheet { OnOk result (IsSheet self.new) }
         ensures moved { OnOk result (AreMoved going (among group.now.numbers.items) (held ground.now.site.now ground.now.state part cond.now) self.old self.new) }
+        ensures noted { OnOk result (AreNoted (says_of going) (among group.now.numbers.items) (held ground.now.site.now ground.now.state part cond.now) self.old self.new) }
         ensures grown { OnOk result (IsGrown going self.old.roll.classes.items self.new.roll.classes.items) }
         ensures tops { tops_in self.new ≡ tops_in self.old }
     {
         let class = self.roll.used(first)?;
         let marks = cond_marks(alloc, ground, area, part, &class.progress, cond)?;
+        self.note_going(alloc, group.numbers.as_slice(), marks.as_slice(), going)?;
         self.move_by(alloc, group.numbers.as_slice(), marks.as_slice(), going)?;
         Ok(())
     }
@@ -134,6 +137,7 @@ impl Sheet {
         requires sides { shows_all sides cond.now ≡ true }
         ensures sheet { OnOk result (IsSheet self.new) }
         ensures moved { OnOk result (AreMoved going (among group.now.numbers.items) (held ground.now.site.now ground.now.state part cond.now) self.old self.new) }
+        ensures noted { OnOk result (AreNoted (says_of going) (among group.now.numbers.items) (held ground.now.site.now ground.now.state part cond.now) self.old self.new) }
         ensures grown { OnOk result (IsGrown going self.old.roll.classes.items self.new.roll.classes.items) }
         ensures tops { tops_in self.new ≡ tops_in self.old }
     {
@@ -167,6 +171,7 @@ impl Sheet {
         requires here { (here : AnySpot) × (is_unused here ≡ false) × AllAt here self.old.roll.classes.items (is_in groups.now) × ((label : ℕ) → lands going label ≢ here) }
         ensures sheet { OnOk result (IsSheet self.new) }
         ensures moved { OnOk result (AreMoved going (is_in groups.now) (held ground.now.site.now ground.now.state part cond.now) self.old self.new) }
+        ensures noted { OnOk result (AreNoted (says_of going) (is_in groups.now) (held ground.now.site.now ground.now.state part cond.now) self.old self.new) }
         ensures grown { OnOk result (IsGrown going self.old.roll.classes.items self.new.roll.classes.items) }
         ensures tops { tops_in self.new ≡ tops_in self.old }
     {
@@ -193,6 +198,7 @@ impl Sheet {
         requires here { (here : AnySpot) × (is_unused here ≡ false) × AllAt here self.old.roll.classes.items (among numbers.now) × ((label : ℕ) → lands going label ≢ here) }
         ensures sheet { OnOk result (IsSheet self.new) }
         ensures moved { OnOk result (AreMoved going (among numbers.now) (held ground.now.site.now ground.now.state part cond.now) self.old self.new) }
+        ensures noted { OnOk result (AreNoted (says_of going) (among numbers.now) (held ground.now.site.now ground.now.state part cond.now) self.old self.new) }
         ensures grown { OnOk result (IsGrown going self.old.roll.classes.items self.new.roll.classes.items) }
         ensures tops { tops_in self.new ≡ tops_in self.old }
     {

@@ -1,6 +1,6 @@
 //! Execution along the whole way.
 
-ghost use Rattle.std.specs.Prelude.{◌≡◌, ℕ, List, true, Some, map, IfOk};
+ghost use Rattle.std.specs.Prelude.{◌≡◌, ℕ, List, true, false, Some, length, map, slice_get, if◌then◌else◌, IfOk};
 ghost use Rattle.fws_box.specs.Sides.{IsWithin};
 ghost use Rattle.fws_net.specs.Points.{packet_of, tops_of};
 ghost use Rattle.fws_net.specs.Routes.{IsSound};
@@ -9,6 +9,7 @@ ghost use Rattle.fws_flat.specs.Walk.{means};
 ghost use Rattle.fws_scene.specs.Ways.{AreWaysOf};
 ghost use Rattle.fws_tree.specs.Plain.{IsReduced, value};
 ghost use Rattle.fws_exec.specs.Classes.{kind_of, future};
+ghost use Rattle.fws_exec.specs.Reaching.{IsReached, IsUnreached};
 ghost use Rattle.fws_exec.specs.Sheets.{tops_in, class_at, IsSheet};
 ghost use Rattle.fws_exec.specs.Stages.{nowhere, passed, class_outcome};
 
@@ -52,10 +53,11 @@ impl Sheet {
     }
 }
 
-/// The classes of all packets behind their whole way along these parts.
-fn executed(
+/// The classes of all packets behind their whole way along these parts. It may be asked for uses of instructions on this way.
+pub(crate) fn executed(
     alloc: Global,
     purpose: &Purpose<'_>,
+    asks: bool,
     arrive: &[Part],
     deliver: &[Part],
     forward: &[Part],
@@ -66,6 +68,9 @@ fn executed(
     requires ok { flat_ok (record { code = purpose.now.code.now; arrive = arrive.now; deliver = deliver.now; forward = forward.now; send = send.now }) ≡ true }
     ensures sheet { IfOk result (λ s. IsSheet s) }
     ensures tops { IfOk result (λ s. tops_in s ≡ tops_of purpose.now.site.now) }
+    ensures count { IfOk result (λ s. length s.reached.items ≡ (if asks then length purpose.now.code.now else 0)) }
+    ensures reached { IfOk result (λ s. (n : ℕ) → slice_get s.reached.items n ≡ Some true → IsReached (record { code = purpose.now.code.now; arrive = arrive.now; deliver = deliver.now; forward = forward.now; send = send.now }) purpose.now.site.now purpose.now.state n) }
+    ensures unreached { IfOk result (λ s. (n : ℕ) → slice_get s.reached.items n ≡ Some false → IsUnreached (record { code = purpose.now.code.now; arrive = arrive.now; deliver = deliver.now; forward = forward.now; send = send.now }) purpose.now.site.now purpose.now.state n) }
     ensures meant { IfOk result (λ s. (p : List ℕ) → IsWithin (tops_of purpose.now.site.now) p → future nowhere (passed purpose.now.state p) s.roll.classes.items (class_at s p) p ≡ means (record { code = purpose.now.code.now; arrive = arrive.now; deliver = deliver.now; forward = forward.now; send = send.now }) purpose.now.site.now (packet_of p) (kind_of purpose.now.state p)) }
 {
     let bump = Bump::new(alloc);
@@ -78,7 +83,7 @@ fn executed(
         ways: purpose.ways,
         state: purpose.state,
     };
-    let mut sheet = Sheet::entered(alloc, &ground, purpose.code.len())?;
+    let mut sheet = Sheet::entered(alloc, &ground, purpose.code.len(), asks)?;
     sheet.run(alloc, purpose, Stage::Arrive, arrive)?;
     sheet.route(alloc, &ground)?;
     sheet.run(alloc, purpose, Stage::Deliver, deliver)?;
@@ -111,6 +116,7 @@ fn execute_code(
     let sheet = executed(
         alloc,
         &purpose,
+        false,
         f.arrive.as_slice(),
         f.deliver.as_slice(),
         f.forward.as_slice(),

@@ -7,6 +7,7 @@ ghost use Rattle.fws_net.specs.declared.packet.Packet.{Packet as AnyPacket};
 ghost use Rattle.fws_net.specs.declared.connection.Kind.{Kind as AnyKind};
 ghost use Rattle.fws_net.specs.declared.site.Site.{Site as AnySite};
 ghost use Rattle.fws_flat.specs.Soundness.{flat_ok};
+ghost use Rattle.fws_flat.specs.Uses.{uses};
 ghost use Rattle.fws_flat.specs.Walk.{means};
 ghost use Rattle.fws_exec.specs.Idle.{asks_for, tests_tag, is_tested, is_idle, puts_idle, act_without_idle, without_idle};
 
@@ -132,11 +133,13 @@ fn are_kept(tested: &HashSet<u32>, mark: u32, code: &[Ins]) -> bool
     true
 }
 
-/// Code that does to every packet what the code of `f` does, and that puts no tag which no condition tests, but for one that stands
-/// for all that were made the only one. None where that is the code of `f` itself. An error is want of memory.
+/// Code that does to every packet what the code of `f` does, and of which it uses the same instructions, and that puts no tag which
+/// no condition tests, but for one that stands for all that were made the only one. None where that is the code of `f` itself. An
+/// error is want of memory.
 pub(crate) fn without_idle_tags(alloc: Global, f: &Flat) -> Result<Option<Items<Ins>>, Memory>
     ensures idle { IfOk result (λ o. (mark : ℕ) × (unwrap_or o f.now.code ≡ without_idle (is_tested f.now.code) mark f.now.code)) }
     ensures ok { IfOk result (λ o. IfSome o (λ code. flat_ok (record f.now { code = code }) ≡ flat_ok f.now)) }
+    ensures uses { IfOk result (λ o. IfSome o (λ code. (site : AnySite) (p : AnyPacket) (k : AnyKind) (n : ℕ) → uses (record f.now { code = code }) site p k n ≡ uses f.now site p k n)) }
     ensures means { IfOk result (λ o. IfSome o (λ code. (site : AnySite) (p : AnyPacket) (k : AnyKind) → means (record f.now { code = code }) site p k ≡ means f.now site p k)) }
 {
     let code = f.code.as_slice();

@@ -16,8 +16,10 @@ mod key;
 mod marks;
 mod merge;
 mod moving;
+mod noting;
 mod pass;
 mod progress;
+mod reaching;
 mod region;
 mod roll;
 mod routing;
@@ -33,4 +35,5 @@ mod views;
 mod walk;
 
 pub use execution::execute_tree;
+pub use reaching::reach;
 pub use rows::execute;

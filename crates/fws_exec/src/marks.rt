@@ -1,6 +1,6 @@
 //! Marks for the points where conditions hold.
 
-ghost use Rattle.std.specs.Prelude.{◌≡◌, ◌≤◌, ◌&&◌, ℕ, List, if◌then◌else◌, IfOk, OnOk};
+ghost use Rattle.std.specs.Prelude.{◌≡◌, ◌≤◌, ◌+◌, ◌&&◌, ℕ, List, if◌then◌else◌, IfOk, OnOk};
 ghost use Rattle.fws_box.specs.Boxes.{sides_of};
 ghost use Rattle.fws_box.specs.Sides.{IsWithin, sides_have};
 ghost use Rattle.fws_flat.specs.declared.code.Part.{Part as AnyPart};
@@ -13,7 +13,7 @@ ghost use Rattle.fws_tree.specs.Marks.{mark_at};
 ghost use Rattle.fws_exec.specs.Divided.{held, seen_at};
 ghost use Rattle.fws_exec.specs.Goings.{label_of};
 ghost use Rattle.fws_exec.specs.Grounds.{IsGround};
-ghost use Rattle.fws_exec.specs.Runs.{boxed, picked};
+ghost use Rattle.fws_exec.specs.Runs.{boxed, numbered, picked};
 
 use crate::errand::Ground;
 use crate::going::label_of;
@@ -130,6 +130,66 @@ pub(crate) fn run_marks<'b>(
         put_ins(
             alloc, ground, area, &scene, progress, ins, place, &mut marks,
         )?;
+    }
+    Ok(marks)
+}
+
+/// Puts marks behind the others for the points of the area where the condition holds, for a class to which rules did this, with the
+/// label.
+fn put_use<'b>(
+    alloc: Global,
+    ground: &Ground<'_, 'b>,
+    area: &PBox<'b>,
+    scene: &Scene,
+    progress: &Progress,
+    cond: &Cond,
+    label: u32,
+    marks: &mut Vec<Mark<'b>>,
+) -> Result<(), Memory>
+    requires ground { IsGround ground.now }
+    requires area { IsOfSite ground.now.site.now (sides_of area.now) }
+    requires label { 1 ≤ label }
+    ensures { OnOk result ((part : AnyPart) → ((site : Site) (p : List ℕ) → view_of site scene.now p ≡ seen_at site ground.now.state part progress.now p) → (rest : ℕ) (p : List ℕ) → IsWithin (tops_of ground.now.site.now) p → mark_at marks.new.items rest p ≡ mark_at marks.old.items (if sides_have (sides_of area.now) p && holds cond.now (seen_at ground.now.site.now ground.now.state part progress.now p) then label else rest) p) }
+{
+    if progress.fails(cond) {
+        return Ok(());
+    }
+    put_cond(alloc, ground, area, scene, cond, label, marks)?;
+    Ok(())
+}
+
+/// The number behind this one. An error is want of memory, and a number that has no 32 bits.
+fn number_behind(number: u32) -> Result<u32, Memory>
+    ensures { IfOk result (λ next. next ≡ number + 1) }
+{
+    match number.checked_add(1) {
+        Some(next) => Ok(next),
+        None => Err(Memory),
+    }
+}
+
+/// Marks for the points of the area, for a class to which rules did this, with the numbers of the instructions that they use of a
+/// run, of which the first has number 1.
+pub(crate) fn use_marks<'b>(
+    alloc: Global,
+    ground: &Ground<'_, 'b>,
+    area: &PBox<'b>,
+    part: Part,
+    progress: &Progress,
+    code: &[Ins],
+) -> Result<Vec<Mark<'b>>, Memory>
+    requires ground { IsGround ground.now }
+    requires area { IsOfSite ground.now.site.now (sides_of area.now) }
+    ensures { IfOk result (λ marks. (p : List ℕ) → IsWithin (tops_of ground.now.site.now) p → mark_at marks.items 0 p ≡ (if sides_have (sides_of area.now) p then numbered 1 (seen_at ground.now.site.now ground.now.state part progress.now p) code.now else 0)) }
+{
+    let scene = progress.scene(alloc, part, ground.state)?;
+    let mut marks = Vec::new(alloc);
+    let mut number: u32 = 1;
+    for ins in code {
+        put_use(
+            alloc, ground, area, &scene, progress, &ins.cond, number, &mut marks,
+        )?;
+        number = number_behind(number)?;
     }
     Ok(marks)
 }

@@ -147,6 +147,7 @@ impl Sheet {
         ensures roll { self.new.roll ≡ self.old.roll }
         ensures hulls { self.new.hulls ≡ self.old.hulls }
         ensures tops { tops_in self.new ≡ tops_in self.old }
+        ensures reached { self.new.reached ≡ self.old.reached }
     {
         let wanted = bits_of(self.canvas.values(), joined);
         if !have_bits(self.canvas.values(), joined, wanted) {
@@ -170,6 +171,7 @@ impl Sheet {
         ensures kept { OnOk result (KeepsFutures self.old self.new) }
         ensures spots { OnOk result ((test : AnySpot → Bool) → test Unused ≡ false → NoneComes test self.old.roll.classes.items self.new.roll.classes.items) }
         ensures tops { tops_in self.new ≡ tops_in self.old }
+        ensures reached { self.new.reached ≡ self.old.reached }
     {
         if joined.is_empty() {
             return Ok(());
@@ -188,6 +190,7 @@ impl Sheet {
         ensures kept { OnOk result (KeepsFutures self.old self.new) }
         ensures spots { OnOk result ((test : AnySpot → Bool) → test Unused ≡ false → NoneComes test self.old.roll.classes.items self.new.roll.classes.items) }
         ensures tops { tops_in self.new ≡ tops_in self.old }
+        ensures reached { self.new.reached ≡ self.old.reached }
     {
         if numbers.len() < 2 {
             return Ok(());
@@ -211,6 +214,7 @@ impl Sheet {
         ensures kept { OnOk result (KeepsFutures self.old self.new) }
         ensures spots { OnOk result ((test : AnySpot → Bool) → test Unused ≡ false → NoneComes test self.old.roll.classes.items self.new.roll.classes.items) }
         ensures tops { tops_in self.new ≡ tops_in self.old }
+        ensures reached { self.new.reached ≡ self.old.reached }
     {
         let here = self.roll.all_at(alloc, spot)?;
         self.merge_these(alloc, here.as_slice())?;

@@ -1,6 +1,6 @@
 //! How classes pass instructions of a part.
 
-ghost use Rattle.std.specs.Prelude.{◌≡◌, ◌<◌, ◌≤◌, ◌+◌, ◌^◌, ℕ, true, false, [], length, slice_get, Some, OnOk};
+ghost use Rattle.std.specs.Prelude.{◌≡◌, ◌≢◌, ◌<◌, ◌≤◌, ◌+◌, ◌^◌, ℕ, true, false, [], length, slice_get, Some, OnOk};
 ghost use Rattle.std.specs.List.{list_all};
 ghost use Rattle.fws_flat.specs.Soundness.{part_ok};
 ghost use Rattle.fws_net.specs.Points.{tops_of};
@@ -15,6 +15,7 @@ ghost use Rattle.fws_exec.specs.Views.{is_tagless};
 
 use crate::errand::Errand;
 use crate::going::Going;
+use crate::noting::is_sought;
 use crate::sheet::Sheet;
 use crate::spot::{Class, Spot};
 use fws_flat::Ins;
@@ -74,8 +75,39 @@ impl Sheet {
     }
 
     /// The classes with these numbers, which stand at the place, go on where the instruction there would leave them as they
-    /// are.
+    /// are. It isn't asked whether they use it.
     fn pass_stayers(
+        &mut self,
+        alloc: Global,
+        errand: &Errand<'_, '_>,
+        numbers: &[u32],
+        place: u32,
+    ) -> Result<(), Memory>
+        requires sheet { IsSheet self.old }
+        requires tops { tops_in self.old ≡ tops_of errand.now.ground.site.now }
+        requires part { part_ok errand.now.code.now errand.now.part ≡ true }
+        requires low { errand.now.part.first ≤ place }
+        requires high { place < errand.now.part.past }
+        requires room { place + 1 < 2 ^ 32 }
+        requires here { AllAt (At place) self.old.roll.classes.items (among numbers.now) }
+        requires known { slice_get self.old.reached.items place ≢ Some false }
+        ensures sheet { OnOk result (IsSheet self.new) }
+        ensures kept { OnOk result (Keeps errand.now self.old self.new) }
+        ensures tops { tops_in self.new ≡ tops_in self.old }
+    {
+        let ins = &errand.code[place as usize];
+        let going = errand.going(place, ins);
+        let behind = Spot::At(place + 1);
+        let stayers = self.roll.stayers(alloc, numbers, going, behind)?;
+        self.roll.wait_all(stayers.as_slice(), place + 1)?;
+        self.roll.send_all(stayers.as_slice(), behind);
+        self.roll.find_all(stayers.as_slice())?;
+        Ok(())
+    }
+
+    /// The classes with these numbers, which stand at the place, go on where the instruction there would leave them as they
+    /// are, unless it is asked whether they use it.
+    fn pass_known(
         &mut self,
         alloc: Global,
         errand: &Errand<'_, '_>,
@@ -93,13 +125,10 @@ impl Sheet {
         ensures kept { OnOk result (Keeps errand.now self.old self.new) }
         ensures tops { tops_in self.new ≡ tops_in self.old }
     {
-        let ins = &errand.code[place as usize];
-        let going = errand.going(place, ins);
-        let behind = Spot::At(place + 1);
-        let stayers = self.roll.stayers(alloc, numbers, going, behind)?;
-        self.roll.wait_all(stayers.as_slice(), place + 1)?;
-        self.roll.send_all(stayers.as_slice(), behind);
-        self.roll.find_all(stayers.as_slice())?;
+        if is_sought(self.reached.as_slice(), place) {
+            return Ok(());
+        }
+        self.pass_stayers(alloc, errand, numbers, place)?;
         Ok(())
     }
 
@@ -123,7 +152,7 @@ impl Sheet {
         ensures kept { OnOk result (Keeps errand.now self.old self.new) }
         ensures tops { tops_in self.new ≡ tops_in self.old }
     {
-        self.pass_stayers(alloc, errand, numbers, place)?;
+        self.pass_known(alloc, errand, numbers, place)?;
         let movers = self.roll.standing(alloc, numbers, place)?;
         self.meet_ins(alloc, errand, movers.as_slice(), place)?;
         self.roll.wait_all(movers.as_slice(), place + 1)?;
@@ -137,6 +166,7 @@ impl Sheet {
         ensures put { OnOk result (IsPut number class self.old.roll.classes.items self.new.roll.classes.items) }
         ensures same { self.new.canvas ≡ self.old.canvas }
         ensures hulls { self.new.hulls ≡ self.old.hulls }
+        ensures reached { self.new.reached ≡ self.old.reached }
     {
         self.roll.arrive(number, class.spot)?;
         self.roll.classes[number as usize] = class;
@@ -164,6 +194,7 @@ impl Sheet {
         if !self.roll.stands(number, Spot::At(place)) {
             return Ok(());
         }
+        self.note_whole(alloc, number, place)?;
         let ins = &errand.code[place as usize];
         let class = self.roll.gone(alloc, errand.going(place, ins), number, 1)?;
         self.put(number, class)?;

@@ -79,6 +79,7 @@ impl Sheet {
         ensures tops { tops_in self.new ≡ tops_in self.old }
         ensures same { (p : List ℕ) → class_at self.new p ≡ class_at self.old p }
         ensures roll { self.new.roll ≡ self.old.roll }
+        ensures reached { self.new.reached ≡ self.old.reached }
     {
         if !is_of_network(end) {
             return Ok(*area);
@@ -106,6 +107,7 @@ impl Sheet {
         ensures tops { tops_in self.new ≡ tops_in self.old }
         ensures same { (p : List ℕ) → class_at self.new p ≡ class_at self.old p }
         ensures roll { self.new.roll ≡ self.old.roll }
+        ensures reached { self.new.reached ≡ self.old.reached }
     {
         let area = self.narrowed(
             alloc,

@@ -1,6 +1,6 @@
 //! How packets come in and are routed.
 
-ghost use Rattle.std.specs.Prelude.{◌≡◌, ◌<◌, ◌^◌, nat_eq, ℕ, List, true, false, if◌then◌else◌, MatchOption, IfOk, OnOk};
+ghost use Rattle.std.specs.Prelude.{◌≡◌, ◌≢◌, ◌<◌, ◌^◌, nat_eq, ℕ, List, Some, length, slice_get, true, false, if◌then◌else◌, MatchOption, IfOk, OnOk};
 ghost use Rattle.fws_box.specs.Sides.{IsWithin};
 ghost use Rattle.fws_net.specs.declared.transit.Transit.{Transit};
 ghost use Rattle.fws_net.specs.declared.outcome.Outcome.{Outcome};
@@ -23,6 +23,7 @@ use crate::errand::Ground;
 use crate::going::Going;
 use crate::hull::Hull;
 use crate::hulls::only;
+use crate::noting::none_reached;
 use crate::progress::Progress;
 use crate::roll::{Roll, bit_of};
 use crate::sheet::Sheet;
@@ -77,23 +78,28 @@ fn onward_spot(forwarding: bool) -> Spot
 }
 
 impl Sheet {
-    /// All points of the site in one class, which stands before arrival, with code of so many places.
-    fn whole(alloc: Global, site: &Site, places: usize) -> Result<Sheet, Memory>
+    /// All points of the site in one class, which stands before arrival, with code of so many places, for whose instructions
+    /// it may be asked for uses.
+    fn whole(alloc: Global, site: &Site, places: usize, asks: bool) -> Result<Sheet, Memory>
         requires { IsSound site.now }
         ensures sheet { IfOk result (λ s. IsSheet s) }
         ensures tops { IfOk result (λ s. tops_in s ≡ tops_of site.now) }
         ensures class { IfOk result (λ s. IsWhole s.roll.classes.items) }
         ensures value { IfOk result (λ s. (p : List ℕ) → class_at s p ≡ 0) }
+        ensures count { IfOk result (λ s. length s.reached.items ≡ (if asks then places else 0)) }
+        ensures none { IfOk result (λ s. (k : ℕ) → slice_get s.reached.items k ≢ Some true) }
     {
         let hulls = only(alloc, Hull::of_tops(&tops(site)))?;
         let mut canvas = Canvas::new(alloc, &tops(site), bit_of(0))?;
         let _next = canvas.add_value(bit_of(1))?;
         let class = Progress::entered(alloc).standing(Spot::Before(Stage::Arrive));
         let roll = Roll::of_one(alloc, class, places)?;
+        let reached = none_reached(alloc, if asks { places } else { 0 })?;
         Ok(Sheet {
             canvas,
             roll,
             hulls,
+            reached,
         })
     }
 
@@ -108,6 +114,8 @@ impl Sheet {
         ensures sheet { OnOk result (IsSheet self.new) }
         ensures tops { tops_in self.new ≡ tops_in self.old }
         ensures between { OnOk result ((n : ℕ) → stands is_inside self.new.roll.classes.items n ≡ false) }
+        ensures count { OnOk result (length self.new.reached.items ≡ length self.old.reached.items) }
+        ensures none { OnOk result (((k : ℕ) → slice_get self.old.reached.items k ≢ Some true) → (k : ℕ) → slice_get self.new.reached.items k ≢ Some true) }
         ensures meant { OnOk result ((next : AnyStage → Transit → Outcome) (p : List ℕ) → IsWithin (tops_of ground.now.site.now) p → future nowhere next self.new.roll.classes.items (class_at self.new p) p ≡ (if nat_eq (packet_of p).entry 0 then next Send (entered (packet_of p)) else next Arrive (entered (packet_of p)))) }
     {
         let cond = from_none(alloc)?;
@@ -117,19 +125,22 @@ impl Sheet {
     }
 
     /// All points of the site where their packets come in: those of the host before they are sent, all
-    /// others before they arrive. The code has so many places.
+    /// others before they arrive. The code has so many places, for whose instructions it may be asked for uses.
     pub(crate) fn entered(
         alloc: Global,
         ground: &Ground<'_, '_>,
         places: usize,
+        asks: bool,
     ) -> Result<Sheet, Memory>
         requires { IsGround ground.now }
         ensures sheet { IfOk result (λ s. IsSheet s) }
         ensures tops { IfOk result (λ s. tops_in s ≡ tops_of ground.now.site.now) }
         ensures between { IfOk result (λ s. (n : ℕ) → stands is_inside s.roll.classes.items n ≡ false) }
+        ensures count { IfOk result (λ s. length s.reached.items ≡ (if asks then places else 0)) }
+        ensures none { IfOk result (λ s. (k : ℕ) → slice_get s.reached.items k ≢ Some true) }
         ensures meant { IfOk result (λ s. (next : AnyStage → Transit → Outcome) (p : List ℕ) → IsWithin (tops_of ground.now.site.now) p → future nowhere next s.roll.classes.items (class_at s p) p ≡ (if nat_eq (packet_of p).entry 0 then next Send (entered (packet_of p)) else next Arrive (entered (packet_of p)))) }
     {
-        let mut sheet = Sheet::whole(alloc, ground.site, places)?;
+        let mut sheet = Sheet::whole(alloc, ground.site, places, asks)?;
         sheet.divide_entered(alloc, ground)?;
         Ok(sheet)
     }

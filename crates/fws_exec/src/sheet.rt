@@ -28,6 +28,8 @@ pub(crate) struct Sheet {
     pub roll: Roll,
     /// Hulls of the classes, by number: each point lies in that of its class.
     pub hulls: Vec<Hull>,
+    /// For each instruction of the code whether some packet was found that uses it; for none where nobody asks for uses.
+    pub reached: Vec<bool>,
 }
 
 impl Sheet {
@@ -46,6 +48,7 @@ impl Sheet {
         ensures moved { OnOk result (AreMoved going (among numbers.now) (λ g p. mark_at marks.now 0 p) self.old self.new) }
         ensures grown { OnOk result (IsGrown going self.old.roll.classes.items self.new.roll.classes.items) }
         ensures tops { tops_in self.new ≡ tops_in self.old }
+        ensures reached { self.new.reached ≡ self.old.reached }
     {
         let wanted = bits_of(self.canvas.values(), numbers);
         if !have_bits(self.canvas.values(), numbers, wanted) {
@@ -78,6 +81,7 @@ impl Sheet {
         ensures moved { OnOk result (AreMoved going (among numbers.now) (λ g p. mark_at marks.now 0 p) self.old self.new) }
         ensures grown { OnOk result (IsGrown going self.old.roll.classes.items self.new.roll.classes.items) }
         ensures tops { tops_in self.new ≡ tops_in self.old }
+        ensures reached { self.new.reached ≡ self.old.reached }
     {
         let called = called_of(alloc, numbers)?;
         self.move_called(alloc, numbers, &called, marks, going)?;

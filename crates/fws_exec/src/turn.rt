@@ -59,6 +59,7 @@ impl Sheet {
         ensures sheet { IsSheet self.new }
         ensures turned { (n : ℕ) → slice_get self.new.roll.classes.items n ≡ option_map (turned turn) (slice_get self.old.roll.classes.items n) }
         ensures same { self.new.canvas ≡ self.old.canvas }
+        ensures reached { self.new.reached ≡ self.old.reached }
     {
         for number in 0..self.roll.classes.len() {
             self.roll.classes[number].turn(turn);

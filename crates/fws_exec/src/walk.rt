@@ -63,6 +63,7 @@ impl Sheet {
         ensures sheet { OnOk result (IsSheet self.new) }
         ensures kept { OnOk result (KeepsFutures self.old self.new) }
         ensures tops { tops_in self.new ≡ tops_in self.old }
+        ensures reached { self.new.reached ≡ self.old.reached }
     {
         if self.roll.has_arrivals(place) {
             let came = self.roll.waiting_at(alloc, place)?;
@@ -77,6 +78,7 @@ impl Sheet {
         ensures sheet { IsSheet self.new }
         ensures kept { KeepsFutures self.old self.new }
         ensures tops { tops_in self.new ≡ tops_in self.old }
+        ensures reached { self.new.reached ≡ self.old.reached }
     {
         self.roll.wait_none(alloc, place);
     }
@@ -87,6 +89,7 @@ impl Sheet {
         ensures sheet { OnOk result (IsSheet self.new) }
         ensures kept { OnOk result (KeepsFutures self.old self.new) }
         ensures tops { tops_in self.new ≡ tops_in self.old }
+        ensures reached { self.new.reached ≡ self.old.reached }
     {
         let here = self.roll.all_at(alloc, Spot::At(place))?;
         self.roll.wait_none(alloc, place);

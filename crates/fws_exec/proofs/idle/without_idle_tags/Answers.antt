@@ -1,6 +1,6 @@
 use Rattle.std.proofs.Common.{nat_eq, sym, ◌∙◌}
 use Rattle.std.specs.HashSet.{contains}
-use Rattle.fws_exec.proofs.Untested.{same_means, same_flat_ok, code_kept, by_code}
+use Rattle.fws_exec.proofs.Untested.{same_means, same_uses, same_flat_ok, code_kept, by_code}
 use Rattle.fws_exec.proofs.idle.without_idle_tags.Goals as goal
 
 pub returns-clause-ok : goal.returns-clause-ok
@@ -10,6 +10,10 @@ returns-clause-ok c =
 pub returns-clause-means : goal.returns-clause-means
 returns-clause-means c =
     same_means c.args.f.now c.as_slice-code.result.now c.in_ok-all-in-Some.all (contains nat_eq c.in_ok-tested.tested) c.in-Some.mark c.as_slice-code.ensures c.in_ok-tested.ensures c.in-Some.ensures c.in_ok-all-in-Some.ensures
+
+pub returns-clause-uses : goal.returns-clause-uses
+returns-clause-uses c =
+    same_uses c.args.f.now c.as_slice-code.result.now c.in_ok-all-in-Some.all (contains nat_eq c.in_ok-tested.tested) c.in-Some.mark c.as_slice-code.ensures c.in_ok-tested.ensures c.in-Some.ensures c.in_ok-all-in-Some.ensures
 
 pub returns-in-None-clause-idle : goal.returns-in-None-clause-idle
 returns-in-None-clause-idle c = (

@@ -15,7 +15,7 @@ meet_run-requires-clause-here c =
 
 pub returns-clause-passed : goal.returns-clause-passed
 returns-clause-passed c =
-    passed_both c.args.errand.now (is_together c.is_crowd-crowded.result c.args.groups.now) (among c.in_ok-apart.apart.items) (is_in c.args.groups.now) c.args.place c.args.past c.args.self.now c.divide_runs.new.self c.meet_run.new.self
+    passed_both c.args.errand.now (is_together c.is_crowd-crowded.result c.args.groups.now) (among c.in_ok-apart.apart.items) (is_in c.args.groups.now) c.args.place c.args.past c.args.self.now c.divide_runs.new.self c.meet_run.new.self c.requires.sheet
     (λ n. in_parts c.is_crowd-crowded.result c.args.groups.now n ∙ ap (λ b. is_together c.is_crowd-crowded.result c.args.groups.now n || b) (sym (c.in_ok-apart.ensures n)))
     c.in_ok-divide_runs.ensures.onward.grows c.in_ok-meet_run.ensures.onward.grows c.divide_runs.ensures.tops
     (at_grows (At c.args.place) c.args.self.now.roll.classes.items c.divide_runs.new.self.roll.classes.items (among c.in_ok-apart.apart.items) refl c.in_ok-divide_runs.ensures.onward.grows

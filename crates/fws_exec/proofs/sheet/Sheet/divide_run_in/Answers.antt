@@ -1,4 +1,4 @@
-use Rattle.std.proofs.Common.{◌≡◌, ◌-◌, ◌+◌, ◌≤◌, length, ◌∙◌, ap, subst, arith}
+use Rattle.std.proofs.Common.{◌∙◌, ap, subst}
 use Rattle.fws_box.specs.Boxes.{sides_of}
 use Rattle.fws_box.specs.Sides.{sides_have, IsWithin}
 use Rattle.fws_tree.specs.Marks.{mark_at}
@@ -8,21 +8,13 @@ use Rattle.fws_exec.specs.Divided.{seen_at, AreMoved}
 use Rattle.fws_exec.specs.Runs.{picked, run_of}
 use Rattle.fws_exec.specs.Sheets.{among, class_at}
 use Rattle.fws_exec.proofs.Alike.{group_picked}
-use Rattle.fws_exec.proofs.Coursing.{part_long, run_obeys}
 use Rattle.fws_exec.proofs.Marking.{label_inside}
 use Rattle.fws_exec.proofs.Moved.{moved_label}
-use Rattle.fws_exec.proofs.Passed.{onward_of}
-use Rattle.fws_exec.proofs.Running.{leaving_onward, run_long, run_passed}
 use Rattle.fws_exec.proofs.sheet.Sheet.divide_run_in.Goals as goal
 
-pub returns-clause-passed : goal.returns-clause-passed
-returns-clause-passed c =
-    let le : c.args.place ≤ c.args.past = (let lt = c.requires.later in omega arith) in
-    let within : c.args.past ≤ length c.args.errand.now.code.now = part_long c.args.errand.now.code.now c.args.errand.now.part c.requires.part c.args.past c.requires.within in
-    let long : c.args.past ≡ c.args.place + (c.args.past - c.args.place) = omega arith in
-    run_passed c.args.errand.now (among c.args.group.now.numbers.items) c.args.place c.args.past c.args.self.now c.move_by.new.self le (run_long c.args.errand.now.code.now c.args.place c.args.past le within) c.requires.leaves
-    (λ next p. run_obeys c.args.errand.now next p (c.args.past - c.args.place) c.args.place c.args.past c.requires.part long c.requires.low c.requires.within)
-    (moved_label (goings.Leaving c.args.errand.now.stage c.args.place) (among c.args.group.now.numbers.items) (λ g p. mark_at c.in_ok-marks.marks.items 0 p) (λ g p. picked c.args.place (seen_at c.args.errand.now.ground.site.now c.args.errand.now.ground.state c.args.errand.now.part g p) (run_of c.args.errand.now.code.now c.args.place c.args.past)) c.args.self.now c.move_by.new.self
+pub returns-clause-moved : goal.returns-clause-moved
+returns-clause-moved c =
+    moved_label (goings.Leaving c.args.errand.now.stage c.args.place) (among c.args.group.now.numbers.items) (λ g p. mark_at c.in_ok-marks.marks.items 0 p) (λ g p. picked c.args.place (seen_at c.args.errand.now.ground.site.now c.args.errand.now.ground.state c.args.errand.now.part g p) (run_of c.args.errand.now.code.now c.args.place c.args.past)) c.args.self.now c.move_by.new.self
     (λ p d w used a.
     let inside = subst (λ ts. IsWithin ts p) c.requires.tops w in
     c.in_ok-marks.ensures p inside
@@ -31,7 +23,4 @@ returns-clause-passed c =
     ∙ group_picked c.requires.alike.0 c.args.self.now.roll.classes.items c.args.group.now c.args.place (run_of c.args.errand.now.code.now c.args.place c.args.past) c.requires.alike.2 c.requires.alike.1 c.requires.tagless c.args.first (class_at c.args.self.now p) c.in_ok-class.class.now d c.requires.first a c.in_ok-class.ensures used
     c.args.errand.now.ground.site.now (kind_of c.args.errand.now.ground.state p) c.args.errand.now.part p)
     (subst (λ ms. AreMoved (goings.Leaving c.args.errand.now.stage c.args.place) (among c.args.group.now.numbers.items) (λ g p. mark_at ms 0 p) c.args.self.now c.move_by.new.self) c.as_slice-2.ensures.value
-    (subst (λ ns. AreMoved (goings.Leaving c.args.errand.now.stage c.args.place) (among ns) (λ g p. mark_at c.as_slice-2.result.now 0 p) c.args.self.now c.move_by.new.self) c.as_slice.ensures.value c.in_ok-move_by.ensures.moved)))
-
-pub returns-clause-onward : goal.returns-clause-onward
-returns-clause-onward c = onward_of c.args.place (goings.Leaving c.args.errand.now.stage c.args.place) c.args.self.now.roll.classes.items c.move_by.new.self.roll.classes.items (leaving_onward c.args.errand.now.stage c.args.place) c.in_ok-move_by.ensures.grown
+    (subst (λ ns. AreMoved (goings.Leaving c.args.errand.now.stage c.args.place) (among ns) (λ g p. mark_at c.as_slice-2.result.now 0 p) c.args.self.now c.move_by.new.self) c.as_slice.ensures.value c.in_ok-move_by.ensures.moved))

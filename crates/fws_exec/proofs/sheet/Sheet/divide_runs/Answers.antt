@@ -25,7 +25,7 @@ loop-group-preserved c =
       sheet = c.in_ok-divide_run.ensures.sheet;
       tops = c.divide_run.ensures.tops ∙ c.loop-group.invariant.tops;
       same = c.divide_run.ensures.tops ∙ c.loop-group.invariant.same;
-      passed = passed_both c.args.errand.now (is_together c.args.crowded (take c.loop-group.group-index c.args.groups.now)) (among c.group-item.result.numbers.items) (is_together c.args.crowded (take (c.loop-group.group-index + 1) c.args.groups.now)) c.args.place c.args.past c.args.self.now c.loop-group.self c.divide_run.new.self
+      passed = passed_both c.args.errand.now (is_together c.args.crowded (take c.loop-group.group-index c.args.groups.now)) (among c.group-item.result.numbers.items) (is_together c.args.crowded (take (c.loop-group.group-index + 1) c.args.groups.now)) c.args.place c.args.past c.args.self.now c.loop-group.self c.divide_run.new.self c.requires.sheet
           (λ n. any_more (λ g. not (is_apart c.args.crowded g) && among g.numbers.items n) c.args.groups.now c.loop-group.group-index c.group-item.result lt c.group-item.is
           ∙ ap (λ b. is_together c.args.crowded (take c.loop-group.group-index c.args.groups.now) n || (not b && among c.group-item.result.numbers.items n)) together)
           c.loop-group.invariant.onward.grows c.in_ok-divide_run.ensures.onward.grows c.loop-group.invariant.same

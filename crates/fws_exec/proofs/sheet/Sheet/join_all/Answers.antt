@@ -14,7 +14,7 @@ use Rattle.fws_exec.proofs.sheet.Sheet.join_all.Goals as goal
 
 pub returns-clause-sheet : goal.returns-clause-sheet
 returns-clause-sheet c =
-    let new : Sheet = record { canvas = c.recolour.new.self; roll = c.args.self.now.roll; hulls = c.args.self.now.hulls } in
+    let new : Sheet = record { canvas = c.recolour.new.self; roll = c.args.self.now.roll; hulls = c.args.self.now.hulls; reached = c.args.self.now.reached } in
     joined_sheet c.args.twins.now (c.of_sets-mark.result ∷ []) (painted.values_of c.args.self.now.canvas) c.bits_of-wanted.result c.args.self.now new refl refl c.recolour.ensures.tops
     (λ p w. subst (λ ts. IsRecoloured (λ x l z. IsJoined ts c.args.self.now.roll.classes.items x z) (painted.values_of c.args.self.now.canvas) c.bits_of-wanted.result (class_at c.args.self.now p) (mark_at (c.of_sets-mark.result ∷ []) 0 p) (class_at new p)) (sym c.recolour.ensures.later.0)
     (subst (λ (r : Roll). IsRecoloured (λ x l z. IsJoined c.recolour.new.by.twins.now r.classes.items x z) (painted.values_of c.args.self.now.canvas) c.bits_of-wanted.result (class_at c.args.self.now p) (mark_at (c.of_sets-mark.result ∷ []) 0 p) (class_at new p)) (sym c.recolour.ensures.later.1)
@@ -23,7 +23,7 @@ returns-clause-sheet c =
 
 pub returns-clause-kept : goal.returns-clause-kept
 returns-clause-kept c =
-    let new : Sheet = record { canvas = c.recolour.new.self; roll = c.args.self.now.roll; hulls = c.args.self.now.hulls } in
+    let new : Sheet = record { canvas = c.recolour.new.self; roll = c.args.self.now.roll; hulls = c.args.self.now.hulls; reached = c.args.self.now.reached } in
     joined_kept c.args.twins.now (c.of_sets-mark.result ∷ []) (painted.values_of c.args.self.now.canvas) c.bits_of-wanted.result c.args.self.now new refl
     (λ p w. subst (λ ts. IsRecoloured (λ x l z. IsJoined ts c.args.self.now.roll.classes.items x z) (painted.values_of c.args.self.now.canvas) c.bits_of-wanted.result (class_at c.args.self.now p) (mark_at (c.of_sets-mark.result ∷ []) 0 p) (class_at new p)) (sym c.recolour.ensures.later.0)
     (subst (λ (r : Roll). IsRecoloured (λ x l z. IsJoined c.recolour.new.by.twins.now r.classes.items x z) (painted.values_of c.args.self.now.canvas) c.bits_of-wanted.result (class_at c.args.self.now p) (mark_at (c.of_sets-mark.result ∷ []) 0 p) (class_at new p)) (sym c.recolour.ensures.later.1)
@@ -31,7 +31,7 @@ returns-clause-kept c =
 
 pub returns-clause-free : goal.returns-clause-free
 returns-clause-free c =
-    let new : Sheet = record { canvas = c.recolour.new.self; roll = c.args.self.now.roll; hulls = c.args.self.now.hulls } in
+    let new : Sheet = record { canvas = c.recolour.new.self; roll = c.args.self.now.roll; hulls = c.args.self.now.hulls; reached = c.args.self.now.reached } in
     joined_free c.args.twins.now c.args.joined.now (c.of_sets-mark.result ∷ []) (painted.values_of c.args.self.now.canvas) c.bits_of-wanted.result c.args.self.now new c.recolour.ensures.tops
     (λ p w. subst (λ ts. IsRecoloured (λ x l z. IsJoined ts c.args.self.now.roll.classes.items x z) (painted.values_of c.args.self.now.canvas) c.bits_of-wanted.result (class_at c.args.self.now p) (mark_at (c.of_sets-mark.result ∷ []) 0 p) (class_at new p)) (sym c.recolour.ensures.later.0)
     (subst (λ (r : Roll). IsRecoloured (λ x l z. IsJoined c.recolour.new.by.twins.now r.classes.items x z) (painted.values_of c.args.self.now.canvas) c.bits_of-wanted.result (class_at c.args.self.now p) (mark_at (c.of_sets-mark.result ∷ []) 0 p) (class_at new p)) (sym c.recolour.ensures.later.1)

@@ -2,7 +2,7 @@ use Rattle.std.proofs.Common.{get_or, sym, ◌∙◌, ap, subst, refl}
 use Rattle.std.proofs.lemmas.Option.{slice_get-get_or}
 use Rattle.fws_exec.specs.declared.going.Going.TheVariants as goings
 use Rattle.fws_exec.specs.declared.spot.Spot.TheVariants.{At}
-use Rattle.fws_exec.specs.Divided.{held, AreMoved}
+use Rattle.fws_exec.specs.Divided.{held, says_of, AreMoved, AreNoted}
 use Rattle.fws_exec.specs.Goings.{lands}
 use Rattle.fws_exec.specs.Moving.{IsGrown}
 use Rattle.fws_exec.specs.Sheets.{among}
@@ -27,7 +27,8 @@ returns-clause-passed c =
     let got = slice_get-get_or c.args.errand.now.code.now c.args.at c.index-errand-at.result (part_within c.args.errand.now.code.now c.args.errand.now.part c.args.at c.requires.part c.requires.high) in
     let jumps = part_jumps c.args.errand.now.code.now c.args.errand.now.part c.args.at (get_or c.args.errand.now.code.now c.args.at c.index-errand-at.result) c.requires.part c.requires.low c.requires.high got in
     ins_passed c.args.errand.now (among c.args.numbers.now) c.args.at (get_or c.args.errand.now.code.now c.args.at c.index-errand-at.result) c.args.self.now c.divide_all.new.self (λ to is. (jumps to is).0)
-    (λ next p. course_obeys c.args.errand.now next p c.args.at (get_or c.args.errand.now.code.now c.args.at c.index-errand-at.result) c.requires.high got jumps)
+    (λ aim p. course_obeys c.args.errand.now aim p c.args.at (get_or c.args.errand.now.code.now c.args.at c.index-errand-at.result) c.requires.high got jumps)
+    (subst (λ g. AreNoted (says_of g) (among c.args.numbers.now) (held c.args.errand.now.ground.site.now c.args.errand.now.ground.state c.args.errand.now.part (get_or c.args.errand.now.code.now c.args.at c.index-errand-at.result).cond) c.args.self.now c.divide_all.new.self) c.going-going.ensures c.in_ok-divide_all.ensures.noted)
     (subst (λ g. AreMoved g (among c.args.numbers.now) (held c.args.errand.now.ground.site.now c.args.errand.now.ground.state c.args.errand.now.part (get_or c.args.errand.now.code.now c.args.at c.index-errand-at.result).cond) c.args.self.now c.divide_all.new.self) c.going-going.ensures c.in_ok-divide_all.ensures.moved)
 
 pub returns-clause-onward : goal.returns-clause-onward

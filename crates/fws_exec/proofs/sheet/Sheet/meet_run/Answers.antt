@@ -26,7 +26,7 @@ loop-at-preserved c = record {
   tops = c.meet_ins.ensures.tops ∙ c.loop-at.invariant.tops;
   same = c.meet_ins.ensures.tops ∙ c.loop-at.invariant.same;
   low = (let le = c.loop-at.invariant.low in omega arith);
-  passed = passed_on c.args.errand.now (among c.args.numbers.now) c.args.place c.loop-at.at c.args.self.now c.loop-at.self c.meet_ins.new.self c.loop-at.invariant.low c.loop-at.invariant.onward.grows c.in_ok-meet_ins.ensures.onward.grows c.loop-at.invariant.same
+  passed = passed_on c.args.errand.now (among c.args.numbers.now) c.args.place c.loop-at.at c.args.self.now c.loop-at.self c.meet_ins.new.self c.requires.sheet c.loop-at.invariant.low c.loop-at.invariant.onward.grows c.in_ok-meet_ins.ensures.onward.grows c.loop-at.invariant.same
       (at_grows (At c.args.place) c.args.self.now.roll.classes.items c.loop-at.self.roll.classes.items (among c.args.numbers.now) refl c.loop-at.invariant.onward.grows c.requires.here)
       c.loop-at.invariant.passed c.in_ok-meet_ins.ensures.passed;
   onward = onward_then c.args.place c.args.self.now.roll.classes.items c.loop-at.self.roll.classes.items c.meet_ins.new.self.roll.classes.items c.loop-at.invariant.onward

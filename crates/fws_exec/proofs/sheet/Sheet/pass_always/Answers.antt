@@ -1,4 +1,5 @@
 use Rattle.std.proofs.Common.{refl, ◌∙◌}
+use Rattle.fws_exec.proofs.Telling.{keeps_same, keeps_then}
 use Rattle.fws_exec.proofs.sheet.Sheet.pass_always.Goals as goal
 
 pub loop-number-init : goal.loop-number-init
@@ -6,7 +7,7 @@ loop-number-init c = record {
   sheet = c.requires.sheet;
   tops = c.requires.tops;
   same = refl;
-  kept = λ next p w. refl;
+  kept = keeps_same c.args.errand.now c.args.self.now;
 }
 
 pub loop-number-preserved : goal.loop-number-preserved
@@ -14,5 +15,5 @@ loop-number-preserved c = record {
   sheet = c.in_ok-pass_whole.ensures.sheet;
   tops = c.pass_whole.ensures.tops ∙ c.loop-number.invariant.tops;
   same = c.pass_whole.ensures.tops ∙ c.loop-number.invariant.same;
-  kept = λ next p w. c.in_ok-pass_whole.ensures.kept next p w ∙ c.loop-number.invariant.kept next p w;
+  kept = keeps_then c.args.errand.now c.args.self.now c.loop-number.self c.pass_whole.new.self c.loop-number.invariant.kept c.in_ok-pass_whole.ensures.kept;
 }

@@ -17,10 +17,10 @@ send_all-requires c n a =
     subst (λ cs. n < length cs) (ap (λ v. v.items) (sym c.wait_all.ensures)) (slice_get_within c.divide_and_meet.new.self.roll.classes.items n (record { spot = At c.args.place; progress = there.0 }) there.1)
 
 pub returns-clause-sheet : goal.returns-clause-sheet
-returns-clause-sheet c = sent_sheet (At c.args.past) (among c.args.numbers.now) c.divide_and_meet.new.self (record { canvas = c.divide_and_meet.new.self.canvas; roll = c.send_all.new.self; hulls = c.divide_and_meet.new.self.hulls }) refl refl refl (subst (λ cs. AreSent (At c.args.past) (among c.args.numbers.now) cs c.send_all.new.self.classes.items) (ap (λ v. v.items) c.wait_all.ensures) c.send_all.ensures.sent) c.in_ok-divide_and_meet.ensures.sheet
+returns-clause-sheet c = sent_sheet (At c.args.past) (among c.args.numbers.now) c.divide_and_meet.new.self (record { canvas = c.divide_and_meet.new.self.canvas; roll = c.send_all.new.self; hulls = c.divide_and_meet.new.self.hulls; reached = c.divide_and_meet.new.self.reached }) refl refl refl (subst (λ cs. AreSent (At c.args.past) (among c.args.numbers.now) cs c.send_all.new.self.classes.items) (ap (λ v. v.items) c.wait_all.ensures) c.send_all.ensures.sent) c.in_ok-divide_and_meet.ensures.sheet
 
 pub returns-clause-kept : goal.returns-clause-kept
-returns-clause-kept c = sent_kept c.args.errand.now (among c.args.numbers.now) c.args.place c.args.past c.args.self.now c.divide_and_meet.new.self (record { canvas = c.divide_and_meet.new.self.canvas; roll = c.send_all.new.self; hulls = c.divide_and_meet.new.self.hulls }) c.requires.sheet c.requires.tops c.in_ok-divide_and_meet.ensures.onward.grows c.requires.here
+returns-clause-kept c = sent_kept c.args.errand.now (among c.args.numbers.now) c.args.place c.args.past c.args.self.now c.divide_and_meet.new.self (record { canvas = c.divide_and_meet.new.self.canvas; roll = c.send_all.new.self; hulls = c.divide_and_meet.new.self.hulls; reached = c.divide_and_meet.new.self.reached }) c.requires.sheet c.requires.tops c.in_ok-divide_and_meet.ensures.onward.grows c.requires.here
     (passed_test c.args.errand.now (is_in c.in_ok-groups.groups.all.items) (among c.args.numbers.now) c.args.place c.args.past c.args.self.now c.divide_and_meet.new.self (λ n. sym (c.in_ok-groups.ensures n))
     (subst (λ gs. Passed c.args.errand.now (is_in gs) c.args.place c.args.past c.args.self.now c.divide_and_meet.new.self) c.as_slice.ensures.value c.in_ok-divide_and_meet.ensures.passed))
-    refl (subst (λ cs. AreSent (At c.args.past) (among c.args.numbers.now) cs c.send_all.new.self.classes.items) (ap (λ v. v.items) c.wait_all.ensures) c.send_all.ensures.sent)
+    refl refl (subst (λ cs. AreSent (At c.args.past) (among c.args.numbers.now) cs c.send_all.new.self.classes.items) (ap (λ v. v.items) c.wait_all.ensures) c.send_all.ensures.sent)

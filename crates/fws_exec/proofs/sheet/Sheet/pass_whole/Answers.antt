@@ -1,22 +1,27 @@
 use Rattle.std.proofs.Common.{get_or, sym, ◌∙◌, ap, subst}
 use Rattle.std.proofs.lemmas.Option.{same_Some, slice_get-get_or}
+use Rattle.fws_exec.specs.declared.roll.Roll.{Roll}
 use Rattle.fws_exec.specs.declared.spot.Spot.TheVariants.{At}
 use Rattle.fws_exec.specs.Goings.{Goes}
+use Rattle.fws_exec.specs.Sheets.{IsUsed}
 use Rattle.fws_exec.proofs.Coursing.{course_obeys, part_jumps, part_within}
 use Rattle.fws_exec.proofs.Passed.{put_sheet, whole_kept}
 use Rattle.fws_exec.proofs.Sent.{stands_at}
 use Rattle.fws_exec.proofs.sheet.Sheet.pass_whole.Goals as goal
 
 pub returns-clause-sheet : goal.returns-clause-sheet
-returns-clause-sheet c = put_sheet c.args.number c.in_ok-class.class c.args.self.now c.put.new.self c.in_ok-class.ensures.used c.put.ensures.same (ap (λ v. v.items) c.put.ensures.hulls) c.in_ok-put.ensures.put c.requires.sheet
+returns-clause-sheet c = put_sheet c.args.number c.in_ok-class.class c.note_whole.new.self c.put.new.self c.in_ok-class.ensures.used c.put.ensures.same (ap (λ v. v.items) c.put.ensures.hulls) c.in_ok-put.ensures.put c.in_ok-note_whole.ensures.sheet
 
 pub returns-clause-kept : goal.returns-clause-kept
 returns-clause-kept c =
     let got = slice_get-get_or c.args.errand.now.code.now c.args.place c.index-errand-place.result (part_within c.args.errand.now.code.now c.args.errand.now.part c.args.place c.requires.part c.requires.high) in
     let here = stands_at (At c.args.place) c.args.self.now.roll.classes.items c.args.number (sym c.stands.ensures ∙ c.if-not-stands.false) in
     let gone = c.in_ok-class.ensures.gone in
-    whole_kept c.args.errand.now c.args.place (get_or c.args.errand.now.code.now c.args.place c.index-errand-place.result) c.args.number gone.0 c.in_ok-class.class c.args.self.now c.put.new.self gone.1
-    (ap (λ k. k.spot) (same_Some gone.0 (record { spot = At c.args.place; progress = here.0 }) (sym gone.1.0 ∙ here.1)))
+    let used : IsUsed c.args.self.now.roll.classes.items c.args.number gone.0 = subst (λ (r : Roll). IsUsed r.classes.items c.args.number gone.0) c.note_whole.ensures.roll gone.1 in
+    whole_kept c.args.errand.now c.args.place (get_or c.args.errand.now.code.now c.args.place c.index-errand-place.result) c.args.number gone.0 c.in_ok-class.class c.args.self.now c.note_whole.new.self c.put.new.self c.requires.sheet c.requires.tops
+    c.note_whole.ensures.same (ap (λ (r : Roll). r.classes.items) c.note_whole.ensures.roll) used
+    (ap (λ k. k.spot) (same_Some gone.0 (record { spot = At c.args.place; progress = here.0 }) (sym used.0 ∙ here.1)))
     (subst (λ g. Goes g 1 gone.0.progress c.in_ok-class.class) c.going.ensures gone.2)
-    c.in_ok-put.ensures.put c.put.ensures.same (c.requires.always (get_or c.args.errand.now.code.now c.args.place c.index-errand-place.result) got)
-    (λ next p. course_obeys c.args.errand.now next p c.args.place (get_or c.args.errand.now.code.now c.args.place c.index-errand-place.result) c.requires.high got (part_jumps c.args.errand.now.code.now c.args.errand.now.part c.args.place (get_or c.args.errand.now.code.now c.args.place c.index-errand-place.result) c.requires.part c.requires.low c.requires.high got))
+    c.in_ok-put.ensures.put c.put.ensures.same (ap (λ v. v.items) c.put.ensures.reached) (c.requires.always (get_or c.args.errand.now.code.now c.args.place c.index-errand-place.result) got)
+    (λ aim p. course_obeys c.args.errand.now aim p c.args.place (get_or c.args.errand.now.code.now c.args.place c.index-errand-place.result) c.requires.high got (part_jumps c.args.errand.now.code.now c.args.errand.now.part c.args.place (get_or c.args.errand.now.code.now c.args.place c.index-errand-place.result) c.requires.part c.requires.low c.requires.high got))
+    c.in_ok-note_whole.ensures.noted

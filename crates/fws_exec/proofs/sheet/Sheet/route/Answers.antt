@@ -3,7 +3,7 @@ use Rattle.std.proofs.lemmas.Option.{slice_get_within}
 use Rattle.fws_exec.specs.declared.going.Going.TheVariants as goings
 use Rattle.fws_exec.specs.declared.spot.Spot.TheVariants.{Before}
 use Rattle.fws_exec.specs.declared.spot.Stage.TheVariants.{Arrive, Deliver}
-use Rattle.fws_exec.specs.Divided.{held, AreMoved}
+use Rattle.fws_exec.specs.Divided.{held, says_of, AreMoved, AreNoted}
 use Rattle.fws_exec.specs.Sheets.{among, AreSent}
 use Rattle.fws_exec.specs.Stages.{onward_spot}
 use Rattle.fws_exec.proofs.Moved.{at_grows}
@@ -20,7 +20,7 @@ send_all-requires c n a =
     slice_get_within c.divide_all.new.self.roll.classes.items n (record { spot = Before Arrive; progress = there.0 }) there.1
 
 pub returns-clause-sheet : goal.returns-clause-sheet
-returns-clause-sheet c = sent_sheet (onward_spot c.args.ground.now.site.now.forwarding) (among c.as_slice-2.result.now) c.divide_all.new.self (record { canvas = c.divide_all.new.self.canvas; roll = c.send_all.new.self; hulls = c.divide_all.new.self.hulls }) (onward_used c.args.ground.now.site.now.forwarding) refl refl
+returns-clause-sheet c = sent_sheet (onward_spot c.args.ground.now.site.now.forwarding) (among c.as_slice-2.result.now) c.divide_all.new.self (record { canvas = c.divide_all.new.self.canvas; roll = c.send_all.new.self; hulls = c.divide_all.new.self.hulls; reached = c.divide_all.new.self.reached }) (onward_used c.args.ground.now.site.now.forwarding) refl refl
     (subst (λ s. AreSent s (among c.as_slice-2.result.now) c.divide_all.new.self.roll.classes.items c.send_all.new.self.classes.items) c.onward_spot-onward.ensures c.send_all.ensures.sent) c.in_ok-divide_all.ensures.sheet
 
 pub returns-clause-between : goal.returns-clause-between
@@ -29,9 +29,10 @@ returns-clause-between c = routed_outside c.args.ground.now.site.now.forwarding 
 
 pub returns-clause-meant : goal.returns-clause-meant
 returns-clause-meant c =
-    routed c.args.ground.now.site.now c.args.ground.now.state between c.in_ok-cond.cond (among c.in_ok-numbers.numbers.items) c.args.self.now c.divide_all.new.self (record { canvas = c.divide_all.new.self.canvas; roll = c.send_all.new.self; hulls = c.divide_all.new.self.hulls }) c.requires.sheet c.requires.tops
+    routed c.args.ground.now.site.now c.args.ground.now.state between c.in_ok-cond.cond (among c.in_ok-numbers.numbers.items) c.args.self.now c.divide_all.new.self (record { canvas = c.divide_all.new.self.canvas; roll = c.send_all.new.self; hulls = c.divide_all.new.self.hulls; reached = c.divide_all.new.self.reached }) c.requires.sheet c.requires.tops
     (c.in_ok-cond.ensures c.args.ground.now.site.now c.requires.ground.ways) c.in_ok-numbers.ensures.here c.in_ok-numbers.ensures.all c.in_ok-divide_all.ensures.grown.grows
     (subst (λ ns. AreMoved (goings.To (Before Deliver)) (among ns) (held c.args.ground.now.site.now c.args.ground.now.state between c.in_ok-cond.cond) c.args.self.now c.divide_all.new.self) c.as_slice.ensures.value c.in_ok-divide_all.ensures.moved)
-    refl
+    refl refl
+    (subst (λ ns. AreNoted (says_of (goings.To (Before Deliver))) (among ns) (held c.args.ground.now.site.now c.args.ground.now.state between c.in_ok-cond.cond) c.args.self.now c.divide_all.new.self) c.as_slice.ensures.value c.in_ok-divide_all.ensures.noted)
     (subst (λ ns. AreSent (onward_spot c.args.ground.now.site.now.forwarding) (among ns) c.divide_all.new.self.roll.classes.items c.send_all.new.self.classes.items) c.as_slice-2.ensures.value
     (subst (λ s. AreSent s (among c.as_slice-2.result.now) c.divide_all.new.self.roll.classes.items c.send_all.new.self.classes.items) c.onward_spot-onward.ensures c.send_all.ensures.sent))

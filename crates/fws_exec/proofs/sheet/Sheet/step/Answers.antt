@@ -1,10 +1,9 @@
-use Rattle.std.proofs.Common.{sym, ◌∙◌, subst}
-use Rattle.fws_box.specs.Sides.{IsWithin}
-use Rattle.fws_exec.specs.Courses.{course}
+use Rattle.std.proofs.Common.{◌∙◌, ap}
+use Rattle.fws_exec.proofs.Telling.{keeps_by, keeps_then}
 use Rattle.fws_exec.proofs.sheet.Sheet.step.Goals as goal
 
 pub returns-clause-kept : goal.returns-clause-kept
-returns-clause-kept c next p w =
-    c.forget.ensures.kept (course c.args.errand.now next p) next p (subst (λ ts. IsWithin ts p) (sym (c.visit.ensures.tops ∙ c.meet.ensures.tops ∙ c.requires.tops)) w)
-    ∙ c.in_ok-visit.ensures.kept next p w
-    ∙ c.in_ok-meet.ensures.kept (course c.args.errand.now next p) next p (subst (λ ts. IsWithin ts p) (sym c.requires.tops) w)
+returns-clause-kept c =
+    keeps_then c.args.errand.now c.args.self.now c.visit.new.self c.forget.new.self
+    (keeps_then c.args.errand.now c.args.self.now c.meet.new.self c.visit.new.self (keeps_by c.args.errand.now c.args.self.now c.meet.new.self c.requires.tops (ap (λ v. v.items) c.meet.ensures.reached) c.in_ok-meet.ensures.kept) c.in_ok-visit.ensures.kept)
+    (keeps_by c.args.errand.now c.visit.new.self c.forget.new.self (c.visit.ensures.tops ∙ c.meet.ensures.tops ∙ c.requires.tops) (ap (λ v. v.items) c.forget.ensures.reached) c.forget.ensures.kept)

@@ -1,0 +1,66 @@
+//! Which instructions some packet uses.
+
+ghost use Rattle.std.specs.Prelude.{◌≡◌, true, IfOk};
+ghost use Rattle.fws_flat.specs.Soundness.{flat_ok};
+ghost use Rattle.fws_net.specs.Routes.{IsSound};
+ghost use Rattle.fws_exec.specs.Reaching.{AreReached};
+
+use crate::execution::executed;
+use crate::idle::without_idle_tags;
+use crate::stages::Purpose;
+use fws_flat::{Flat, Ins};
+use fws_net::{Site, State};
+use fws_num::Memory;
+use fws_scene::Ways;
+use std::alloc::Global;
+use std::mem;
+
+/// For each instruction of the code whether some packet of the site uses it, where this code stands in the place of that of `f`.
+fn reach_code(
+    alloc: Global,
+    code: &[Ins],
+    f: &Flat,
+    site: &Site,
+    state: State,
+) -> Result<Vec<bool>, Memory>
+    requires sound { IsSound site.now }
+    requires ok { flat_ok (record f.now { code = code.now }) ≡ true }
+    ensures { IfOk result (λ answers. AreReached (record f.now { code = code.now }) site.now state answers.items) }
+{
+    let ways = Ways::of_site(alloc, site)?;
+    let purpose = Purpose {
+        site,
+        ways: &ways,
+        state,
+        code,
+    };
+    let mut sheet = executed(
+        alloc,
+        &purpose,
+        true,
+        f.arrive.as_slice(),
+        f.deliver.as_slice(),
+        f.forward.as_slice(),
+        f.send.as_slice(),
+    )?;
+    let reached = mem::replace(&mut sheet.reached, Vec::new(alloc));
+    Ok(reached)
+}
+
+/// For each instruction of the code whether some packet of the site uses it: whether the packet's walk comes to it and its
+/// condition holds there. The packets are new ones, or those of tracked connections. An error is want of memory.
+///
+/// The work is that of executing the code, and of asking for the points of each instruction until one is found.
+pub fn reach(alloc: Global, f: &Flat, site: &Site, state: State) -> Result<Vec<bool>, Memory>
+    requires sound { IsSound site.now }
+    requires ok { flat_ok f.now ≡ true }
+    ensures { IfOk result (λ answers. AreReached f.now site.now state answers.items) }
+{
+    match without_idle_tags(alloc, f)? {
+        Some(code) => {
+            let reached = reach_code(alloc, code.as_slice(), f, site, state)?;
+            Ok(reached)
+        }
+        None => reach_code(alloc, f.code.as_slice(), f, site, state),
+    }
+}
