@@ -5,4 +5,6 @@ pub mod Nodes
 pub mod Pairing
 pub mod Sets
 pub mod Sides
+pub mod Standing
+pub mod Telling
 pub mod Writing

@@ -4,5 +4,8 @@ pub mod Laid
 pub mod Moved
 pub mod Points
 pub mod Rows
+pub mod RuleText
 pub mod Searched
 pub mod Unequal
+pub mod Unused
+pub mod Used
