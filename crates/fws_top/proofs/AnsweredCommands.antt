@@ -19,13 +19,14 @@ use Rattle.fws_top.specs.declared.status.Status.TheVariants as status
 use Rattle.fws_top.specs.Forms.{site2}
 use Rattle.fws_top.specs.Judged.{Policy}
 use Rattle.fws_top.specs.Loads.{IsLoad}
-use Rattle.fws_top.specs.Parts.{events_part, load_part, other_part, packets_part, query_part, table_part, translation_part}
+use Rattle.fws_top.specs.Parts.{events_part, load_part, other_part, packets_part, query_part, table_part, translation_part, why_packets_part}
 use Rattle.fws_top.specs.Plan.{Plan, says, shows, plan_of, site_plan, source_plan, load_site_plan, load_text_plan, packets_plan, events_plan}
 use Rattle.fws_top.specs.Stops.{Answered, AsksStopped, Does, EndsIn, GoesOn, IsCode, IsTakenCode, Stopped, StopsAt}
 use Rattle.fws_top.specs.Tables.{IsTable, IsAskedTable, IsCompared, table, asked_table, translation, comparison, loaded}
 use Rattle.fws_top.specs.Translations.{IsTranslation}
 use Rattle.fws_top.proofs.Chosen.{asks_on, asks_stopped, ended_at, stopped_on}
 use Rattle.fws_trace.specs.TraceText.{trace_text}
+use Rattle.fws_why.specs.WhyText.{why_text}
 
 -- the table of code is shown
 pub table_shown : (lang : SourceLang) (file : List ℕ) (site : Site) (state : State) (source : PolicyCode) (told : Option (List ℕ → List ℕ)) (old new : List ℕ → ℕ) (text : List ℕ)
@@ -58,6 +59,13 @@ pub trace_said : (name : List ℕ) (site : Site) (walk : Packet → Kind → Out
     → GoesOn (packets_plan site name) told packets → new ≡ old → text ≡ trace_text walk conns packets → Answered (packets_part site walk conns name) told old new status.Ok text
 trace_said name site walk conns packets told old new text on quiet made =
     on (λ sent. says status.Ok (trace_text walk conns sent)) old new status.Ok text (tt, quiet, refl, made)
+
+-- what rules decide is said
+pub why_said : (name : List ℕ) (site : Site) (policy : Policy) (conns : List Conn) (packets : List Packet) (told : Option (List ℕ → List ℕ)) (old new : List ℕ → ℕ) (text : List ℕ)
+    → GoesOn (packets_plan site name) told packets → new ≡ old → text ≡ why_text policy.walk policy.used policy.labels conns packets
+    → Answered (why_packets_part site policy conns name) told old new status.Ok text
+why_said name site policy conns packets told old new text on quiet made =
+    on (λ sent. says status.Ok (why_text policy.walk policy.used policy.labels conns sent)) old new status.Ok text (tt, quiet, refl, made)
 
 -- the run is said
 pub run_said : (name : List ℕ) (site : Site) (tracks : Bool) (walk : Packet → Kind → Outcome) (events : List Event) (told : Option (List ℕ → List ℕ)) (old new : List ℕ → ℕ) (text : List ℕ)

@@ -6,7 +6,9 @@ mod Diagrams
 mod Holding
 mod KeepingStep
 mod LoadsShown
+mod PlacedPolicies
 mod Plans
 mod Points
 mod Policies
 mod RegularTables
+mod UnusedRules

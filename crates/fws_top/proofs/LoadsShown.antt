@@ -3,13 +3,11 @@ use Rattle.std.proofs.Common.{◌≡◌, ℕ, ◌≤◌, Bool, true, false, cond
 use Rattle.std.proofs.lemmas.Bool.{and_parts, leb-true, ne_eqb}
 use Rattle.std.specs.List.{list_all}
 use Rattle.std.specs.Option.{option_map, option_map_or}
-use Rattle.fws_ipt.specs.Walk.{walk as ipt_walk}
-use Rattle.fws_ipt_put.specs.Placed.{tracks as ipt_tracks}
 use Rattle.fws_load_laws.specs.LoadedFilters.{LoadConfigsAreNotRefused, LoadTextsAreRead, load_config}
 use Rattle.fws_load_laws.specs.LoadedSite.{LoadSiteIsRead, load_site}
 use Rattle.fws_num.specs.Numbers.{dec_of, digits_value, is_digit}
 use Rattle.fws_top.specs.Forms.{load, unknown}
-use Rattle.fws_top.specs.Judged.{Policy, ipt_named_refusal, ipt_refusal, judged_by, judged_chains}
+use Rattle.fws_top.specs.Judged.{Policy, ipt_meant, ipt_named_refusal, ipt_refusal, judged_by, judged_chains}
 use Rattle.fws_top.specs.LoadPlans.{LoadWordsAreShown, LoadsAreShown}
 use Rattle.fws_top.specs.Plan.{judged, load_text_plan, plan_of, shows, spelled_site}
 use Rattle.fws_top.specs.Tables.{loaded}
@@ -19,8 +17,8 @@ loads_shown site_read texts_read unrefused n low most =
     let config = load_config n in
     let next = λ (policy : Policy). shows (loaded n load_site policy.walk) in
     ap (λ read. spelled_site (codes "load site") read (λ value. load_text_plan n value (λ policy. shows (loaded n value policy.walk)))) site_read
-    ∙ ap (λ read. judged (codes "load text") (judged_by (ipt_refusal load_site) (ipt_tracks load_site) (λ config. ipt_walk config load_site) read) next) (texts_read load_site n most)
-    ∙ ap (λ refusal. judged (codes "load text") (judged_chains (option_map (ipt_named_refusal config.chains) refusal) (record { walk = ipt_walk config load_site; tracks = ipt_tracks load_site config })) next) (unrefused load_site n)
+    ∙ ap (λ read. judged (codes "load text") (judged_by (ipt_refusal load_site) (ipt_meant load_site) read) next) (texts_read load_site n most)
+    ∙ ap (λ refusal. judged (codes "load text") (judged_chains (option_map (ipt_named_refusal config.chains) refusal) (ipt_meant load_site config)) next) (unrefused load_site n)
 
 -- a number that is read is within its limit
 within : (word : List ℕ) (most n : ℕ) → dec_of word most ≡ Some n → n ≤ most

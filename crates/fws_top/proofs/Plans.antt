@@ -7,7 +7,7 @@ use Rattle.fws_top.specs.declared.status.Status.TheVariants as status
 use Rattle.fws_top.specs.Due.{Due, IsReadInTurn, IsTold, CanEnd, IsReadFault, IsDue, IsAnswered, IsFaultless}
 use Rattle.fws_top.specs.Plan.{Plan, says, shows, reads}
 use Rattle.fws_top.specs.Stops.{Answered, FaultSaid}
-use Rattle.fws_top.specs.Tables.{Wanted, table, asked_table, translation, comparison, loaded, CanBeShown, IsWanted}
+use Rattle.fws_top.specs.Tables.{Wanted, table, asked_table, translation, comparison, unused, loaded, CanBeShown, IsWanted}
 use Rattle.fws_top.specs.Translations.{IsPlacement}
 use Rattle.fws_tree.specs.declared.tables.Tables.{Tables}
 
@@ -27,6 +27,7 @@ wanted_ends (table site state walk) s t w = w.0
 wanted_ends (asked_table site state asks walk) s t w = w.0
 wanted_ends (translation target site walk) s t w = placement_ends target site w.0 s t w.2
 wanted_ends (comparison site walk other) s t w = w.0
+wanted_ends (unused site used labels) s t w = w.0
 wanted_ends (loaded n site walk) s t w = w.0
 
 -- and never with a fault of the outside or want of memory
@@ -36,6 +37,7 @@ shown_fine (asked_table site state asks walk) s e = subst IsFaultless (sym e) tt
 shown_fine (translation target site walk) s (inl e) = subst IsFaultless (sym e) tt
 shown_fine (translation target site walk) s (inr e) = subst IsFaultless (sym e) tt
 shown_fine (comparison site walk other) s e = subst IsFaultless (sym e) tt
+shown_fine (unused site used labels) s e = subst IsFaultless (sym e) tt
 shown_fine (loaded n site walk) s e = subst IsFaultless (sym e) tt
 
 wanted_fine : (wanted : Wanted) (s : Status) (t : List ℕ) → IsWanted wanted s t → IsFaultless s

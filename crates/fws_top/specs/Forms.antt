@@ -7,7 +7,7 @@ use Rattle.fws_net.specs.declared.packet.State.{State}
 use Rattle.fws_net.specs.declared.packet.State.TheVariants.{Fresh, Est}
 use Rattle.fws_top.specs.Asks.{are_asks, are_shown}
 use Rattle.fws_top.specs.declared.form.Form.{Form}
-use Rattle.fws_top.specs.declared.form.Form.TheVariants.{Unknown, Help, Version, Synth, Query, Translate, Trace, Run, Same, Load, SecondForm}
+use Rattle.fws_top.specs.declared.form.Form.TheVariants.{Unknown, Help, Version, Synth, Query, Translate, Trace, Why, Run, Same, Dead, Load, SecondForm}
 use Rattle.fws_top.specs.declared.lang.SourceLang.{SourceLang}
 use Rattle.fws_top.specs.declared.lang.SourceLang.TheVariants.{Iptables, Ipfw, Pf, Ios}
 use Rattle.fws_top.specs.declared.lang.TargetLang.{TargetLang}
@@ -17,8 +17,9 @@ use Rattle.fws_top.specs.declared.lang.TargetLang.TheVariants as targets
 
 -- nothing that is known, the list of commands or the version; of a configuration at a site, for the packets of a state,
 -- the table, whole or for what further words ask; the same policy in another language; what becomes of listed packets
--- against listed connections, or of listed events one after the other; whether two configurations do the same at a site; what a
--- generated policy of so many rules comes to; or a site in its second form
+-- against listed connections, alone or with the rules that decide it, or of listed events one after the other; whether two
+-- configurations do the same at a site; which rules no packet uses; what a generated policy of so many rules comes to; or a site in
+-- its second form
 pub data Command : Type 0 where
   unknown : Command
   help : Command
@@ -27,8 +28,10 @@ pub data Command : Type 0 where
   query : SourceLang → List ℕ → List ℕ → State → List (List ℕ) → Command
   translate : SourceLang → TargetLang → List ℕ → List ℕ → Command
   trace : SourceLang → List ℕ → List ℕ → List ℕ → List ℕ → Command
+  why : SourceLang → List ℕ → List ℕ → List ℕ → List ℕ → Command
   run : SourceLang → List ℕ → List ℕ → List ℕ → Command
   same : SourceLang → List ℕ → List ℕ → SourceLang → List ℕ → Command
+  dead : SourceLang → List ℕ → List ℕ → Command
   load : ℕ → Command
   site2 : List ℕ → Command
 
@@ -95,6 +98,11 @@ abbrev pub trace_command : SourceLang → List ℕ → List ℕ → List (List �
 trace_command lang site file (conns ∷ packets ∷ []) = trace lang site file conns packets
 trace_command lang site file _ = unknown
 
+-- `why LANG SITE FILE CONNS PACKETS`
+abbrev pub why_command : SourceLang → List ℕ → List ℕ → List (List ℕ) → Command
+why_command lang site file (conns ∷ packets ∷ []) = why lang site file conns packets
+why_command lang site file _ = unknown
+
 -- `run LANG SITE FILE EVENTS`
 abbrev pub run_command : SourceLang → List ℕ → List ℕ → List (List ℕ) → Command
 run_command lang site file (events ∷ []) = run lang site file events
@@ -104,6 +112,11 @@ run_command lang site file _ = unknown
 abbrev pub same_command : SourceLang → List ℕ → List ℕ → List (List ℕ) → Command
 same_command lang site file (word ∷ other ∷ []) = option_map_or (λ other_lang. same lang site file other_lang other) (lang_of word) unknown
 same_command lang site file _ = unknown
+
+-- `dead LANG SITE FILE` takes no further words
+abbrev pub dead_command : SourceLang → List ℕ → List ℕ → List (List ℕ) → Command
+dead_command lang site file [] = dead lang site file
+dead_command lang site file (word ∷ words) = unknown
 
 -- `translate FROM TO SITE FILE`, behind FROM and TO
 abbrev pub translate_command : SourceLang → List ℕ → List ℕ → List (List ℕ) → Command
@@ -115,8 +128,10 @@ abbrev pub source_command : List ℕ → SourceLang → List ℕ → List ℕ �
 source_command command lang site file rest =
     if bytes_eq command (codes "translate") then translate_command lang site file rest
     else if bytes_eq command (codes "trace") then trace_command lang site file rest
+    else if bytes_eq command (codes "why") then why_command lang site file rest
     else if bytes_eq command (codes "run") then run_command lang site file rest
     else if bytes_eq command (codes "same") then same_command lang site file rest
+    else if bytes_eq command (codes "dead") then dead_command lang site file rest
     else table_command command lang site file rest
 
 -- the command of the words of a command line
@@ -137,8 +152,10 @@ asked (Synth lang site file state) = synth lang site.now file.now state
 asked (Query lang site file state asks) = query lang site.now file.now state asks.now
 asked (Translate from to site file) = translate from to site.now file.now
 asked (Trace lang site file conns packets) = trace lang site.now file.now conns.now packets.now
+asked (Why lang site file conns packets) = why lang site.now file.now conns.now packets.now
 asked (Run lang site file events) = run lang site.now file.now events.now
 asked (Same lang site file other_lang other) = same lang site.now file.now other_lang other.now
+asked (Dead lang site file) = dead lang site.now file.now
 asked (Load n) = load n
 asked (SecondForm site) = site2 site.now
 

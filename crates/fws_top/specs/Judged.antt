@@ -8,11 +8,15 @@ use Rattle.fws_ifcl.specs.declared.refusal.UnfoldRefusal.TheVariants.{Loop, Deep
 use Rattle.fws_ifcl.specs.Refusals.{refusal_of}
 use Rattle.fws_ios.specs.declared.config.IosConfig.{IosConfig}
 use Rattle.fws_ios.specs.FileText.{spelled as ios_spelled}
+use Rattle.fws_ios.specs.Uses.{used as ios_used}
 use Rattle.fws_ios.specs.Walk.{walk as ios_walk}
+use Rattle.fws_ios_print.specs.Labels.{labels_of as ios_labels}
 use Rattle.fws_ios_put.specs.Placed.{tracks as ios_tracks}
 use Rattle.fws_ipfw.specs.declared.config.IpfwConfig.{IpfwConfig}
 use Rattle.fws_ipfw.specs.FileText.{spelled as ipfw_spelled}
+use Rattle.fws_ipfw.specs.Uses.{used as ipfw_used}
 use Rattle.fws_ipfw.specs.Walk.{walk as ipfw_walk}
+use Rattle.fws_ipfw_print.specs.Labels.{labels_of as ipfw_labels}
 use Rattle.fws_ipfw_put.specs.Placed.{tracks as ipfw_tracks}
 use Rattle.fws_ipt.specs.declared.config.IptChain.{IptChain}
 use Rattle.fws_ipt.specs.declared.config.IptConfig.{IptConfig}
@@ -20,7 +24,9 @@ use Rattle.fws_ipt.specs.declared.refusal.UnfoldRefusal.{UnfoldRefusal as IptRef
 use Rattle.fws_ipt.specs.declared.refusal.UnfoldRefusal.TheVariants as ipt
 use Rattle.fws_ipt.specs.FileText.{spelled as ipt_spelled}
 use Rattle.fws_ipt.specs.Refusals.{refusal_of as ipt_refusal_of}
+use Rattle.fws_ipt.specs.Uses.{used as ipt_used}
 use Rattle.fws_ipt.specs.Walk.{walk as ipt_walk}
+use Rattle.fws_ipt_print.specs.Labels.{labels_of as ipt_labels}
 use Rattle.fws_ipt_put.specs.Placed.{tracks as ipt_tracks}
 use Rattle.fws_net.specs.declared.cause.Cause.{Cause}
 use Rattle.fws_net.specs.declared.connection.Kind.{Kind}
@@ -30,7 +36,9 @@ use Rattle.fws_net.specs.declared.site.Site.{Site}
 use Rattle.fws_net.specs.Reading.{Refusal}
 use Rattle.fws_pf.specs.declared.config.PfConfig.{PfConfig}
 use Rattle.fws_pf.specs.FileText.{spelled as pf_spelled}
+use Rattle.fws_pf.specs.Uses.{used as pf_used}
 use Rattle.fws_pf.specs.Walk.{walk as pf_walk}
+use Rattle.fws_pf_print.specs.Labels.{labels_of as pf_labels}
 use Rattle.fws_pf_put.specs.Placed.{tracks as pf_tracks}
 use Rattle.fws_top.specs.declared.lang.SourceLang.{SourceLang}
 use Rattle.fws_top.specs.declared.lang.SourceLang.TheVariants.{Iptables, Ipfw, Pf, Ios}
@@ -96,11 +104,30 @@ ios_refusal site c = None
 abbrev pub IsPacketOf : Site → Packet → Type 0
 IsPacketOf site p = p.entry ≤ length site.faces + 1
 
--- what a configuration means at a site: what becomes of a packet of a class, and whether the configuration keeps state where it
--- accepts, so that a run lists a connection for each new packet that it accepts
+-- what a configuration means at a site: what becomes of a packet of a class; whether the configuration keeps state where it
+-- accepts, so that a run lists a connection for each new packet that it accepts; the numbers of the rules that a packet's walk uses,
+-- in their order; and the labels of all its rules, of which the first has the number 0
 pub record Policy : Type 0 where
   pub walk : Packet → Kind → Outcome
   pub tracks : Bool
+  pub used : Packet → Kind → List ℕ
+  pub labels : List (List ℕ)
+
+-- what a configuration means by its walk, whether it tracks, which rules it uses and how these are labelled
+abbrev pub meant_by : {C : Type 0} → (C → Packet → Kind → Outcome) → (C → Bool) → (C → Packet → Kind → List ℕ) → (C → List (List ℕ)) → C → Policy
+meant_by walk tracks used labels config = record { walk = walk config; tracks = tracks config; used = used config; labels = labels config }
+
+abbrev pub ipt_meant : Site → IptConfig → Policy
+ipt_meant site = meant_by (λ config. ipt_walk config site) (ipt_tracks site) (λ config. ipt_used config site) ipt_labels
+
+abbrev pub ipfw_meant : Site → IpfwConfig → Policy
+ipfw_meant site = meant_by (λ config. ipfw_walk config site) (ipfw_tracks site) (λ config. ipfw_used config site) ipfw_labels
+
+abbrev pub pf_meant : Site → PfConfig → Policy
+pf_meant site = meant_by (λ config. pf_walk config site) (pf_tracks site) (λ config. pf_used config site) pf_labels
+
+abbrev pub ios_meant : Site → IosConfig → Policy
+ios_meant site = meant_by (λ config. ios_walk config site) (ios_tracks site) (λ config. ios_used config site) ios_labels
 
 -- a text is refused with these words, or accepted with what it means
 pub data Judged : Type 0 where
@@ -112,10 +139,10 @@ abbrev pub judged_chains : Option ChainRefusal → Policy → Judged
 judged_chains None policy = accepted policy
 judged_chains (Some refusal) policy = refused (chain_words refusal)
 
--- the first bad line is refused, then the chains; what is left means what its walk says, and tracks or doesn't
-abbrev pub judged_by : {C : Type 0} → (C → Option ChainRefusal) → (C → Bool) → (C → Packet → Kind → Outcome) → Result C (Refusal Cause) → Judged
-judged_by refusal tracks walk (Err r) = refused (line_words r.line (cause_text r.cause))
-judged_by refusal tracks walk (Ok config) = judged_chains (refusal config) (record { walk = walk config; tracks = tracks config })
+-- the first bad line is refused, then the chains; what is left means what its configuration does
+abbrev pub judged_by : {C : Type 0} → (C → Option ChainRefusal) → (C → Policy) → Result C (Refusal Cause) → Judged
+judged_by refusal meant (Err r) = refused (line_words r.line (cause_text r.cause))
+judged_by refusal meant (Ok config) = judged_chains (refusal config) (meant config)
 
 -- the configuration is that of some text
 abbrev pub HasText : {C : Type 0} → (List ℕ → Result C (Refusal Cause)) → C → Type 0
@@ -127,7 +154,7 @@ HasConfig {C} spelled text = (config : C) × (spelled text ≡ Ok config)
 
 -- what a text means in a language at a site
 abbrev pub judge : SourceLang → Site → List ℕ → Judged
-judge Iptables site text = judged_by (ipt_refusal site) (ipt_tracks site) (λ config. ipt_walk config site) (ipt_spelled site text)
-judge Ipfw site text = judged_by (ipfw_refusal site) (ipfw_tracks site) (λ config. ipfw_walk config site) (ipfw_spelled site text)
-judge Pf site text = judged_by (pf_refusal site) (pf_tracks site) (λ config. pf_walk config site) (pf_spelled site text)
-judge Ios site text = judged_by (ios_refusal site) (ios_tracks site) (λ config. ios_walk config site) (ios_spelled site text)
+judge Iptables site text = judged_by (ipt_refusal site) (ipt_meant site) (ipt_spelled site text)
+judge Ipfw site text = judged_by (ipfw_refusal site) (ipfw_meant site) (ipfw_spelled site text)
+judge Pf site text = judged_by (pf_refusal site) (pf_meant site) (pf_spelled site text)
+judge Ios site text = judged_by (ios_refusal site) (ios_meant site) (ios_spelled site text)

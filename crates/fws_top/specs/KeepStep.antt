@@ -1,31 +1,20 @@
 -- A translation keeps step with its source: what runs of both have in common.
-use Rattle.std.specs.Prelude.{◌≡◌, ℕ, Bool, true, Result, Ok, List, []}
+use Rattle.std.specs.Prelude.{◌≡◌, ℕ, true, Result, Ok, List, []}
 use Rattle.fws_events.specs.declared.events.Event.{Event}
 use Rattle.fws_events.specs.Runs.{AreMet, answers_to, conns_behind_all, conns_behind_each}
 use Rattle.fws_events.specs.RunText.{run_text}
 use Rattle.fws_ios.specs.FileText.{spelled as ios_spelled}
-use Rattle.fws_ios.specs.Walk.{walk as ios_walk}
-use Rattle.fws_ios_put.specs.Placed.{tracks as ios_tracks}
 use Rattle.fws_ipfw.specs.FileText.{spelled as ipfw_spelled}
-use Rattle.fws_ipfw.specs.Walk.{walk as ipfw_walk}
-use Rattle.fws_ipfw_put.specs.Placed.{tracks as ipfw_tracks}
 use Rattle.fws_ipt.specs.FileText.{spelled as ipt_spelled}
-use Rattle.fws_ipt.specs.Walk.{walk as ipt_walk}
-use Rattle.fws_ipt_put.specs.Placed.{tracks as ipt_tracks}
 use Rattle.fws_net.specs.declared.cause.Cause.{Cause}
 use Rattle.fws_net.specs.declared.connection.Conn.{Conn}
-use Rattle.fws_net.specs.declared.connection.Kind.{Kind}
-use Rattle.fws_net.specs.declared.outcome.Outcome.{Outcome}
-use Rattle.fws_net.specs.declared.packet.Packet.{Packet}
 use Rattle.fws_net.specs.declared.site.Site.{Site}
 use Rattle.fws_net.specs.Reading.{Refusal}
 use Rattle.fws_pf.specs.FileText.{spelled as pf_spelled}
-use Rattle.fws_pf.specs.Walk.{walk as pf_walk}
-use Rattle.fws_pf_put.specs.Placed.{tracks as pf_tracks}
 use Rattle.fws_top.specs.declared.lang.SourceLang.{SourceLang}
 use Rattle.fws_top.specs.declared.lang.TargetLang.{TargetLang}
 use Rattle.fws_top.specs.declared.lang.TargetLang.TheVariants.{Iptables, Ipfw, Pf, Ios}
-use Rattle.fws_top.specs.Judged.{Policy, accepted, judge}
+use Rattle.fws_top.specs.Judged.{Policy, accepted, ios_meant, ipfw_meant, ipt_meant, judge, pf_meant}
 use Rattle.fws_top.specs.Translations.{Emits}
 use Rattle.fws_top.specs.Walked.{AreTablesOf}
 use Rattle.fws_tree.specs.declared.tables.Tables.{Tables}
@@ -44,18 +33,18 @@ pub record KeepsStep (site : Site) (policy other : Policy) : Type 0 where
       → run_text policy.tracks policy.walk events ≡ run_text other.tracks other.walk events
 
 -- the text spells a configuration that keeps state where it accepts, and keeps step with the policy
-pub record SpellsInStepBy {C : Type 0} (spelled : List ℕ → Result C (Refusal Cause)) (tracks : C → Bool) (walk : C → Packet → Kind → Outcome) (site : Site) (policy : Policy) (t : List ℕ) : Type 0 where
+pub record SpellsInStepBy {C : Type 0} (spelled : List ℕ → Result C (Refusal Cause)) (meant : C → Policy) (site : Site) (policy : Policy) (t : List ℕ) : Type 0 where
   pub config : C
   pub spells : spelled t ≡ Ok config
-  pub tracked : tracks config ≡ true
-  pub in_step : KeepsStep site policy (record { walk = walk config; tracks = tracks config })
+  pub tracked : (meant config).tracks ≡ true
+  pub in_step : KeepsStep site policy (meant config)
 
 -- in each target
 abbrev pub SpellsInStep : TargetLang → Site → Policy → List ℕ → Type 0
-SpellsInStep Iptables site policy t = SpellsInStepBy (ipt_spelled site) (ipt_tracks site) (λ config. ipt_walk config site) site policy t
-SpellsInStep Ipfw site policy t = SpellsInStepBy (ipfw_spelled site) (ipfw_tracks site) (λ config. ipfw_walk config site) site policy t
-SpellsInStep Pf site policy t = SpellsInStepBy (pf_spelled site) (pf_tracks site) (λ config. pf_walk config site) site policy t
-SpellsInStep Ios site policy t = SpellsInStepBy (ios_spelled site) (ios_tracks site) (λ config. ios_walk config site) site policy t
+SpellsInStep Iptables site policy t = SpellsInStepBy (ipt_spelled site) (ipt_meant site) site policy t
+SpellsInStep Ipfw site policy t = SpellsInStepBy (ipfw_spelled site) (ipfw_meant site) site policy t
+SpellsInStep Pf site policy t = SpellsInStepBy (pf_spelled site) (pf_meant site) site policy t
+SpellsInStep Ios site policy t = SpellsInStepBy (ios_spelled site) (ios_meant site) site policy t
 
 -- every text that may be emitted for the tables of an accepted configuration that keeps state where it accepts keeps step with it
 abbrev pub TranslationsKeepStep : Type 0

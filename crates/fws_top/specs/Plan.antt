@@ -16,14 +16,15 @@ use Rattle.fws_top.specs.declared.lang.SourceLang.{SourceLang}
 use Rattle.fws_top.specs.declared.lang.SourceLang.TheVariants.{Iptables}
 use Rattle.fws_top.specs.declared.status.Status.{Status}
 use Rattle.fws_top.specs.declared.status.Status.TheVariants as status
-use Rattle.fws_top.specs.Forms.{Command, unknown, help, version, synth, query, translate, trace, run, same, load, site2}
+use Rattle.fws_top.specs.Forms.{Command, unknown, help, version, synth, query, translate, trace, why, run, same, dead, load, site2}
 use Rattle.fws_top.specs.Judged.{Judged, Policy, refused, accepted, judge}
 use Rattle.fws_top.specs.Lines.{refused_line, too_long_words, line_words, syntax_words, site_cause_text}
-use Rattle.fws_top.specs.Tables.{Wanted, table, asked_table, translation, comparison, loaded}
+use Rattle.fws_top.specs.Tables.{Wanted, table, asked_table, translation, comparison, unused, loaded}
 use Rattle.fws_top.specs.Texts.{file_limit, help_text, usage_text, version_text}
 use Rattle.fws_trace.specs.ConnectionText.{conns_of}
 use Rattle.fws_trace.specs.PacketText.{packets_of}
 use Rattle.fws_trace.specs.TraceText.{trace_text}
+use Rattle.fws_why.specs.WhyText.{why_text}
 
 -- a status and a text are said, or a wanted text is shown with its status, or the file of a name is read and its bytes decide
 pub data Plan : Type 0 where
@@ -99,9 +100,13 @@ plan_of (load n) = load_site_plan (λ value. load_text_plan n value (λ policy. 
 plan_of (trace lang site file conns packets) =
     site_plan site (λ value. source_plan lang value file (λ policy. conns_plan conns (λ tracked. packets_plan value packets (λ sent.
     says status.Ok (trace_text policy.walk tracked sent)))))
+plan_of (why lang site file conns packets) =
+    site_plan site (λ value. source_plan lang value file (λ policy. conns_plan conns (λ tracked. packets_plan value packets (λ sent.
+    says status.Ok (why_text policy.walk policy.used policy.labels tracked sent)))))
 plan_of (run lang site file events) =
     site_plan site (λ value. source_plan lang value file (λ policy. events_plan value events (λ given.
     says status.Ok (run_text policy.tracks policy.walk given))))
 plan_of (same lang site file other_lang other) =
     site_plan site (λ value. source_plan lang value file (λ policy. source_plan other_lang value other (λ second.
     shows (comparison value policy.walk second.walk))))
+plan_of (dead lang site file) = site_plan site (λ value. source_plan lang value file (λ policy. shows (unused value policy.used policy.labels)))

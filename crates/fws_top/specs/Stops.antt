@@ -1,9 +1,14 @@
 -- What the steps of a command give on the way through its plan: a value with which it goes on, or an answer in its place.
-use Rattle.std.specs.Prelude.{◌≡◌, ℕ, Option, Some, None, List, true, ◌⊎◌}
+use Rattle.std.specs.Prelude.{◌≡◌, ℕ, Option, Some, None, List, length, true, ◌⊎◌}
 use Rattle.fws_flat.specs.declared.code.Flat.{Flat}
 use Rattle.fws_flat.specs.Soundness.{flat_ok}
+use Rattle.fws_flat.specs.Uses.{used_places as used_instructions}
 use Rattle.fws_flat.specs.Walk.{means}
 use Rattle.fws_ifcl.specs.declared.diagram.Ifcl.{Ifcl}
+use Rattle.fws_ifcl.specs.declared.diagram.Place.{Place}
+use Rattle.fws_ifcl.specs.Soundness.{ifcl_ok}
+use Rattle.fws_ifcl.specs.Spots.{are_spots_of, told}
+use Rattle.fws_ifcl.specs.Uses.{used_places}
 use Rattle.fws_ifcl.specs.Walk.{means as diagram_means}
 use Rattle.fws_io.specs.Outside.{Rose}
 use Rattle.fws_net.specs.declared.connection.Kind.{Kind}
@@ -13,14 +18,19 @@ use Rattle.fws_net.specs.declared.site.Site.{Site}
 use Rattle.fws_net.specs.RegularWalks.{IsRegularWalk}
 use Rattle.fws_top.specs.declared.answer.Stop.{Stop}
 use Rattle.fws_top.specs.declared.answer.Stop.TheVariants.{Due, Memory}
+use Rattle.fws_top.specs.declared.lang.SourceLang.{SourceLang}
+use Rattle.fws_top.specs.declared.placed.Placed.{Placed}
+use Rattle.fws_top.specs.declared.placed.PlacedCode.{PlacedCode}
 use Rattle.fws_top.specs.declared.policy.PolicyCode.{PolicyCode}
 use Rattle.fws_top.specs.declared.status.Status.{Status}
 use Rattle.fws_top.specs.declared.status.Status.TheVariants as status
 use Rattle.fws_top.specs.Due.{IsFaultless}
-use Rattle.fws_top.specs.Judged.{IsPacketOf, Policy, diagram_refusal}
+use Rattle.fws_top.specs.Judged.{IsPacketOf, Judged, Policy, diagram_refusal, judge, judged_chains}
 use Rattle.fws_top.specs.Lines.{cannot_read_line}
-use Rattle.fws_top.specs.Plan.{Plan, says, shows, reads, asks_plan}
+use Rattle.fws_top.specs.Plan.{Plan, says, shows, reads, asks_plan, file_plan}
 use Rattle.fws_top.specs.Tables.{IsWanted}
+use Rattle.fws_unfold.specs.Told.{told as stood_for}
+use Rattle.fws_why.specs.Walked.{IsWalkOf}
 
 -- Answers
 
@@ -107,3 +117,60 @@ pub record IsTakenCode (plan : (Policy → Plan) → Plan) (told : Option (List 
   pub does : Does code.flat site policy.walk
   pub tracks : code.tracks ≡ policy.tracks
   pub goes_on : GoesOn plan told policy
+
+-- Diagrams and code in which rules have places
+
+-- the spots tell of the places in a diagram that packets of the site use which rules they use
+abbrev pub Tells : Placed → Site → (Packet → Kind → List ℕ) → Type 0
+Tells placed site used = (p : Packet) (k : Kind) → IsPacketOf site p → told placed.spots.items (used_places placed.diagram site p k) ≡ used p k
+
+-- a diagram of what a text means, with places for its rules: the text is refused where the diagram is, at a chain of the same name; and
+-- where it isn't, the diagram does with packets of the site what the text means, and tells which rules they use
+pub record IsPlaced (text : Judged) (site : Site) (placed : Placed) : Type 0 where
+  pub ok : ifcl_ok placed.diagram ≡ true
+  pub policy : Policy
+  pub judged : text ≡ judged_chains (diagram_refusal placed.diagram) policy
+  pub does : diagram_refusal placed.diagram ≡ None → (p : Packet) (k : Kind) → IsPacketOf site p → diagram_means placed.diagram site p k ≡ policy.walk p k
+  pub tells : diagram_refusal placed.diagram ≡ None → Tells placed site policy.used
+  pub spots : are_spots_of placed.diagram (length policy.labels) placed.spots.items ≡ true
+  pub labels : placed.labels.items ≡ policy.labels
+
+-- what the text of a file means decides
+abbrev pub text_plan : SourceLang → Site → List ℕ → (Judged → Plan) → Plan
+text_plan lang site name next = file_plan name (λ bytes. next (judge lang site bytes))
+
+-- such a diagram of a text, by which the plan of its file goes on
+pub record IsTakenPlaced (lang : SourceLang) (name : List ℕ) (held : Option (List ℕ → List ℕ)) (site : Site) (placed : Placed) : Type 0 where
+  pub text : Judged
+  pub is : IsPlaced text site placed
+  pub goes_on : GoesOn (text_plan lang site name) held text
+
+-- flat code of a diagram that can be unfolded, and the places for which its instructions stand
+pub record IsUnfoldedFrom (d : Ifcl) (flat : Flat) (from : List (Option Place)) : Type 0 where
+  pub ok : flat_ok flat ≡ true
+  pub unrefused : diagram_refusal d ≡ None
+  pub does : (site : Site) (p : Packet) (k : Kind) → means flat site p k ≡ diagram_means d site p k
+  pub stands : (site : Site) (p : Packet) (k : Kind) → stood_for from (used_instructions flat site p k) ≡ used_places d site p k
+
+-- the same, with the spots and labels of the diagram
+pub record IsUnfoldedOf (placed : Placed) (code : PlacedCode) : Type 0 where
+  pub unfolded : IsUnfoldedFrom placed.diagram code.flat code.from.items
+  pub spots : code.spots.items ≡ placed.spots.items
+  pub labels : code.labels.items ≡ placed.labels.items
+
+-- code that does what a policy means, tells which rules it uses, and has their labels
+pub record IsToldBy (policy : Policy) (site : Site) (code : PlacedCode) : Type 0 where
+  pub walk : IsWalkOf site code.flat code.from.items code.spots.items policy.walk policy.used
+  pub labels : code.labels.items ≡ policy.labels
+
+-- such code of a policy for which the plan is what follows
+pub record IsPlacedCode (plan : (Policy → Plan) → Plan) (site : Site) (code : PlacedCode) : Type 0 where
+  pub policy : Policy
+  pub told : IsToldBy policy site code
+  pub chooses : Chooses plan policy
+
+-- such code of a policy with which the plan goes on
+pub record IsTakenPlacedCode (plan : (Policy → Plan) → Plan) (held : Option (List ℕ → List ℕ)) (site : Site) (code : PlacedCode) : Type 0 where
+  pub policy : Policy
+  pub told : IsToldBy policy site code
+  pub goes_on : GoesOn plan held policy

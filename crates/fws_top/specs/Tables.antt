@@ -1,9 +1,11 @@
 -- The texts that show walks.
-use Rattle.std.specs.Prelude.{◌≡◌, ◌⊎◌, ℕ, Option, Some, None, List, if◌then◌else◌}
+use Rattle.std.specs.Prelude.{◌≡◌, ◌⊎◌, ℕ, Option, Some, None, List, length, if◌then◌else◌}
 use Rattle.fws_box.specs.Sides.{IsWithin}
 use Rattle.fws_dead.specs.declared.compare.Compare.{Compare}
 use Rattle.fws_dead.specs.Compared.{IsComparison}
 use Rattle.fws_dead.specs.ComparisonText.{comparison_text}
+use Rattle.fws_dead.specs.RuleText.{dead_text}
+use Rattle.fws_dead.specs.Unused.{AreUnused}
 use Rattle.fws_net.specs.declared.connection.Kind.{Kind}
 use Rattle.fws_net.specs.declared.outcome.Outcome.{Outcome}
 use Rattle.fws_net.specs.declared.packet.Packet.{Packet}
@@ -46,13 +48,20 @@ pub record IsCompared (site : Site) (walk other : Packet → Kind → Outcome) (
   pub compared : IsComparison site walk other comparison
   pub spelled : t ≡ comparison_text site comparison
 
--- what shows a walk at a site: its table for the packets of a state, whole or of what the words of a query ask for; the
--- same policy in another language; whether another walk does the same; or what so many rules come to
+-- what is said of rules with these labels: which of them no packet of the site uses, by the numbers of those that each packet uses
+pub record IsUnusedText (site : Site) (used : Packet → Kind → List ℕ) (labels : List (List ℕ)) (t : List ℕ) : Type 0 where
+  pub numbers : List ℕ
+  pub unused : AreUnused used site (length labels) numbers
+  pub spelled : t ≡ dead_text labels numbers
+
+-- what shows a policy at a site: the table of its walk for the packets of a state, whole or of what the words of a query ask for; the
+-- same policy in another language; whether another walk does the same; which of its rules no packet uses; or what so many rules come to
 pub data Wanted : Type 0 where
   table : Site → State → (Packet → Kind → Outcome) → Wanted
   asked_table : Site → State → List (List ℕ) → (Packet → Kind → Outcome) → Wanted
   translation : TargetLang → Site → (Packet → Kind → Outcome) → Wanted
   comparison : Site → (Packet → Kind → Outcome) → (Packet → Kind → Outcome) → Wanted
+  unused : Site → (Packet → Kind → List ℕ) → List (List ℕ) → Wanted
   loaded : ℕ → Site → (Packet → Kind → Outcome) → Wanted
 
 -- a text that is shown with this status is the wanted one
@@ -61,6 +70,7 @@ IsWanted (table site state walk) s t = (s ≡ status.Ok) × IsTable site state w
 IsWanted (asked_table site state asks walk) s t = (s ≡ status.Ok) × IsAskedTable site state asks walk t
 IsWanted (translation target site walk) s t = IsTranslation target site walk s t
 IsWanted (comparison site walk other) s t = (s ≡ status.Ok) × IsCompared site walk other t
+IsWanted (unused site used labels) s t = (s ≡ status.Ok) × IsUnusedText site used labels t
 IsWanted (loaded n site walk) s t = (s ≡ status.Ok) × IsLoad n site walk t
 
 -- a status with which it may be shown
@@ -69,4 +79,5 @@ CanBeShown (table site state walk) s = s ≡ status.Ok
 CanBeShown (asked_table site state asks walk) s = s ≡ status.Ok
 CanBeShown (translation target site walk) s = (s ≡ status.Ok) ⊎ (s ≡ status.NotPlaceable)
 CanBeShown (comparison site walk other) s = s ≡ status.Ok
+CanBeShown (unused site used labels) s = s ≡ status.Ok
 CanBeShown (loaded n site walk) s = s ≡ status.Ok

@@ -4,6 +4,7 @@ use Rattle.std.specs.Prelude.{◌≡◌, ℕ, Bool, true, Result, Ok, List, [], 
 use Rattle.std.specs.Fmt.{decimal}
 use Rattle.std.specs.List.{join_with_byte}
 use Rattle.std.specs.Option.{option_map_or}
+use Rattle.fws_dead.specs.ComparisonText.{pair_words}
 use Rattle.fws_ios.specs.FileText.{spelled as ios_spelled}
 use Rattle.fws_ios.specs.Walk.{walk as ios_walk}
 use Rattle.fws_ios_put.specs.Placed.{tracks as ios_tracks}
@@ -24,7 +25,6 @@ use Rattle.fws_net.specs.declared.packet.Packet.{Packet}
 use Rattle.fws_net.specs.declared.site.Site.{Site}
 use Rattle.fws_net.specs.Connections.{fate_in}
 use Rattle.fws_net.specs.Reading.{Refusal}
-use Rattle.fws_num.specs.Numbers.{dotted}
 use Rattle.fws_pf.specs.FileText.{spelled as pf_spelled}
 use Rattle.fws_pf.specs.Walk.{walk as pf_walk}
 use Rattle.fws_pf_put.specs.Placed.{tracks as pf_tracks}
@@ -32,7 +32,6 @@ use Rattle.fws_place.specs.declared.breach.Breach.{Breach}
 use Rattle.fws_place.specs.declared.breach.Pair.{Pair}
 use Rattle.fws_place.specs.Fits.{Fits, IsBreach, number_of}
 use Rattle.fws_place.specs.Meaning.{IsPacketOf, IsPairOf, new_of, est_of}
-use Rattle.fws_table.specs.TableText.{entry_name}
 use Rattle.fws_top.specs.declared.lang.TargetLang.{TargetLang}
 use Rattle.fws_top.specs.declared.lang.TargetLang.TheVariants.{Iptables, Ipfw, Pf, Ios}
 use Rattle.fws_top.specs.declared.status.Status.{Status}
@@ -76,18 +75,9 @@ target_word Ipfw = codes "ipfw"
 target_word Pf = codes "pf"
 target_word Ios = codes "ios"
 
--- the words of a packet, as a trace reads them
-abbrev pub packet_words : Site → Packet → List (List ℕ)
-packet_words site p =
-    entry_name site p.entry ∷ decimal p.proto ∷ dotted p.dst ∷ decimal p.dport ∷ dotted p.src ∷ decimal p.sport ∷ decimal p.flags
-    ∷ decimal p.icmp ∷ []
-
--- the ends with which a connection sends it
-abbrev pub ends_words : Rec → List (List ℕ)
-ends_words r = dotted r.rdst ∷ decimal r.rdport ∷ dotted r.rsrc ∷ decimal r.rsport ∷ []
-
+-- the words of a packet, as a trace reads them, and the ends with which its connection sends it, if it has one
 abbrev pub pair_text : Site → Pair → List ℕ
-pair_text site pair = join_with_byte 32 (packet_words site pair.packet ++ option_map_or ends_words pair.rec [])
+pair_text site pair = join_with_byte 32 (pair_words site pair.packet pair.rec)
 
 -- the system can't hold the policy, by this clause, as these packets show
 abbrev pub breach_line : TargetLang → Site → Breach → List ℕ

@@ -7,7 +7,7 @@ ghost use Rattle.fws_top.specs.Plan.{Plan, plan_of};
 ghost use Rattle.fws_top.specs.Stops.{Answered, Stopped};
 
 use crate::answer::{Answer, Stop, said};
-use crate::commands::{load, query, run, same, second_form, synth, trace, translate};
+use crate::commands::{dead, load, query, run, same, second_form, synth, trace, translate, why};
 use crate::form::{Form, read_form};
 use crate::status::Status;
 use crate::texts::{HELP, USAGE, VERSION};
@@ -63,10 +63,14 @@ fn follow<S: Shelf>(alloc: Global, form: &Form<'_>, shelf: &mut S) -> Result<Ans
         Form::Trace(lang, site, file, conns, packets) => {
             ended(trace(alloc, shelf, lang, site, file, conns, packets))
         }
+        Form::Why(lang, site, file, conns, packets) => {
+            ended(why(alloc, shelf, lang, site, file, conns, packets))
+        }
         Form::Run(lang, site, file, events) => ended(run(alloc, shelf, lang, site, file, events)),
         Form::Same(lang, site, file, other_lang, other) => {
             ended(same(alloc, shelf, lang, site, file, other_lang, other))
         }
+        Form::Dead(lang, site, file) => ended(dead(alloc, shelf, lang, site, file)),
         Form::Load(n) => ended(load(alloc, n)),
         Form::SecondForm(site) => ended(second_form(alloc, shelf, site)),
     }

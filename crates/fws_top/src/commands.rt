@@ -9,21 +9,24 @@ ghost use Rattle.fws_net.specs.Routes.{IsSound};
 ghost use Rattle.fws_net.specs.SiteLaws.{IsOrderly};
 ghost use Rattle.fws_top.specs.Asks.{are_asks};
 ghost use Rattle.fws_top.specs.declared.status.Status.TheVariants as status;
-ghost use Rattle.fws_top.specs.Forms.{synth, query, translate, trace, run, same, load, site2};
-ghost use Rattle.fws_top.specs.Parts.{query_part, conns_part, events_part, load_part, other_part, packets_part, run_part, same_part, table_part, trace_part, translation_part};
+ghost use Rattle.fws_top.specs.Forms.{synth, query, translate, trace, why, run, same, dead, load, site2};
+ghost use Rattle.fws_top.specs.Judged.{Policy};
+ghost use Rattle.fws_top.specs.Parts.{query_part, conns_part, dead_part, events_part, load_part, other_part, packets_part, run_part, same_part, table_part, trace_part, translation_part, why_conns_part, why_packets_part, why_part};
 ghost use Rattle.fws_top.specs.Plan.{plan_of};
-ghost use Rattle.fws_top.specs.Stops.{Answered, Does, DoesRegularly, Stopped};
+ghost use Rattle.fws_top.specs.Stops.{Answered, Does, DoesRegularly, IsToldBy, Stopped};
 
 use crate::answer::{Answer, Stop};
 use crate::lang::{SourceLang, TargetLang};
 use crate::loading::loaded;
+use crate::placed::PlacedCode;
 use crate::policy::PolicyCode;
 use crate::steps::{
     generated_site, generated_source, know_entries, take_conns, take_events, take_packets,
-    take_site, take_source,
+    take_placed_code, take_placed_diagram, take_site, take_source,
 };
-use crate::tables::{asked_table, compared, replayed, table, traced};
+use crate::tables::{asked_table, compared, explained, replayed, table, traced};
 use crate::translating::translated;
+use crate::unused_rules::unused;
 use fws_flat::Flat;
 use fws_io::Shelf;
 use fws_net::{Conn, Site, State, put_site, read_sites_are_orderly};
@@ -233,6 +236,92 @@ pub(crate) fn trace<S: Shelf>(
     )
 }
 
+/// What code makes of listed packets against connections, and which rules decide it.
+fn why_among<S: Shelf>(
+    alloc: Global,
+    shelf: &mut S,
+    site: &Site,
+    code: &PlacedCode,
+    conns: &[Conn],
+    packets_name: &[u8],
+) -> Result<Text, Stop>
+    requires { IsSound site.now }
+    ensures same { S.told shelf.new ≡ S.told shelf.old }
+    ensures answered { (policy : Policy) → IsToldBy policy site.now code.now
+        → IfOk result (Answered (why_packets_part site.now policy conns.now packets_name.now) (S.told shelf.old) (S.faults shelf.old) (S.faults shelf.new) status.Ok) }
+    ensures stopped { (policy : Policy)
+        → IfErr result (Stopped (why_packets_part site.now policy conns.now packets_name.now) (S.told shelf.old) (S.faults shelf.old) (S.faults shelf.new)) }
+{
+    let packets = take_packets(alloc, shelf, site, packets_name)?;
+    let text = explained(alloc, site, code, conns, packets.as_slice())?;
+    Ok(text)
+}
+
+/// What code makes of listed packets against listed connections, and which rules decide it.
+fn why_by<S: Shelf>(
+    alloc: Global,
+    shelf: &mut S,
+    site: &Site,
+    code: &PlacedCode,
+    conns_name: &[u8],
+    packets_name: &[u8],
+) -> Result<Text, Stop>
+    requires { IsSound site.now }
+    ensures same { S.told shelf.new ≡ S.told shelf.old }
+    ensures answered { (policy : Policy) → IsToldBy policy site.now code.now
+        → IfOk result (Answered (why_conns_part site.now policy conns_name.now packets_name.now) (S.told shelf.old) (S.faults shelf.old) (S.faults shelf.new) status.Ok) }
+    ensures stopped { (policy : Policy)
+        → IfErr result (Stopped (why_conns_part site.now policy conns_name.now packets_name.now) (S.told shelf.old) (S.faults shelf.old) (S.faults shelf.new)) }
+{
+    let conns = take_conns(alloc, shelf, conns_name)?;
+    why_among(alloc, shelf, site, code, conns.as_slice(), packets_name)
+}
+
+/// What becomes of listed packets against listed connections, and which rules decide it, at a site.
+fn why_at<S: Shelf>(
+    alloc: Global,
+    shelf: &mut S,
+    lang: SourceLang,
+    site: &Site,
+    file_name: &[u8],
+    conns_name: &[u8],
+    packets_name: &[u8],
+) -> Result<Text, Stop>
+    requires { IsSound site.now }
+    ensures same { S.told shelf.new ≡ S.told shelf.old }
+    ensures answered { IfOk result (Answered (why_part lang site.now file_name.now conns_name.now packets_name.now) (S.told shelf.old) (S.faults shelf.old) (S.faults shelf.new) status.Ok) }
+    ensures stopped { IfErr result (Stopped (why_part lang site.now file_name.now conns_name.now packets_name.now) (S.told shelf.old) (S.faults shelf.old) (S.faults shelf.new)) }
+{
+    let code = take_placed_code(alloc, shelf, lang, site, file_name)?;
+    why_by(alloc, shelf, site, &code, conns_name, packets_name)
+}
+
+/// What becomes of listed packets against listed connections, and which rules decide it.
+pub(crate) fn why<S: Shelf>(
+    alloc: Global,
+    shelf: &mut S,
+    lang: SourceLang,
+    site_name: &[u8],
+    file_name: &[u8],
+    conns_name: &[u8],
+    packets_name: &[u8],
+) -> Result<Text, Stop>
+    ensures same { S.told shelf.new ≡ S.told shelf.old }
+    ensures answered { IfOk result (Answered (plan_of (why lang site_name.now file_name.now conns_name.now packets_name.now)) (S.told shelf.old) (S.faults shelf.old) (S.faults shelf.new) status.Ok) }
+    ensures stopped { IfErr result (Stopped (plan_of (why lang site_name.now file_name.now conns_name.now packets_name.now)) (S.told shelf.old) (S.faults shelf.old) (S.faults shelf.new)) }
+{
+    let site = take_site(alloc, shelf, site_name)?;
+    why_at(
+        alloc,
+        shelf,
+        lang,
+        &site,
+        file_name,
+        conns_name,
+        packets_name,
+    )
+}
+
 /// What code makes of listed events.
 fn run_by<S: Shelf>(
     alloc: Global,
@@ -347,6 +436,40 @@ pub(crate) fn same<S: Shelf>(
 {
     let site = take_site(alloc, shelf, site_name)?;
     same_at(alloc, shelf, lang, &site, file_name, other_lang, other_name)
+}
+
+/// Which rules of a configuration no packet uses, at a site.
+fn dead_at<S: Shelf>(
+    alloc: Global,
+    shelf: &mut S,
+    lang: SourceLang,
+    site: &Site,
+    file_name: &[u8],
+) -> Result<Text, Stop>
+    requires { IsSound site.now }
+    ensures same { S.told shelf.new ≡ S.told shelf.old }
+    ensures answered { IfOk result (Answered (dead_part lang site.now file_name.now) (S.told shelf.old) (S.faults shelf.old) (S.faults shelf.new) status.Ok) }
+    ensures stopped { IfErr result (Stopped (dead_part lang site.now file_name.now) (S.told shelf.old) (S.faults shelf.old) (S.faults shelf.new)) }
+{
+    let placed = take_placed_diagram(alloc, shelf, lang, site, file_name)?;
+    let text = unused(alloc, site, file_name, &placed)?;
+    Ok(text)
+}
+
+/// Which rules of a configuration no packet uses.
+pub(crate) fn dead<S: Shelf>(
+    alloc: Global,
+    shelf: &mut S,
+    lang: SourceLang,
+    site_name: &[u8],
+    file_name: &[u8],
+) -> Result<Text, Stop>
+    ensures same { S.told shelf.new ≡ S.told shelf.old }
+    ensures answered { IfOk result (Answered (plan_of (dead lang site_name.now file_name.now)) (S.told shelf.old) (S.faults shelf.old) (S.faults shelf.new) status.Ok) }
+    ensures stopped { IfErr result (Stopped (plan_of (dead lang site_name.now file_name.now)) (S.told shelf.old) (S.faults shelf.old) (S.faults shelf.new)) }
+{
+    let site = take_site(alloc, shelf, site_name)?;
+    dead_at(alloc, shelf, lang, &site, file_name)
 }
 
 /// What a generated policy of so many rules comes to, at a site.

@@ -2,7 +2,7 @@
 
 ghost use Rattle.std.specs.Prelude.{◌≡◌};
 ghost use Rattle.std.specs.Str.{bytes_eq};
-ghost use Rattle.fws_top.specs.Forms.{lang_of, target_of, state_of, command_of, single_command, short_command, load_command, synth_command, query_command, state_command, table_command, translate_command, trace_command, run_command, same_command, source_command, asked, IsSpelled};
+ghost use Rattle.fws_top.specs.Forms.{lang_of, target_of, state_of, command_of, single_command, short_command, load_command, synth_command, query_command, state_command, table_command, translate_command, trace_command, why_command, run_command, same_command, dead_command, source_command, asked, IsSpelled};
 
 use crate::ask::{are_asks, are_shown};
 use crate::lang::{SourceLang, TargetLang};
@@ -27,10 +27,14 @@ pub(crate) enum Form<'a> {
     /// What a configuration at a site makes of packets, against tracked connections: site, configuration, connections
     /// and packets.
     Trace(SourceLang, &'a [u8], &'a [u8], &'a [u8], &'a [u8]),
+    /// The same, and which rules of the configuration decide it.
+    Why(SourceLang, &'a [u8], &'a [u8], &'a [u8], &'a [u8]),
     /// What a configuration at a site makes of events one after the other: site, configuration and events.
     Run(SourceLang, &'a [u8], &'a [u8], &'a [u8]),
     /// Whether two configurations do the same at a site: site and configuration, then the other language and configuration.
     Same(SourceLang, &'a [u8], &'a [u8], SourceLang, &'a [u8]),
+    /// Which rules of a configuration no packet uses at a site.
+    Dead(SourceLang, &'a [u8], &'a [u8]),
     /// What a generated policy comes to: the number of its rules.
     Load(u32),
     /// A site in its second form.
@@ -235,6 +239,17 @@ fn read_trace<'a>(lang: SourceLang, site: &'a [u8], file: &'a [u8], rest: &'a [T
     }
 }
 
+/// So does `why`.
+fn read_why<'a>(lang: SourceLang, site: &'a [u8], file: &'a [u8], rest: &'a [Text]) -> Form<'a>
+    ensures asked { asked result ≡ why_command lang site.now file.now rest.now }
+    ensures spelled { IsSpelled result }
+{
+    match rest {
+        [conns, packets] => Form::Why(lang, site, file, conns.as_slice(), packets.as_slice()),
+        _ => Form::Unknown,
+    }
+}
+
 /// `run` takes one further name.
 fn read_run<'a>(lang: SourceLang, site: &'a [u8], file: &'a [u8], rest: &'a [Text]) -> Form<'a>
     ensures asked { asked result ≡ run_command lang site.now file.now rest.now }
@@ -260,6 +275,17 @@ fn read_same<'a>(lang: SourceLang, site: &'a [u8], file: &'a [u8], rest: &'a [Te
     }
 }
 
+/// `dead` takes no further words.
+fn read_dead<'a>(lang: SourceLang, site: &'a [u8], file: &'a [u8], rest: &[Text]) -> Form<'a>
+    ensures asked { asked result ≡ dead_command lang site.now file.now rest.now }
+    ensures spelled { IsSpelled result }
+{
+    match rest {
+        [] => Form::Dead(lang, site, file),
+        _ => Form::Unknown,
+    }
+}
+
 /// What a command asks of a configuration at a site.
 fn read_source_command<'a>(
     command: &Text,
@@ -275,10 +301,14 @@ fn read_source_command<'a>(
         read_translate(lang, site, file, rest)
     } else if is(command, b"trace") {
         read_trace(lang, site, file, rest)
+    } else if is(command, b"why") {
+        read_why(lang, site, file, rest)
     } else if is(command, b"run") {
         read_run(lang, site, file, rest)
     } else if is(command, b"same") {
         read_same(lang, site, file, rest)
+    } else if is(command, b"dead") {
+        read_dead(lang, site, file, rest)
     } else {
         read_table_command(command, lang, site, file, rest)
     }

@@ -2,8 +2,9 @@
 
 use crate::language::Language;
 use crate::source::Source;
-use fws_ifcl::Ifcl;
+use fws_ifcl::{Ifcl, Spot};
 use fws_ios::IosConfig;
+use fws_ios_print::labels_are_counted;
 use fws_net::{ReadAnswer, Site};
 use fws_num::{Memory, Text};
 use fws_place::PlaceAnswer;
@@ -17,7 +18,9 @@ impl Source for Ios {
     type Config = IosConfig;
 
     ghost use Rattle.fws_ios.specs.FileText.{spelled};
+    ghost use Rattle.fws_ios.specs.Uses.{used};
     ghost use Rattle.fws_ios.specs.Walk.{walk};
+    ghost use Rattle.fws_ios_print.specs.Labels.{labels_of};
     ghost use Rattle.fws_ios_put.specs.Placed.{tracks};
     ghost use Rattle.fws_top.specs.Judged.{ios_refusal};
 
@@ -29,6 +32,10 @@ impl Source for Ios {
 
     ghost tracks = { λ site config. tracks site config };
 
+    ghost used = { λ config site packet kind. used config site packet kind };
+
+    ghost labels = { λ config. labels_of config };
+
     fn read(alloc: Global, text: &[u8], site: &Site) -> Result<IosConfig, ReadAnswer> {
         fws_ios_read::read(alloc, text, site)
     }
@@ -36,6 +43,16 @@ impl Source for Ios {
     fn to_ifcl(alloc: Global, c: &IosConfig, site: &Site) -> Result<Ifcl, Memory> {
         let diagram = fws_ios_ifcl::to_ifcl(alloc, c, site)?;
         Ok(diagram)
+    }
+
+    fn places(alloc: Global, c: &IosConfig, site: &Site) -> Result<(Ifcl, Vec<Spot>), Memory> {
+        labels_are_counted();
+        let placed = fws_ios_ifcl::places(alloc, c, site)?;
+        Ok(placed)
+    }
+
+    fn labels(alloc: Global, c: &IosConfig) -> Result<Vec<Text>, Memory> {
+        fws_ios_print::labels(alloc, c)
     }
 
     fn tracks(c: &IosConfig, site: &Site) -> bool {

@@ -2,9 +2,10 @@
 
 use crate::language::Language;
 use crate::source::Source;
-use fws_ifcl::Ifcl;
+use fws_ifcl::{Ifcl, Spot};
 use fws_ipfw::IpfwConfig;
 use fws_ipfw_ifcl::spelled_diagrams;
+use fws_ipfw_print::labels_are_counted;
 use fws_net::{ReadAnswer, Site};
 use fws_num::{Memory, Text};
 use fws_place::PlaceAnswer;
@@ -18,7 +19,9 @@ impl Source for Ipfw {
     type Config = IpfwConfig;
 
     ghost use Rattle.fws_ipfw.specs.FileText.{spelled};
+    ghost use Rattle.fws_ipfw.specs.Uses.{used};
     ghost use Rattle.fws_ipfw.specs.Walk.{walk};
+    ghost use Rattle.fws_ipfw_print.specs.Labels.{labels_of};
     ghost use Rattle.fws_ipfw_put.specs.Placed.{tracks};
     ghost use Rattle.fws_top.specs.Judged.{ipfw_refusal};
 
@@ -30,6 +33,10 @@ impl Source for Ipfw {
 
     ghost tracks = { λ site config. tracks site config };
 
+    ghost used = { λ config site packet kind. used config site packet kind };
+
+    ghost labels = { λ config. labels_of config };
+
     fn read(alloc: Global, text: &[u8], site: &Site) -> Result<IpfwConfig, ReadAnswer> {
         fws_ipfw_read::read(alloc, text, site)
     }
@@ -38,6 +45,17 @@ impl Source for Ipfw {
         spelled_diagrams();
         let diagram = fws_ipfw_ifcl::to_ifcl(alloc, c, site)?;
         Ok(diagram)
+    }
+
+    fn places(alloc: Global, c: &IpfwConfig, site: &Site) -> Result<(Ifcl, Vec<Spot>), Memory> {
+        spelled_diagrams();
+        labels_are_counted();
+        let placed = fws_ipfw_ifcl::places(alloc, c, site)?;
+        Ok(placed)
+    }
+
+    fn labels(alloc: Global, c: &IpfwConfig) -> Result<Vec<Text>, Memory> {
+        fws_ipfw_print::labels(alloc, c)
     }
 
     fn tracks(c: &IpfwConfig, site: &Site) -> bool {

@@ -2,9 +2,10 @@
 
 use crate::language::Language;
 use crate::source::Source;
-use fws_ifcl::Ifcl;
+use fws_ifcl::{Ifcl, Spot};
 use fws_ipt::{IptConfig, unrefused_have_no_loop};
 use fws_ipt_ifcl::spelled_diagrams;
+use fws_ipt_print::labels_are_counted;
 use fws_net::{ReadAnswer, Site};
 use fws_num::{Memory, Text};
 use fws_place::PlaceAnswer;
@@ -18,7 +19,9 @@ impl Source for Iptables {
     type Config = IptConfig;
 
     ghost use Rattle.fws_ipt.specs.FileText.{spelled};
+    ghost use Rattle.fws_ipt.specs.Uses.{used};
     ghost use Rattle.fws_ipt.specs.Walk.{walk};
+    ghost use Rattle.fws_ipt_print.specs.Labels.{labels_of};
     ghost use Rattle.fws_ipt_put.specs.Placed.{tracks};
     ghost use Rattle.fws_top.specs.Judged.{ipt_refusal};
 
@@ -30,6 +33,10 @@ impl Source for Iptables {
 
     ghost tracks = { λ site config. tracks site config };
 
+    ghost used = { λ config site packet kind. used config site packet kind };
+
+    ghost labels = { λ config. labels_of config };
+
     fn read(alloc: Global, text: &[u8], site: &Site) -> Result<IptConfig, ReadAnswer> {
         fws_ipt_read::read(alloc, text, site)
     }
@@ -39,6 +46,18 @@ impl Source for Iptables {
         unrefused_have_no_loop();
         let diagram = fws_ipt_ifcl::to_ifcl(alloc, c, site)?;
         Ok(diagram)
+    }
+
+    fn places(alloc: Global, c: &IptConfig, site: &Site) -> Result<(Ifcl, Vec<Spot>), Memory> {
+        spelled_diagrams();
+        unrefused_have_no_loop();
+        labels_are_counted();
+        let placed = fws_ipt_ifcl::places(alloc, c, site)?;
+        Ok(placed)
+    }
+
+    fn labels(alloc: Global, c: &IptConfig) -> Result<Vec<Text>, Memory> {
+        fws_ipt_print::labels(alloc, c)
     }
 
     fn tracks(c: &IptConfig, site: &Site) -> bool {

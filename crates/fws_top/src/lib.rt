@@ -16,6 +16,7 @@ mod laws;
 mod lines;
 mod loading;
 mod pf;
+mod placed;
 mod policy;
 mod running;
 mod source;
@@ -24,6 +25,7 @@ mod steps;
 mod tables;
 mod texts;
 mod translating;
+mod unused_rules;
 
 pub use ios::Ios;
 pub use ipfw::Ipfw;

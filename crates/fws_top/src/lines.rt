@@ -1,17 +1,14 @@
 //! The lines that a command answers with where it has no table.
 
-ghost use Rattle.std.specs.Prelude.{◌≡◌, [], ◌∷◌, ◌++◌, codes, IfOk, OnOk};
-ghost use Rattle.std.specs.Fmt.{decimal};
-ghost use Rattle.std.specs.List.{join_with_byte};
+ghost use Rattle.std.specs.Prelude.{◌≡◌, [], ◌++◌, codes, IfOk, OnOk};
 ghost use Rattle.std.specs.Option.{option_map_or};
-ghost use Rattle.fws_num.specs.Numbers.{dotted};
-ghost use Rattle.fws_table.specs.TableText.{entry_name};
 ghost use Rattle.fws_top.specs.Lines.{site_cause_text, cause_text, line_words, refused_line, cannot_read_line};
-ghost use Rattle.fws_top.specs.Translations.{packet_words, ends_words, pair_text, target_word, breach_line};
+ghost use Rattle.fws_top.specs.Translations.{pair_text, target_word, breach_line};
 
 use crate::lang::TargetLang;
-use fws_net::{Cause, Packet, Rec, Site, SiteCause};
-use fws_num::{Memory, Text, put_dec, put_quad};
+use fws_dead::put_pair_words;
+use fws_net::{Cause, Site, SiteCause};
+use fws_num::{Memory, Text, put_dec};
 use fws_place::{Breach, Pair};
 use std::alloc::Global;
 
@@ -86,72 +83,11 @@ pub(crate) fn cannot_read_line(alloc: Global, name: &[u8]) -> Result<Text, Memor
     Ok(out)
 }
 
-/// Appends the name of an entry.
-fn put_entry(out: &mut Text, site: &Site, entry: u8) -> Result<(), Memory>
-    ensures { OnOk result (out.new ≡ out.old ++ entry_name site.now entry) }
-{
-    if entry == 0 {
-        return out.put(b"host");
-    }
-    if entry == 1 {
-        return out.put(b"lo");
-    }
-    match site.faces.as_slice().get(usize::from(entry) - 2) {
-        Some(face) => out.put(face.name.as_slice()),
-        None => Ok(()),
-    }
-}
-
-/// Appends a number, behind a blank.
-fn put_number(out: &mut Text, n: u64) -> Result<(), Memory>
-    ensures { OnOk result (out.new ≡ out.old ++ 32 ∷ decimal n) }
-{
-    out.put(b" ")?;
-    put_dec(out, n)?;
-    Ok(())
-}
-
-/// Appends an address and a port, behind a blank.
-fn put_host(out: &mut Text, addr: u32, port: u16) -> Result<(), Memory>
-    ensures { OnOk result (out.new ≡ out.old ++ 32 ∷ (dotted addr ++ 32 ∷ decimal port)) }
-{
-    out.put(b" ")?;
-    put_quad(out, addr)?;
-    put_number(out, u64::from(port))?;
-    Ok(())
-}
-
-/// Appends the words of a packet.
-fn put_packet(out: &mut Text, site: &Site, p: Packet) -> Result<(), Memory>
-    ensures { OnOk result (out.new ≡ out.old ++ join_with_byte 32 (packet_words site.now p)) }
-{
-    put_entry(out, site, p.entry)?;
-    put_number(out, u64::from(p.proto))?;
-    put_host(out, p.dst, p.dport)?;
-    put_host(out, p.src, p.sport)?;
-    put_number(out, u64::from(p.flags))?;
-    put_number(out, u64::from(p.icmp))?;
-    Ok(())
-}
-
-/// Appends the words of a packet of a connection.
-fn put_established(out: &mut Text, site: &Site, p: Packet, r: Rec) -> Result<(), Memory>
-    ensures { OnOk result (out.new ≡ out.old ++ join_with_byte 32 (packet_words site.now p ++ ends_words r)) }
-{
-    put_packet(out, site, p)?;
-    put_host(out, r.rdst, r.rdport)?;
-    put_host(out, r.rsrc, r.rsport)?;
-    Ok(())
-}
-
 /// Appends the words of a packet, with the ends of its connection where it has one.
 fn put_pair(out: &mut Text, site: &Site, pair: &Pair) -> Result<(), Memory>
     ensures { OnOk result (out.new ≡ out.old ++ pair_text site.now pair.now) }
 {
-    match pair.rec {
-        None => put_packet(out, site, pair.packet),
-        Some(r) => put_established(out, site, pair.packet, r),
-    }
+    put_pair_words(out, site, pair.packet, pair.rec)
 }
 
 /// Appends the second of the packets that are named, where there is one.

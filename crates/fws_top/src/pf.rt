@@ -2,10 +2,11 @@
 
 use crate::language::Language;
 use crate::source::Source;
-use fws_ifcl::Ifcl;
+use fws_ifcl::{Ifcl, Spot};
 use fws_net::{ReadAnswer, Site};
 use fws_num::{Memory, Text};
 use fws_pf::PfConfig;
+use fws_pf_print::labels_are_counted;
 use fws_place::PlaceAnswer;
 use fws_tree::Tables;
 use std::alloc::Global;
@@ -17,7 +18,9 @@ impl Source for Pf {
     type Config = PfConfig;
 
     ghost use Rattle.fws_pf.specs.FileText.{spelled};
+    ghost use Rattle.fws_pf.specs.Uses.{used};
     ghost use Rattle.fws_pf.specs.Walk.{walk};
+    ghost use Rattle.fws_pf_print.specs.Labels.{labels_of};
     ghost use Rattle.fws_pf_put.specs.Placed.{tracks};
     ghost use Rattle.fws_top.specs.Judged.{pf_refusal};
 
@@ -29,6 +32,10 @@ impl Source for Pf {
 
     ghost tracks = { λ site config. tracks site config };
 
+    ghost used = { λ config site packet kind. used config site packet kind };
+
+    ghost labels = { λ config. labels_of config };
+
     fn read(alloc: Global, text: &[u8], site: &Site) -> Result<PfConfig, ReadAnswer> {
         fws_pf_read::read(alloc, text, site)
     }
@@ -36,6 +43,16 @@ impl Source for Pf {
     fn to_ifcl(alloc: Global, c: &PfConfig, site: &Site) -> Result<Ifcl, Memory> {
         let diagram = fws_pf_ifcl::to_ifcl(alloc, c, site)?;
         Ok(diagram)
+    }
+
+    fn places(alloc: Global, c: &PfConfig, site: &Site) -> Result<(Ifcl, Vec<Spot>), Memory> {
+        labels_are_counted();
+        let placed = fws_pf_ifcl::places(alloc, c, site)?;
+        Ok(placed)
+    }
+
+    fn labels(alloc: Global, c: &PfConfig) -> Result<Vec<Text>, Memory> {
+        fws_pf_print::labels(alloc, c)
     }
 
     fn tracks(c: &PfConfig, site: &Site) -> bool {

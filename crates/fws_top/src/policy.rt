@@ -1,13 +1,16 @@
 //! From the text of a configuration to flat code, once for all languages.
 
 ghost use Rattle.std.specs.Prelude.{◌≡◌, Ok, true, IfOk, IfErr};
+ghost use Rattle.fws_ifcl.specs.Refusals.{refusal_of};
 ghost use Rattle.fws_ifcl.specs.Soundness.{ifcl_ok};
 ghost use Rattle.fws_net.specs.Routes.{IsSound};
-ghost use Rattle.fws_top.specs.Judged.{Policy, chain_name, diagram_refusal, judged_by, judged_chains};
+ghost use Rattle.fws_top.specs.declared.answer.Stop.TheVariants.{Due};
+ghost use Rattle.fws_top.specs.Judged.{Policy, chain_name, diagram_refusal, judged_by, judged_chains, meant_by};
 ghost use Rattle.fws_top.specs.Plan.{judged};
 ghost use Rattle.fws_top.specs.Stops.{EndsIn, IsCode, IsUnfolded};
+ghost use Rattle.fws_unfold.specs.Refused.{Refuses};
 
-use crate::answer::{Stop, refused_for_chain, refused_for_line};
+use crate::answer::{Answer, Stop, refused_for_chain, refused_for_line};
 use crate::lines::cause_text;
 use crate::source::Source;
 use fws_flat::Flat;
@@ -27,7 +30,7 @@ pub(crate) struct PolicyCode {
 }
 
 /// The configuration that the bytes spell, or the refusal of a line.
-fn take_config<L: Source>(
+pub(crate) fn take_config<L: Source>(
     alloc: Global,
     site: &Site,
     name: &[u8],
@@ -35,7 +38,7 @@ fn take_config<L: Source>(
 ) -> Result<L::Config, Stop>
     requires { IsSound site.now }
     ensures given { IfOk result (λ config. L.spelled site.now bytes.now ≡ Ok config) }
-    ensures refused { IfErr result (EndsIn (judged name.now (judged_by (L.refusal site.now) (L.tracks site.now) (λ config. L.walk config site.now) (L.spelled site.now bytes.now)))) }
+    ensures refused { IfErr result (EndsIn (judged name.now (judged_by (L.refusal site.now) (meant_by (λ config. L.walk config site.now) (L.tracks site.now) (λ config. L.used config site.now) L.labels) (L.spelled site.now bytes.now)))) }
 {
     match L::read(alloc, bytes, site) {
         Ok(config) => Ok(config),
@@ -59,6 +62,30 @@ fn chain_name(diagram: &Ifcl, chain: u32) -> &[u8]
     }
 }
 
+/// The refusal of the chain at which a diagram can't be unfolded.
+pub(crate) fn refused_diagram(
+    alloc: Global,
+    name: &[u8],
+    diagram: &Ifcl,
+    why: UnfoldAnswer,
+) -> Result<Answer, Memory>
+    requires { Refuses why (refusal_of diagram.now) }
+    ensures { (policy : Policy) → IfOk result (λ answer. EndsIn (judged name.now (judged_chains (diagram_refusal diagram.now) policy)) (Due answer)) }
+{
+    match why {
+        UnfoldAnswer::Loop(chain) => {
+            refused_for_chain(alloc, name, b"loop ", chain_name(diagram, chain))
+        }
+        UnfoldAnswer::Deep(chain) => {
+            refused_for_chain(alloc, name, b"deep ", chain_name(diagram, chain))
+        }
+        UnfoldAnswer::Long(chain) => {
+            refused_for_chain(alloc, name, b"long ", chain_name(diagram, chain))
+        }
+        UnfoldAnswer::Memory => Err(Memory),
+    }
+}
+
 /// The flat code of a diagram, or the refusal of a chain.
 fn take_code(alloc: Global, name: &[u8], diagram: &Ifcl) -> Result<Flat, Stop>
     requires { ifcl_ok diagram.now ≡ true }
@@ -67,25 +94,7 @@ fn take_code(alloc: Global, name: &[u8], diagram: &Ifcl) -> Result<Flat, Stop>
 {
     match unfold(alloc, diagram) {
         Ok(code) => Ok(code),
-        Err(UnfoldAnswer::Memory) => Err(Stop::Memory),
-        Err(UnfoldAnswer::Loop(chain)) => Err(Stop::Due(refused_for_chain(
-            alloc,
-            name,
-            b"loop ",
-            chain_name(diagram, chain),
-        )?)),
-        Err(UnfoldAnswer::Deep(chain)) => Err(Stop::Due(refused_for_chain(
-            alloc,
-            name,
-            b"deep ",
-            chain_name(diagram, chain),
-        )?)),
-        Err(UnfoldAnswer::Long(chain)) => Err(Stop::Due(refused_for_chain(
-            alloc,
-            name,
-            b"long ",
-            chain_name(diagram, chain),
-        )?)),
+        Err(why) => Err(Stop::Due(refused_diagram(alloc, name, diagram, why)?)),
     }
 }
 
@@ -98,8 +107,8 @@ pub(crate) fn take_policy<L: Source>(
     bytes: &[u8],
 ) -> Result<PolicyCode, Stop>
     requires { IsSound site.now }
-    ensures code { IfOk result (IsCode (judged name.now (judged_by (L.refusal site.now) (L.tracks site.now) (λ config. L.walk config site.now) (L.spelled site.now bytes.now))) site.now) }
-    ensures refused { IfErr result (EndsIn (judged name.now (judged_by (L.refusal site.now) (L.tracks site.now) (λ config. L.walk config site.now) (L.spelled site.now bytes.now)))) }
+    ensures code { IfOk result (IsCode (judged name.now (judged_by (L.refusal site.now) (meant_by (λ config. L.walk config site.now) (L.tracks site.now) (λ config. L.used config site.now) L.labels) (L.spelled site.now bytes.now))) site.now) }
+    ensures refused { IfErr result (EndsIn (judged name.now (judged_by (L.refusal site.now) (meant_by (λ config. L.walk config site.now) (L.tracks site.now) (λ config. L.used config site.now) L.labels) (L.spelled site.now bytes.now)))) }
 {
     L::spelled_walks_are_regular();
     let config = take_config::<L>(alloc, site, name, bytes)?;

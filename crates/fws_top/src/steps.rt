@@ -9,7 +9,7 @@ ghost use Rattle.fws_net.specs.SiteText.{site_of};
 ghost use Rattle.fws_top.specs.Asks.{are_known};
 ghost use Rattle.fws_top.specs.Judged.{judge};
 ghost use Rattle.fws_top.specs.Plan.{file_plan, site_plan, source_plan, conns_plan, packets_plan, events_plan, spelled_site, judged, listed, load_site_plan, load_text_plan};
-ghost use Rattle.fws_top.specs.Stops.{AsksStopped, Chooses, EndsIn, GoesOn, IsCode, IsTakenCode, StopsAt};
+ghost use Rattle.fws_top.specs.Stops.{AsksStopped, Chooses, EndsIn, GoesOn, IsCode, IsPlaced, IsPlacedCode, IsTakenCode, IsTakenPlaced, IsTakenPlacedCode, StopsAt};
 ghost use Rattle.fws_trace.specs.ConnectionText.{conns_of};
 ghost use Rattle.fws_trace.specs.PacketText.{packets_of, IsOfSite};
 
@@ -21,6 +21,7 @@ use crate::iptables::Iptables;
 use crate::lang::SourceLang;
 use crate::lines::{cannot_read_line, site_cause_text};
 use crate::pf::Pf;
+use crate::placed::{Placed, PlacedCode, placed_code, take_placed};
 use crate::policy::{PolicyCode, take_policy};
 use crate::status::Status;
 use crate::texts::{FILE_LIMIT, USAGE};
@@ -123,6 +124,80 @@ pub(crate) fn take_source<S: Shelf>(
 {
     let bytes = take(alloc, shelf, name)?;
     let code = judge_source(alloc, lang, site, name, bytes.as_slice())?;
+    Ok(code)
+}
+
+/// The diagram of the configuration that the bytes spell in a language, in which its rules have places, or its refusal for a line.
+fn judge_placed(
+    alloc: Global,
+    lang: SourceLang,
+    site: &Site,
+    name: &[u8],
+    bytes: &[u8],
+) -> Result<Placed, Stop>
+    requires { IsSound site.now }
+    ensures placed { IfOk result (IsPlaced (judge lang site.now bytes.now) site.now) }
+    ensures refused { IfErr result (EndsIn (judged name.now (judge lang site.now bytes.now))) }
+{
+    match lang {
+        SourceLang::Iptables => take_placed::<Iptables>(alloc, site, name, bytes),
+        SourceLang::Ipfw => take_placed::<Ipfw>(alloc, site, name, bytes),
+        SourceLang::Pf => take_placed::<Pf>(alloc, site, name, bytes),
+        SourceLang::Ios => take_placed::<Ios>(alloc, site, name, bytes),
+    }
+}
+
+/// The diagram of the configuration of a file in a language, in which its rules have places.
+pub(crate) fn take_placed_diagram<S: Shelf>(
+    alloc: Global,
+    shelf: &mut S,
+    lang: SourceLang,
+    site: &Site,
+    name: &[u8],
+) -> Result<Placed, Stop>
+    requires { IsSound site.now }
+    ensures same { S.told shelf.new ≡ S.told shelf.old }
+    ensures quiet { OnOk result (S.faults shelf.new ≡ S.faults shelf.old) }
+    ensures placed { IfOk result (IsTakenPlaced lang name.now (S.told shelf.old) site.now) }
+    ensures stopped { IfErr result (StopsAt (source_plan lang site.now name.now) (S.told shelf.old) (S.faults shelf.old) (S.faults shelf.new)) }
+{
+    let bytes = take(alloc, shelf, name)?;
+    let placed = judge_placed(alloc, lang, site, name, bytes.as_slice())?;
+    Ok(placed)
+}
+
+/// The code of the configuration that the bytes spell in a language, which tells of its rules, or its refusal.
+fn judge_placed_code(
+    alloc: Global,
+    lang: SourceLang,
+    site: &Site,
+    name: &[u8],
+    bytes: &[u8],
+) -> Result<PlacedCode, Stop>
+    requires { IsSound site.now }
+    ensures code { IfOk result (IsPlacedCode (judged name.now (judge lang site.now bytes.now)) site.now) }
+    ensures refused { IfErr result (EndsIn (judged name.now (judge lang site.now bytes.now))) }
+{
+    let placed = judge_placed(alloc, lang, site, name, bytes)?;
+    placed_code(alloc, name, placed)
+}
+
+/// The code of the configuration of a file in a language, which tells of its rules.
+pub(crate) fn take_placed_code<S: Shelf>(
+    alloc: Global,
+    shelf: &mut S,
+    lang: SourceLang,
+    site: &Site,
+    name: &[u8],
+) -> Result<PlacedCode, Stop>
+    requires { IsSound site.now }
+    ensures same { S.told shelf.new ≡ S.told shelf.old }
+    ensures quiet { OnOk result (S.faults shelf.new ≡ S.faults shelf.old) }
+    ensures code { IfOk result (IsTakenPlacedCode (source_plan lang site.now name.now) (S.told shelf.old) site.now) }
+    ensures stopped { IfErr result (StopsAt (source_plan lang site.now name.now) (S.told shelf.old) (S.faults shelf.old) (S.faults shelf.new)) }
+{
+    let bytes = take(alloc, shelf, name)?;
+    let code = judge_placed_code(alloc, lang, site, name, bytes.as_slice())?;
     Ok(code)
 }
 

@@ -12,16 +12,19 @@ ghost use Rattle.fws_net.specs.Points.{tops_of};
 ghost use Rattle.fws_net.specs.RegularWalks.{IsRegularWalk};
 ghost use Rattle.fws_net.specs.Routes.{IsSound};
 ghost use Rattle.fws_top.specs.Asks.{are_asks};
-ghost use Rattle.fws_top.specs.Stops.{Does, DoesRegularly};
+ghost use Rattle.fws_top.specs.Judged.{Policy};
+ghost use Rattle.fws_top.specs.Stops.{Does, DoesRegularly, IsToldBy};
 ghost use Rattle.fws_top.specs.Tables.{IsAskedTable, IsCompared, IsTable};
 ghost use Rattle.fws_top.specs.Walked.{AreTablesOf, walked_at};
 ghost use Rattle.fws_trace.specs.PacketText.{IsOfSite};
 ghost use Rattle.fws_trace.specs.TraceText.{trace_text};
 ghost use Rattle.fws_tree.specs.Plain.{IsReduced, value};
 ghost use Rattle.fws_tree.specs.Regular.{AreRegular};
+ghost use Rattle.fws_why.specs.WhyText.{why_text};
 
 use crate::ask_set::read_ask;
 use crate::laws::regular_walks_make_regular_tables;
+use crate::placed::PlacedCode;
 use crate::policy::PolicyCode;
 use fws_dead::{put_comparison, same};
 use fws_events::{Event, put_run};
@@ -32,6 +35,7 @@ use fws_num::{Memory, Text};
 use fws_table::{put_table, query};
 use fws_trace::trace;
 use fws_tree::{Tables, Tree};
+use fws_why::why;
 use std::alloc::Global;
 
 /// The tree of what code makes of the packets of a state.
@@ -125,6 +129,32 @@ pub(crate) fn traced(
 {
     let tables = tables(alloc, site, code)?;
     let text = trace(alloc, site, &tables, conns, packets)?;
+    Ok(text)
+}
+
+/// The same, and which rules decide it.
+pub(crate) fn explained(
+    alloc: Global,
+    site: &Site,
+    code: &PlacedCode,
+    conns: &[Conn],
+    packets: &[Packet],
+) -> Result<Text, Memory>
+    requires sound { IsSound site.now }
+    requires of_site { All (IsOfSite site.now) packets.now }
+    ensures { (policy : Policy) → IsToldBy policy site.now code.now
+        → IfOk result (λ text. text ≡ why_text policy.walk policy.used policy.labels conns.now packets.now) }
+{
+    let text = why(
+        alloc,
+        site,
+        &code.flat,
+        code.from.as_slice(),
+        code.spots.as_slice(),
+        code.labels.as_slice(),
+        conns,
+        packets,
+    )?;
     Ok(text)
 }
 

@@ -2,7 +2,7 @@ use Rattle.std.proofs.Common.{◌≡◌, IfOk, refl, subst, sym}
 use Rattle.std.proofs.lemmas.Result.{IfOk-weaker}
 use Rattle.fws_top.specs.declared.form.Form.{Form}
 use Rattle.fws_top.specs.declared.status.Status.TheVariants as status
-use Rattle.fws_top.specs.Forms.{asked, help, synth, query, translate, trace, run, same, load}
+use Rattle.fws_top.specs.Forms.{asked, help, synth, query, translate, trace, why, run, same, dead, load}
 use Rattle.fws_top.specs.Plan.{plan_of}
 use Rattle.fws_top.specs.Stops.{Answered}
 use Rattle.fws_top.specs.Texts.{help_text}
@@ -43,6 +43,15 @@ returns-in-Trace-clause-answered g c =
     subst (λ (form : Form). IfOk c.ended-in-Trace.result (λ answer. Answered (plan_of (asked form)) told old new answer.status answer.text)) (sym w.is)
     (c.ended-in-Trace.ensures (plan_of (trace w.lang w.site.now w.file.now w.conns.now w.packets.now)) told old new c.trace.ensures.answered c.trace.ensures.stopped)
 
+pub returns-in-Why-clause-answered : goal.returns-in-Why-clause-answered
+returns-in-Why-clause-answered g c =
+    let w = c.in-Why in
+    let told = g.S.Shelf.told c.args.shelf.now in
+    let old = g.S.Shelf.faults c.args.shelf.now in
+    let new = g.S.Shelf.faults c.why.new.shelf in
+    subst (λ (form : Form). IfOk c.ended-in-Why.result (λ answer. Answered (plan_of (asked form)) told old new answer.status answer.text)) (sym w.is)
+    (c.ended-in-Why.ensures (plan_of (why w.lang w.site.now w.file.now w.conns.now w.packets.now)) told old new c.why.ensures.answered c.why.ensures.stopped)
+
 pub returns-in-Run-clause-answered : goal.returns-in-Run-clause-answered
 returns-in-Run-clause-answered g c =
     let w = c.in-Run in
@@ -60,6 +69,15 @@ returns-in-Same-clause-answered g c =
     let new = g.S.Shelf.faults c.same.new.shelf in
     subst (λ (form : Form). IfOk c.ended-in-Same.result (λ answer. Answered (plan_of (asked form)) told old new answer.status answer.text)) (sym w.is)
     (c.ended-in-Same.ensures (plan_of (same w.lang w.site.now w.file.now w.other_lang w.other.now)) told old new c.same.ensures.answered c.same.ensures.stopped)
+
+pub returns-in-Dead-clause-answered : goal.returns-in-Dead-clause-answered
+returns-in-Dead-clause-answered g c =
+    let w = c.in-Dead in
+    let told = g.S.Shelf.told c.args.shelf.now in
+    let old = g.S.Shelf.faults c.args.shelf.now in
+    let new = g.S.Shelf.faults c.dead.new.shelf in
+    subst (λ (form : Form). IfOk c.ended-in-Dead.result (λ answer. Answered (plan_of (asked form)) told old new answer.status answer.text)) (sym w.is)
+    (c.ended-in-Dead.ensures (plan_of (dead w.lang w.site.now w.file.now)) told old new c.dead.ensures.answered c.dead.ensures.stopped)
 
 pub returns-in-Translate-clause-answered : goal.returns-in-Translate-clause-answered
 returns-in-Translate-clause-answered g c =

@@ -1,0 +1,103 @@
+//! From the text of a configuration to a diagram in which its rules have places, and to code that tells of them, once for all
+//! languages.
+
+ghost use Rattle.std.specs.Prelude.{◌≡◌, true, IfOk, IfErr};
+ghost use Rattle.fws_ifcl.specs.Soundness.{ifcl_ok};
+ghost use Rattle.fws_net.specs.Routes.{IsSound};
+ghost use Rattle.fws_top.specs.Judged.{HasText, Policy, diagram_refusal, judged_by, judged_chains, meant_by};
+ghost use Rattle.fws_top.specs.Plan.{judged};
+ghost use Rattle.fws_top.specs.Stops.{EndsIn, IsPlaced, IsUnfoldedFrom, IsUnfoldedOf};
+
+use crate::answer::Stop;
+use crate::policy::{refused_diagram, take_config};
+use crate::source::Source;
+use fws_flat::Flat;
+use fws_ifcl::{Ifcl, Place, Spot};
+use fws_net::Site;
+use fws_num::{Memory, Text};
+use fws_unfold::unfold_from;
+use std::alloc::Global;
+
+/// A diagram that does what a configuration does, and its rules.
+#[derive(Drop)]
+pub(crate) struct Placed {
+    pub(crate) diagram: Ifcl,
+    /// Where in the diagram the rules stand.
+    pub(crate) spots: Vec<Spot>,
+    /// What the rules are called, by their numbers.
+    pub(crate) labels: Vec<Text>,
+}
+
+/// Flat code that does what a configuration does, and its rules.
+#[derive(Drop)]
+pub(crate) struct PlacedCode {
+    pub(crate) flat: Flat,
+    /// For which place of a diagram an instruction stands, if it does.
+    pub(crate) from: Vec<Option<Place>>,
+    /// Where in the diagram the rules stand.
+    pub(crate) spots: Vec<Spot>,
+    /// What the rules are called, by their numbers.
+    pub(crate) labels: Vec<Text>,
+}
+
+/// The diagram of a configuration in which its rules have places.
+fn placed_in<L: Source>(alloc: Global, c: &L::Config, site: &Site) -> Result<Placed, Memory>
+    requires sound { IsSound site.now }
+    requires from_text { HasText (L.spelled site.now) c.now }
+    ensures { IfOk result (λ x. IsPlaced (judged_chains (L.refusal site.now c.now) (meant_by (λ config. L.walk config site.now) (L.tracks site.now) (λ config. L.used config site.now) L.labels c.now)) site.now x) }
+{
+    let (diagram, spots) = L::places(alloc, c, site)?;
+    let labels = L::labels(alloc, c)?;
+    Ok(Placed {
+        diagram,
+        spots,
+        labels,
+    })
+}
+
+/// The diagram of the configuration in the bytes in which its rules have places, or the refusal of one of its lines.
+pub(crate) fn take_placed<L: Source>(
+    alloc: Global,
+    site: &Site,
+    name: &[u8],
+    bytes: &[u8],
+) -> Result<Placed, Stop>
+    requires { IsSound site.now }
+    ensures placed { IfOk result (IsPlaced (judged_by (L.refusal site.now) (meant_by (λ config. L.walk config site.now) (L.tracks site.now) (λ config. L.used config site.now) L.labels) (L.spelled site.now bytes.now)) site.now) }
+    ensures refused { IfErr result (EndsIn (judged name.now (judged_by (L.refusal site.now) (meant_by (λ config. L.walk config site.now) (L.tracks site.now) (λ config. L.used config site.now) L.labels) (L.spelled site.now bytes.now)))) }
+{
+    let config = take_config::<L>(alloc, site, name, bytes)?;
+    let placed = placed_in::<L>(alloc, &config, site)?;
+    Ok(placed)
+}
+
+/// The flat code of a diagram with what its instructions stand for, or the refusal of a chain.
+fn take_code_from(
+    alloc: Global,
+    name: &[u8],
+    diagram: &Ifcl,
+) -> Result<(Flat, Vec<Option<Place>>), Stop>
+    requires { ifcl_ok diagram.now ≡ true }
+    ensures code { IfOk result (λ x. IsUnfoldedFrom diagram.now x.0 x.1.items) }
+    ensures refused { (policy : Policy) → IfErr result (EndsIn (judged name.now (judged_chains (diagram_refusal diagram.now) policy))) }
+{
+    match unfold_from(alloc, diagram) {
+        Ok(made) => Ok(made),
+        Err(why) => Err(Stop::Due(refused_diagram(alloc, name, diagram, why)?)),
+    }
+}
+
+/// The flat code of a diagram in which rules have places, or the refusal of a chain.
+pub(crate) fn placed_code(alloc: Global, name: &[u8], placed: Placed) -> Result<PlacedCode, Stop>
+    requires { ifcl_ok placed.diagram ≡ true }
+    ensures code { IfOk result (IsUnfoldedOf placed) }
+    ensures refused { (policy : Policy) → IfErr result (EndsIn (judged name.now (judged_chains (diagram_refusal placed.diagram) policy))) }
+{
+    let (flat, from) = take_code_from(alloc, name, &placed.diagram)?;
+    Ok(PlacedCode {
+        flat,
+        from,
+        spots: placed.spots,
+        labels: placed.labels,
+    })
+}
