@@ -11,6 +11,7 @@ partial: of a source, a destination, a protocol with a port, and an interface ea
 so that each rule overlaps many others in the fields that it leaves open.
 blocked: each rule drops the packets of one source address.
 listed: each rule accepts TCP from a network of its own to one of 256 networks at a port of its own.
+logged: each rule logs every packet.
 called: each rule calls a chain of its own, of 10 rules, for a network of its own.
 shared: each rule calls one of 50 chains, of 10 rules, for one of the 64 networks.
 
@@ -60,16 +61,19 @@ addressed: one with N redirects of addresses, whose hosts lie behind another int
 instanced: N instances, each of which translates the packets of one network that go out by em1 to an address of its own.
 tagged: N rules tag the packets of sources of their own, and N accept or drop packets by tag.
 counted: N rules tag the packets of sources that overlap, and no rule tests a tag.
+kept: N rules of which each keeps state of TCP from a source of its own.
 
 These are in Cisco IOS alone:
 
 mapped: N static translations, one-to-one, and a list at the outside that permits packets to the public addresses.
+asked: one list of N entries, which N translations ask, each behind the others.
 
 And these in pf alone:
 
 redirected: N redirects of ports to hosts of their own, which a rule for each accepts.
 translated: N rules that write a source each for the packets of one network.
 tagged: N rules tag the packets of sources of their own, and N pass some destination by tag.
+overridden: N rules that pass or block what those of decided do, none of them quick, so that the last that matches decides.
 expanded: one rule with a list of N sources and one of 500 ports, which stands for a rule for each choice.
 
 These are refused in their second line, since it stands for too many rules or too large a macro; the first one defines a macro
@@ -155,7 +159,11 @@ def listed(rng, drawn, k):
     return '-s 10.%d.%d.0/24 -d 172.16.%d.0/24 -p tcp -m tcp --dport %d -j ACCEPT' % (k // 256, k % 256, 7 * k % 256, 1000 + k)
 
 
-RULES = {family.__name__: family for family in (overlapping, apart, routed, partial, blocked, listed)}
+def logged(rng, drawn, k):
+    return '-j LOG'
+
+
+RULES = {family.__name__: family for family in (overlapping, apart, routed, partial, blocked, listed, logged)}
 
 
 # Whole files
@@ -370,6 +378,10 @@ def counted_ipfw(rng, count):
     return lines + ['add 65000 allow ip from any to any']
 
 
+def kept_ipfw(rng, count):
+    return ['add %d allow tcp from %s to any keep-state' % (k, address) for k, address in enumerate(drawn_addresses(rng, count), 1)]
+
+
 # Files with the same rules in iptables and pf
 
 
@@ -406,6 +418,10 @@ def decided_pf(rng, count):
         return ' '.join(words + (['flags any'] if passes else []))
 
     return [rule(*found) for found in decisions(rng, count)]
+
+
+def overridden_pf(rng, count):
+    return [line.replace(' quick', '', 1) for line in decided_pf(rng, count)]
 
 
 # Files with the same rules in iptables and Cisco IOS
@@ -487,6 +503,12 @@ def mapped_ios(rng, count):
     return lines + ['ip access-list extended EDGE'] + [' permit ip any host %s' % public(k) for k in range(count)]
 
 
+def asked_ios(rng, count):
+    lines = ['interface GigabitEthernet0/0', ' ip nat inside', 'interface GigabitEthernet0/1', ' ip nat outside']
+    lines += ['ip nat inside source list LAN interface GigabitEthernet0/1 overload'] * count
+    return lines + ['ip access-list standard LAN'] + [' permit 10.%d.%d.0 0.0.0.255' % (k // 250, k % 250) for k in range(count)]
+
+
 def redirected_pf(rng, count):
     rules = ['rdr on em1 proto tcp from any to 203.0.113.2 port %d -> %s port 80' % (2000 + k, host(k)) for k in range(count)]
     return rules + ['block all'] + ['pass proto tcp from any to %s port 80 flags any' % host(k) for k in range(count)]
@@ -554,11 +576,11 @@ FILES = {
         called, shared, loaded, rewritten, services, unfolded, marked, sourced, mapped, mapped_by_way, balanced, published, crossing, skipping,
         sources, decided, applied, bordered)},
     'ipfw': {'skipping': skipping_ipfw, 'sources': sources_ipfw, 'redirected': redirected_ipfw, 'addressed': addressed_ipfw,
-             'instanced': instanced_ipfw, 'tagged': tagged_ipfw, 'counted': counted_ipfw, 'own': own_ipfw},
+             'instanced': instanced_ipfw, 'tagged': tagged_ipfw, 'counted': counted_ipfw, 'kept': kept_ipfw, 'own': own_ipfw},
     'pf': {'decided': decided_pf, 'redirected': redirected_pf, 'translated': translated_pf, 'tagged': tagged_pf, 'expanded': expanded_pf,
-           'tabled': tabled_pf, 'own': own_pf,
+           'tabled': tabled_pf, 'own': own_pf, 'overridden': overridden_pf,
            'repeated': repeated_pf, 'joined': joined_pf, 'defined': defined_pf, 'typed': typed_pf, 'passed': passed_pf},
-    'ios': {'applied': applied_ios, 'bordered': bordered_ios, 'mapped': mapped_ios},
+    'ios': {'applied': applied_ios, 'bordered': bordered_ios, 'mapped': mapped_ios, 'asked': asked_ios},
 }
 
 

@@ -3,9 +3,9 @@
 # filter files of growing length, files with chains of the user's and with rules of nat and mangle, an instance of ipfw with
 # many redirects, the same rules in ipfw, pf or Cisco IOS and in iptables, lists of pf that stand for many rules, 400 rules
 # at sites of growing size, the writing of these sites by the command site2, translations, the command load, runs of events,
-# comparisons of two texts, texts of up to 4 MiB that are read and not executed, in all four languages, execution alone and that of
-# established packets, trees that are made of rows or recoloured, and diagrams that are unfolded or refused. Exit status 1 where a
-# bound is passed. Build first: ./fws --build
+# comparisons of two texts, rules that packets use and rules that none uses, texts of up to 4 MiB that are read and not executed,
+# in all four languages, execution alone and that of established packets, trees that are made of rows or recoloured, and diagrams
+# that are unfolded or refused. Exit status 1 where a bound is passed. Build first: ./fws --build
 set -u
 top=$(cd "$(dirname "$0")/.." && pwd)
 program=$top/crates/fws/out/fws
@@ -174,6 +174,44 @@ compared partial 4000 shorter same
 compared loaded 4000 shorter differ
 compared loaded 400 pf same
 compared loaded 400 ipfw same
+
+explained() { # family rules packets seconds megabytes
+    python3 "$top/bench/explaining.py" "$@" "$program" "$site" || status=1
+}
+
+echo 'family rules packets seconds megabytes used'
+explained listed 1000 10000 5 1024
+explained rewritten 500 10000 5 1024
+explained services 250 10000 5 1024
+explained logged 1000 1000 5 1024
+
+unused() { # language family rules: at most four times as long as both tables
+    python3 "$top/bench/unused.py" "$1" "$2" "$3" 4 "$program" "$site" || status=1
+}
+
+echo 'language family rules seconds times told'
+unused iptables listed 4000
+unused iptables blocked 40000
+unused iptables services 500
+unused iptables rewritten 1000
+
+echo 'family rules seconds megabytes told'
+python3 "$top/bench/make.py" 2000 overridden pf >"$work/file" || exit 1
+measure overridden 2000 3 2048 "$program" dead pf "$site" "$work/file"
+
+placed() { # language family rules times: the diagram that tells which rules are used beside that which is executed
+    python3 "$top/bench/placed.py" "$@" "$trees" "$site" || status=1
+}
+
+echo 'language family rules instructions placed times'
+placed iptables rewritten 1000 1
+placed iptables services 500 1
+placed ipfw kept 4000 2
+placed ipfw redirected 1000 1.1
+placed pf decided 4000 2
+placed pf overridden 2000 2
+placed ios applied 4000 1
+placed ios asked 200 200
 
 echo 'family mebibytes seconds megabytes'
 for size in 0.5 1 2 4; do

@@ -143,4 +143,5 @@ def main(seed):
     return 0 if wrong == 0 and pairs >= LEAST_PAIRS else 1
 
 
-sys.exit(main(int(sys.argv[1]) if len(sys.argv) > 1 else 1))
+if __name__ == '__main__':
+    sys.exit(main(int(sys.argv[1]) if len(sys.argv) > 1 else 1))

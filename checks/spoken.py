@@ -151,7 +151,7 @@ def check_shown(tally, documents, spoken):
                     tally.check(command in spoken.commands() + options, document.name, number, '`%s` is no command' % command)
                     if command == 'translate':
                         tally.check(rest[1] in spoken.targets, document.name, number, '`%s` is no target' % rest[1])
-                    if command in ('synth', 'query', 'trace', 'run', 'same', 'translate'):
+                    if command in ('synth', 'query', 'trace', 'why', 'run', 'same', 'dead', 'translate'):
                         tally.check(rest[0] in spoken.languages, document.name, number, '`%s` is no language' % rest[0])
 
 

@@ -204,6 +204,9 @@ def check_streams(tally, checkout):
     words = ('trace', 'iptables', './S', os.path.join(EXAMPLES, 'router.saved'), 'a=b', '/dev/stdin')
     wanted = run(PROGRAM, *words, told=packets, cwd=checkout.work)[:2]
     tally.check('the quick run: four files', wanted, checkout.run(*words, told=packets)[:2])
+    words = ('why', 'iptables', './S', os.path.join(EXAMPLES, 'router.saved'), 'a=b', '/dev/stdin')
+    wanted = run(PROGRAM, *words, told=packets, cwd=checkout.work)[:2]
+    tally.check('the quick run: four files, and rules', wanted, checkout.run(*words, told=packets)[:2])
     write(checkout.work + '/a=b', packets + 'expire 0\n')
     words = ('run', 'iptables', './S', os.path.join(EXAMPLES, 'router.saved'), 'a=b')
     wanted = run(PROGRAM, *words, cwd=checkout.work)[:2]
@@ -211,6 +214,8 @@ def check_streams(tally, checkout):
     words = ('same', 'iptables', './S', os.path.join(EXAMPLES, 'router.saved'), 'iptables', os.path.join(EXAMPLES, 'open.rules'))
     wanted = run(PROGRAM, *words, cwd=checkout.work)[:2]
     tally.check('the quick run: two files behind languages', wanted, checkout.run(*words)[:2])
+    words = ('dead', 'iptables', './S', os.path.join(EXAMPLES, 'router.saved'))
+    tally.check('the quick run: unused rules', run(PROGRAM, *words, cwd=checkout.work)[:2], checkout.run(*words)[:2])
     words = ('translate', 'iptables', 'pf', '../below/S', os.path.join(EXAMPLES, 'router.saved'))
     tally.check('the quick run: a translation', run(PROGRAM, *words, cwd=checkout.work)[:2], checkout.run(*words)[:2])
 

@@ -91,7 +91,7 @@ fn count_of_text(
 }
 
 /// The bytes of a file.
-fn read_file<S: Shelf>(alloc: Global, shelf: &mut S, name: &Text) -> Result<Text, Stop> {
+pub fn read_file<S: Shelf>(alloc: Global, shelf: &mut S, name: &Text) -> Result<Text, Stop> {
     Ok(shelf.read(alloc, name.as_slice(), MOST_BYTES)?)
 }
 

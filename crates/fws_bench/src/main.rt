@@ -6,8 +6,9 @@
 //! that calls the one in the middle; they print N and the number of instructions, or why the diagram is refused. `execute
 //! SITE FILE STATE` executes an iptables file at a site, for new packets where STATE is `new` or for established ones
 //! where it is `est`, and prints the word `execute`, the number of instructions and that of the tree's nodes; where STATE is
-//! `none` it executes nothing, and that number is 0. A run may have several of these, one behind the other. The exit
-//! status is 2 where the words ask for something else, or where a file can't be read or is refused.
+//! `none` it executes nothing, and that number is 0. `placed LANG SITE FILE` prints the word `placed`, and how many
+//! instructions a file unfolds to by its control diagram and by the diagram that tells which rules packets use; LANG is
+//! `iptables`, `ipfw`, `pf` or `ios`. A run may have several of these, one behind the other. The exit status is 2 where the words ask for something else, or where a file can't be read or is refused.
 #![tactic(auto)]
 
 ghost use Rattle.std.specs.Prelude.{◌≤◌, IfSome};
@@ -15,6 +16,7 @@ ghost use Rattle.std.specs.Prelude.{◌≤◌, IfSome};
 mod diagrams;
 mod execution;
 mod fields;
+mod placed;
 mod product;
 mod recolour;
 mod stop;
@@ -23,6 +25,7 @@ mod tops;
 use crate::diagrams::{Shape, count_unfolded};
 use crate::execution::count_executed;
 use crate::fields::count_paths;
+use crate::placed::count_placed;
 use crate::product::count_nodes;
 use crate::recolour::count_recoloured;
 use crate::stop::Stop;
@@ -69,6 +72,18 @@ const KINDS: [(&[u8], Kind); 6] = [
     (b"chains", Kind::Unfolding(Shape::Ladder)),
     (b"ring", Kind::Unfolding(Shape::Ring)),
 ];
+
+/// What a job does that takes three words.
+#[derive(Clone, Copy)]
+enum Job {
+    /// It executes a file.
+    Execute,
+    /// It makes the two diagrams of a file.
+    Placed,
+}
+
+/// The words of jobs that take three words.
+const JOBS: [(&[u8], Job); 2] = [(b"execute", Job::Execute), (b"placed", Job::Placed)];
 
 /// The number that a word asks for.
 fn read_count(word: &Text) -> Option<u32>
@@ -150,9 +165,26 @@ fn do_counting(alloc: Global, out: &mut Text, kind: &Text, count: &Text) -> Resu
 }
 
 /// Appends a line of a job's word and of what was counted.
-fn put_executed(out: &mut Text, kind: &Text, counts: &[usize]) -> Result<(), Memory> {
+fn put_counted(out: &mut Text, kind: &Text, counts: &[usize]) -> Result<(), Memory> {
     out.put(kind.as_slice())?;
     put_counts(out, counts)
+}
+
+/// Does one job that takes three words, and appends what it says.
+fn do_wide<S: Shelf>(
+    alloc: Global,
+    shelf: &mut S,
+    out: &mut Text,
+    kind: &Text,
+    given: [&Text; 3],
+) -> Result<(), Stop> {
+    let [first, second, third] = given;
+    let counts = match value_named(&JOBS, kind.as_slice()) {
+        Some(Job::Execute) => count_executed(alloc, shelf, first, second, third)?,
+        Some(Job::Placed) => count_placed(alloc, shelf, first, second, third)?,
+        None => return Err(Stop::Words),
+    };
+    Ok(put_counted(out, kind, &counts)?)
 }
 
 /// Does one job with the words behind it, and appends what it says.
@@ -165,20 +197,16 @@ fn do_job<S: Shelf>(
 ) -> Result<(), Stop> {
     match given {
         [count] => do_counting(alloc, out, kind, count),
-        [site, file, state] => {
-            let counts = count_executed(alloc, shelf, site, file, state)?;
-            Ok(put_executed(out, kind, &counts)?)
-        }
+        [first, second, third] => do_wide(alloc, shelf, out, kind, [first, second, third]),
         _ => Err(Stop::Words),
     }
 }
 
 /// How many words follow the word of a job.
 fn words_behind(kind: &Text) -> usize {
-    if kind.as_slice() == b"execute".as_slice() {
-        3
-    } else {
-        1
+    match value_named(&JOBS, kind.as_slice()) {
+        Some(_) => 3,
+        None => 1,
     }
 }
 
