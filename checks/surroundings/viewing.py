@@ -40,7 +40,8 @@ wan 6 10.0.0.5 8080 * * * * 203.0.113.2 81 * * : accept
 # Texts that are passed on, with the status that goes with them.
 OTHERS = (
     ('refused rules line 3 syntax\n', 3), ('refused rules loop A\n', 3), ('cannot read rules\n', 4),
-    ('not placeable on ipfw clause 2: host 6 0.0.0.0 0 10.0.0.5 8080 0 0\n', 1), ('usage: fws synth|query|translate|trace|load|site2|run|same|dead\n', 2),
+    ('not placeable on ipfw clause 2: host 6 0.0.0.0 0 10.0.0.5 8080 0 0\n', 1),
+    ('usage: fws synth|query|translate|trace|load|site2|run|same|dead\n', 2),
     ('new drop\nest drop\n', 0), ('site 2\n', 0), ('', 6), ('refused \xff\x00 line 1 syntax\n', 3), ('table old 1\n', 0),
     ('*filter\nCOMMIT\n', 0),
 )
