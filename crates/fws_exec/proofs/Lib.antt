@@ -5,6 +5,7 @@ pub mod Dividing
 pub mod Entering
 pub mod Hulled
 pub mod Listing
+pub mod Looking
 pub mod Marking
 pub mod Meaning
 pub mod Merging

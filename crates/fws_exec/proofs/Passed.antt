@@ -28,6 +28,7 @@ use Rattle.fws_exec.specs.Classes.{kind_of, meant, transit_of, future, is_before
 use Rattle.fws_exec.specs.Courses.{aim_at, caught, course, course_used, Aim, IsOpen, Keeps, Meets, Obeys}
 use Rattle.fws_exec.specs.Divided.{says_at, AreMoved, AreNoted, IsSaid}
 use Rattle.fws_exec.specs.Goings.{lands, Goes, IsGone}
+use Rattle.fws_exec.specs.Looks.{ComesTo}
 use Rattle.fws_exec.specs.Moving.{IsGrown}
 use Rattle.fws_exec.specs.Passing.{is_apart, is_together, is_parted, HasPassed, MeetsFrom, Passed, IsOnward}
 use Rattle.fws_exec.specs.Sheets.{among, tops_in, class_at, IsPut, IsUsed, Grows, IsSheet, AllAt, AreSent, KeepsFutures}
@@ -372,6 +373,29 @@ whole_kept e place ins number c d old mid new sheet tops stays roll used spot go
               ∙ sym (future_here aim p here))
           | inr away ↦ future_same (course e aim p) aim.next mid.roll.classes.items new.roll.classes.items (class_at old p) p (put.1 (class_at old p) away)
               ∙ ap (λ cs. future (course e aim p) aim.next cs (class_at old p) p) roll
+        ]
+
+-- what becomes of each packet stays, if a class goes to where its packets come as they are
+pub gone_kept : (e : Errand) (place to number : ℕ) (c : Class) (old new : Sheet) → tops_in old ≡ tops_of e.ground.site.now
+    → IsUsed old.roll.classes.items number c → c.spot ≡ At place → IsPut number (record c { spot = At to }) old.roll.classes.items new.roll.classes.items
+    → new.canvas ≡ old.canvas → new.reached.items ≡ old.reached.items → ComesTo e old number place to → Keeps e old new
+gone_kept e place to number c old new tops used spot put canvas same comes = record {
+  kept = kept;
+  tells = tells_equal old.reached.items old.reached.items old.reached.items new.reached.items (Meets e old) refl same (tells_same old.reached.items (Meets e old));
+}
+  where
+    kept : (aim : Aim) (p : List ℕ) → IsOpen new.reached.items aim → IsWithin (tops_of e.ground.site.now) p
+        → future (course e aim p) aim.next new.roll.classes.items (class_at new p) p ≡ future (course e aim p) aim.next old.roll.classes.items (class_at old p) p
+    kept aim p free w =
+        let inside : IsWithin (tops_in old) p = subst (λ ts. IsWithin ts p) (sym tops) w in
+        ap (λ k. future (course e aim p) aim.next new.roll.classes.items (painted.value_at k p) p) canvas
+        ∙ elim (same_or_not (class_at old p) number) [
+          | inl here ↦ ap (λ n. future (course e aim p) aim.next new.roll.classes.items n p) here
+              ∙ future_of (course e aim p) aim.next new.roll.classes.items number (record c { spot = At to }) p put.0
+              ∙ sym (comes aim c p (subst (λ xs. IsOpen xs aim) same free) used.0 inside here)
+              ∙ sym (ap (λ n. future (course e aim p) aim.next old.roll.classes.items n p) here ∙ future_of (course e aim p) aim.next old.roll.classes.items number c p used.0
+              ∙ ap (λ s. meant (course e aim p) aim.next s (transit_of c.progress p)) spot)
+          | inr away ↦ future_same (course e aim p) aim.next old.roll.classes.items new.roll.classes.items (class_at old p) p (put.1 (class_at old p) away)
         ]
 
 -- the same from a sheet with the same classes at the same points

@@ -6,6 +6,7 @@ pub mod Grounds
 pub mod Hulls
 pub mod Idle
 pub mod Joined
+pub mod Looks
 pub mod Moving
 pub mod MovingLaws
 pub mod Passing

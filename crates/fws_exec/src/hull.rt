@@ -46,7 +46,7 @@ fn larger_of(a: &Point, b: &Point) -> Point
 }
 
 /// The least member of the set; where there is none, a number that no member is below.
-fn low_of(set: &[Iv]) -> u32
+pub(crate) fn low_of(set: &[Iv]) -> u32
     ensures { (v : ℕ) → has set.now v ≡ true → result ≤ v }
 {
     let mut low = u32::MAX;
@@ -57,7 +57,7 @@ fn low_of(set: &[Iv]) -> u32
 }
 
 /// The greatest member of the set; where there is none, a number that no member is above.
-fn high_of(set: &[Iv]) -> u32
+pub(crate) fn high_of(set: &[Iv]) -> u32
     ensures { (v : ℕ) → has set.now v ≡ true → v ≤ result }
 {
     let mut high: u32 = 0;

@@ -386,6 +386,14 @@ impl Roll {
         Ok(numbers)
     }
 
+    /// The class with this number goes to the spot.
+    pub(crate) fn send(&mut self, number: u32, spot: Spot)
+        requires { number < length self.old.classes.items }
+        ensures { (c : AnyClass) → slice_get self.old.classes.items number ≡ Some c → IsPut number (record c { spot = spot }) self.old.classes.items self.new.classes.items }
+    {
+        self.classes[number as usize].spot = spot;
+    }
+
     /// The classes with these numbers go to the spot.
     pub(crate) fn send_all(&mut self, numbers: &[u32], spot: Spot)
         requires { (n : ℕ) → among numbers.now n ≡ true → n < length self.old.classes.items }

@@ -28,7 +28,7 @@ fn is_tagless(cond: &Cond) -> bool
 }
 
 /// Whether the instruction may stand in a run: its condition tests something, and no tag.
-fn is_plain(ins: &Ins) -> bool
+pub(crate) fn is_plain(ins: &Ins) -> bool
     ensures { result ≡ true → is_tagless ins.now.cond ≡ true }
 {
     if ins.cond.lits().is_empty() {
@@ -39,7 +39,7 @@ fn is_plain(ins: &Ins) -> bool
 
 /// Where a run must end at the latest if this act is in it and else it must end at this place; 0 if the act can't be in
 /// a run.
-fn bound_by(act: FlatAct, limit: u32) -> u32
+pub(crate) fn bound_by(act: FlatAct, limit: u32) -> u32
     ensures bound { result ≤ limit }
     ensures leaves { (past : ℕ) → past ≤ result → 0 < past → leaves past act ≡ true }
 {

@@ -185,7 +185,7 @@ fn own_if(src: bool, dst: bool, number: u32) -> Option<u32>
 }
 
 /// The address that stands for sure, if one is written and isn't that of a network.
-fn whole_end(tracked: bool, end: Option<End>) -> Option<u32>
+pub(crate) fn whole_end(tracked: bool, end: Option<End>) -> Option<u32>
     ensures { IfSome result (λ addr. (x : ℕ) (r : ℕ) → standing_addr (standing_by tracked end) x r ≡ addr) }
 {
     if tracked {

@@ -19,7 +19,7 @@ use std::alloc::Global;
 const LONGEST_RUN: u32 = 1024;
 
 /// The end of the longest run that begins at the place, or the limit if that comes first.
-fn run_limit(place: u32, limit: u32) -> u32
+pub(crate) fn run_limit(place: u32, limit: u32) -> u32
     requires { place < limit }
     ensures later { place < result }
     ensures within { result ≤ limit }
@@ -66,7 +66,8 @@ impl Sheet {
         ensures reached { self.new.reached ≡ self.old.reached }
     {
         if self.roll.has_arrivals(place) {
-            let came = self.roll.waiting_at(alloc, place)?;
+            let mut came = self.roll.waiting_at(alloc, place)?;
+            came.sort()?;
             self.merge_these(alloc, came.as_slice())?;
         }
         Ok(())
@@ -111,6 +112,8 @@ impl Sheet {
         ensures tops { tops_in self.new ≡ tops_in self.old }
     {
         self.meet(alloc, place)?;
+        let came = self.roll.waiting_at(alloc, place)?;
+        self.leap(errand, came.as_slice(), place)?;
         let here = self.roll.waiting_at(alloc, place)?;
         self.visit(alloc, errand, here.as_slice(), place)?;
         self.forget(alloc, place);
