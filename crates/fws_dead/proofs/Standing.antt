@@ -1,5 +1,5 @@
 -- Places for which instructions stand, and packets that use these.
-use Rattle.std.proofs.Common.{◌≡◌, ℕ, zero, suc, ◌+◌, ◌<◌, ◌≤◌, Bool, true, false, ◌&&◌, ◌||◌, cond, nat_eq, Option, Some, None, List, [], ◌∷◌, ◌++◌, length, drop, get_or, refl, sym, ◌∙◌, ap, subst, arith, ⊎_elim, inl, inr}
+use Rattle.std.proofs.Common.{◌≡◌, ℕ, zero, suc, ◌+◌, ◌<◌, ◌≤◌, Bool, true, false, ◌&&◌, ◌||◌, cond, nat_eq, Option, Some, None, List, [], ◌∷◌, length, drop, get_or, refl, sym, ◌∙◌, ap, subst, arith, ⊎_elim, inl, inr}
 use Rattle.std.proofs.lemmas.Bool.{and_parts, and_from, or_cases, or_left, or_right, eqb-true, eq-eqb, false≢true}
 use Rattle.std.proofs.lemmas.List.{drop_more}
 use Rattle.std.proofs.lemmas.Option.{same_Some}
@@ -13,18 +13,18 @@ use Rattle.fws_net.specs.declared.packet.State.{State}
 use Rattle.fws_net.specs.declared.packet.State.TheVariants.{Fresh, Est}
 use Rattle.fws_net.specs.declared.site.Site.{Site}
 use Rattle.fws_net.specs.Points.{packet_of, tops_of}
-use Rattle.fws_trace.specs.Outcomes.{no_ends, point_with, point_of}
+use Rattle.fws_trace.specs.Outcomes.{no_ends, point_with}
 use Rattle.fws_exec.specs.Classes.{kind_of}
 use Rattle.fws_flat.specs.declared.code.Flat.{Flat}
 use Rattle.fws_flat.specs.Uses.{uses, used_places}
 use Rattle.fws_ifcl.specs.declared.diagram.Place.{Place}
 use Rattle.fws_ifcl.specs.Uses.{is_place}
-use Rattle.fws_unfold.specs.Told.{told, told_at, ToldEach}
+use Rattle.fws_unfold.specs.Told.{told_at, ToldEach}
 use Rattle.fws_unfold.specs.Used.{stands_for}
 use Rattle.fws_dead.specs.declared.used.PlaceKey.{PlaceKey}
 use Rattle.fws_dead.specs.Compared.{IsOfSite}
 use Rattle.fws_exec.specs.Reaching.{AreReached}
-use Rattle.fws_dead.specs.Used.{any_reached, key_eq, key_of, stands_at, uses_by, AreAdded, AreUsed, Case}
+use Rattle.fws_dead.specs.Used.{any_reached, key_eq, key_of, stands_at, uses_by, AreAdded, AreUsed}
 use Rattle.fws_dead.proofs.Sides.{within_length}
 use Rattle.std.proofs.lemmas.List.FromFn.{fill_by_all}
 

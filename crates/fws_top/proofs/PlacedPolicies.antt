@@ -1,6 +1,5 @@
 -- From the text of a configuration to a diagram in which its rules have places, and to code that tells of them.
 use Rattle.std.proofs.Common.{◌≡◌, ℕ, true, Option, None, Result, Ok, List, length, sym, subst, ap, ◌∙◌}
-use Rattle.fws_flat.specs.declared.code.Flat.{Flat}
 use Rattle.fws_ifcl.specs.declared.diagram.Place.{Place}
 use Rattle.fws_ifcl.specs.declared.diagram.Spot.{Spot}
 use Rattle.fws_ifcl.specs.Soundness.{ifcl_ok}

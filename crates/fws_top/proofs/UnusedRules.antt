@@ -11,7 +11,7 @@ use Rattle.fws_top.specs.declared.answer.Stop.TheVariants.{Due, Memory}
 use Rattle.fws_top.specs.declared.lang.SourceLang.{SourceLang}
 use Rattle.fws_top.specs.declared.placed.Placed.{Placed}
 use Rattle.fws_top.specs.declared.status.Status.TheVariants as status
-use Rattle.fws_top.specs.Judged.{IsPacketOf, Judged, Policy, accepted, diagram_refusal, judged_chains}
+use Rattle.fws_top.specs.Judged.{IsPacketOf, Policy, accepted, diagram_refusal, judged_chains}
 use Rattle.fws_top.specs.Parts.{dead_part}
 use Rattle.fws_top.specs.Plan.{Plan, shows, judged}
 use Rattle.fws_top.specs.Stops.{Answered, EndsIn, IsPlaced, IsTakenPlaced, Stopped}

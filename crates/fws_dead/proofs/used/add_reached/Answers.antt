@@ -1,4 +1,4 @@
-use Rattle.std.proofs.Common.{◌≡◌, ◌+◌, ◌<◌, ◌||◌, length, drop, ap, sym, ◌∙◌, arith}
+use Rattle.std.proofs.Common.{◌+◌, ◌<◌, ◌||◌, length, drop, ap, ◌∙◌, arith}
 use Rattle.std.specs.HashSet.{contains}
 use Rattle.fws_dead.specs.Used.{any_reached, key_eq, key_of}
 use Rattle.fws_dead.proofs.Standing.{step_reached, step_passed}

@@ -1,4 +1,4 @@
-use Rattle.std.proofs.Common.{IfErr, IfOk, sym, subst}
+use Rattle.std.proofs.Common.{IfErr, sym, subst}
 use Rattle.std.proofs.lemmas.Result.{IfOk-weaker}
 use Rattle.fws_top.specs.Judged.{judge}
 use Rattle.fws_top.specs.Plan.{judged}

@@ -1,4 +1,4 @@
-use Rattle.std.proofs.Common.{◌≡◌, true, length, subst, sym}
+use Rattle.std.proofs.Common.{◌≡◌, true, subst, sym}
 use Rattle.fws_ifcl.specs.Spots.{are_spots_of}
 use Rattle.fws_ipt.specs.Refusals.{refusal_of}
 use Rattle.fws_ipt_ifcl.specs.Fitting.{IsDrawable}
