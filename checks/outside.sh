@@ -46,6 +46,33 @@ mkfifo pipe && { cat F >pipe & }
 got=$("$program" synth iptables S pipe new)
 check 'a named pipe as a file' "$table" "$got"
 
+# it waits for more of a file, or for room, while it is stopped, goes on, and gets a signal that it doesn't heed
+disturb() { # a process
+    sleep 0.3
+    kill -STOP "$1" && sleep 0.1 && kill -CONT "$1" && kill -WINCH "$1" && sleep 0.1
+}
+mkfifo slow
+"$program" synth iptables S slow new >told 2>/dev/null &
+exec 7>slow
+disturb "$!"
+cat F >&7
+exec 7>&-
+wait "$!"
+code=$?
+check 'signals while it reads' "$table"$'\nstatus 0' "$(cat told)"$'\n'"status $code"
+{ echo '*filter' && echo ':FORWARD DROP' && seq -f '-A FORWARD -s 10.0.0.0/8 -p tcp -m tcp --dport %.0f -j ACCEPT' 1 2 40000; echo COMMIT; } >many
+"$program" synth iptables S many new >wanted 2>/dev/null
+mkfifo full
+"$program" synth iptables S many new >full 2>/dev/null &
+exec 7<full
+disturb "$!"
+cat <&7 >told
+exec 7<&-
+wait "$!"
+code=$?
+check 'signals while it writes' "$(cksum <wanted)"$'\nstatus 0' "$(cksum <told)"$'\n'"status $code"
+check 'signals while it writes: more than a pipe holds' 1 "$(($(wc -c <wanted) > 65536))"
+
 check 'an endless file' $'refused /dev/zero over 4194304 bytes\nstatus 3' "$(told "$program" synth iptables S /dev/zero new)"
 check 'an endless site' $'refused /dev/zero over 4194304 bytes\nstatus 3' "$(told "$program" synth iptables /dev/zero F new)"
 

@@ -25,7 +25,7 @@ class Spoken:
         self.forms = [re.split(r'\s{2,}', line)[0].split() for line in lines if line.startswith('fws ')]
         text = '\n'.join(lines)
         self.languages = self.words(text, r'^languages: ([^;\n]*)')
-        self.targets = self.words(text, r'; TO: ([^;\n]*)')
+        self.targets = self.words(text, r'; TO, and LANG of why and dead: ([^;\n]*)')
         self.fields = self.words(text, r'^fields: ([^,;\n]*)')
         self.est_fields = self.words(text, r'with est also ([^,;\n]*)')
         self.verdicts = re.findall(r'verdict=(\w+)', text)
@@ -152,7 +152,8 @@ def check_shown(tally, documents, spoken):
                     if command == 'translate':
                         tally.check(rest[1] in spoken.targets, document.name, number, '`%s` is no target' % rest[1])
                     if command in ('synth', 'query', 'trace', 'why', 'run', 'same', 'dead', 'translate'):
-                        tally.check(rest[0] in spoken.languages, document.name, number, '`%s` is no language' % rest[0])
+                        known = spoken.targets if command in ('why', 'dead') else spoken.languages
+                        tally.check(rest[0] in known, document.name, number, '`%s` is no language of %s' % (rest[0], command))
 
 
 def check_rows(tally, page, documents, spoken):

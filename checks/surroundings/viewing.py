@@ -44,6 +44,7 @@ OTHERS = (
     ('usage: fws synth|query|translate|trace|load|site2|run|same|dead\n', 2),
     ('new drop\nest drop\n', 0), ('site 2\n', 0), ('', 6), ('refused \xff\x00 line 1 syntax\n', 3), ('table old 1\n', 0),
     ('*filter\nCOMMIT\n', 0),
+    ('refused <img src=x onerror="a()">&amp; line 1 syntax\n', 3), ('cannot read <script>\x1b[2J\n', 4),
 )
 
 # Tables that are cut off, what is said of them, and how many rows are shown.
@@ -127,7 +128,8 @@ def check_terminal(tally):
 def check_others(tally):
     for text, status in OTHERS:
         for words in ((), ('--html',), ('--wide',)):
-            tally.check('view %s of %r' % (' '.join(words), text), (status, text, ''), run(VIEW, *words, told=text))
+            wanted = html.escape(text) if words == ('--html',) else text
+            tally.check('view %s of %r' % (' '.join(words), text), (status, wanted, ''), run(VIEW, *words, told=text))
     for text, why, count in CUTS:
         status, said, errors = run(VIEW, told=text)
         tally.check('a table that is cut off', (5, 'view: %s\n' % why), (status, errors))

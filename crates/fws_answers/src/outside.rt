@@ -73,6 +73,25 @@ fn found_silently<S: Shelf>(alloc: Global, shelf: &mut S, words: &[Text]) -> Fou
     }
 }
 
+/// Whether a text is the line that the name can't be read.
+fn is_unread(alloc: Global, text: &[u8], name: &[u8]) -> Result<bool, Memory> {
+    let mut line = Text::of(alloc, b"cannot read ")?;
+    line.put(name)?;
+    line.put(b"\n")?;
+    Ok(line.as_slice() == text)
+}
+
+/// Whether a text is one line that refuses the name.
+fn is_refusal(alloc: Global, text: &[u8], name: &[u8]) -> Result<bool, Memory> {
+    let mut begin = Text::of(alloc, b"refused ")?;
+    begin.put(name)?;
+    begin.put(b" ")?;
+    Ok(match text {
+        [line @ .., b'\n'] => line.starts_with(begin.as_slice()) && !line.contains(&b'\n'),
+        _ => false,
+    })
+}
+
 /// What a name holds on a shelf.
 fn found_held<S: Shelf>(alloc: Global, shelf: &mut S, name: &[u8]) -> Result<Found, Stop> {
     let text = shelf.read(alloc, name, FILE_LIMIT)?;
@@ -181,5 +200,94 @@ impl Outside {
             Some(Asks::Held) => found_held(self.alloc, &mut self.sure, command),
             None => Err(Stop::Malformed),
         }
+    }
+
+    /// What the words of a command line come to over a shelf that holds what these names hold, of which the read with this
+    /// number fails.
+    fn find_failing_read(
+        &mut self,
+        words: &[Text],
+        names: &[Word],
+        number: u64,
+    ) -> Result<Found, Stop> {
+        let mut shelf = MemShelf::new(self.alloc, one_call(self.alloc, number)?);
+        for name in names {
+            let name = name.text.as_slice();
+            let content = self.sure.read(self.alloc, name, FILE_LIMIT)?;
+            shelf.hold(name, content.as_slice())?;
+        }
+        let mut sink = self.sink()?;
+        Ok(found_over(self.alloc, &mut shelf, &mut sink, words)?)
+    }
+
+    /// The number of the first read that isn't as expected, or none: a command line reads these names in this turn and no other,
+    /// and where the read of one fails it ends with 4 and says so.
+    pub fn find_bad_read(&mut self, command: &Word, names: &[Word]) -> Result<Option<u64>, Stop> {
+        let words = words_of(self.alloc, command.text.as_slice())?;
+        let mut number = 1u64;
+        for name in names {
+            let found = self.find_failing_read(words.as_slice(), names, number)?;
+            let told = is_unread(self.alloc, found.text.as_slice(), name.text.as_slice())?;
+            if found.status != 4 || !told {
+                return Ok(Some(number));
+            }
+            number = number.saturating_add(1);
+        }
+        let found = self.find_failing_read(words.as_slice(), names, number)?;
+        Ok((found.status == 4).then_some(number))
+    }
+
+    /// What the words of a command line come to over the shelf, and a sink that takes a byte at a time, of which the put with
+    /// this number fails.
+    fn find_failing_put(&mut self, words: &[Text], number: u64) -> Result<Found, Memory> {
+        let mut sink = MemSink::new(self.alloc, 1, one_call(self.alloc, number)?);
+        found_over(self.alloc, &mut self.shelf, &mut sink, words)
+    }
+
+    /// The number of the first put that isn't as expected, or none: where the put of a byte fails the command line ends with 5, behind
+    /// just the bytes ahead of it; 0 where no put fails and the status isn't this one.
+    pub fn find_bad_put(&mut self, command: &Word, status: u64) -> Result<Option<u64>, Stop> {
+        let words = words_of(self.alloc, command.text.as_slice())?;
+        let whole = self.find_failing_put(words.as_slice(), 0)?;
+        if u64::from(whole.status) != status {
+            return Ok(Some(0));
+        }
+        let text = whole.text.as_slice();
+        let mut number = 1u64;
+        for length in 0..text.len() {
+            let found = self.find_failing_put(words.as_slice(), number)?;
+            if found.status != 5 || found.text.as_slice() != &text[..length] {
+                return Ok(Some(number));
+            }
+            number = number.saturating_add(1);
+        }
+        Ok(None)
+    }
+
+    /// Whether a command line answers or refuses what the name holds: it ends with 0 and some text, or with 3 and a line that
+    /// refuses the name.
+    fn is_answered_or_refused(&mut self, words: &[Text], name: &[u8]) -> Result<bool, Memory> {
+        let mut sink = self.sink()?;
+        let found = found_over(self.alloc, &mut self.sure, &mut sink, words)?;
+        match found.status {
+            0 => Ok(!found.text.as_slice().is_empty()),
+            3 => is_refusal(self.alloc, found.text.as_slice(), name),
+            _ => Ok(false),
+        }
+    }
+
+    /// The length of the first beginning of what the name holds that a command line neither answers nor refuses, or none.
+    pub fn find_bad_cut(&mut self, command: &Word, name: &Word) -> Result<Option<u64>, Stop> {
+        let words = words_of(self.alloc, command.text.as_slice())?;
+        let name = name.text.as_slice();
+        let whole = self.sure.read(self.alloc, name, FILE_LIMIT)?;
+        let whole = whole.as_slice();
+        for length in 0..=whole.len() {
+            self.sure.hold(name, &whole[..length])?;
+            if !self.is_answered_or_refused(words.as_slice(), name)? {
+                return Ok(Some(length as u64));
+            }
+        }
+        Ok(None)
     }
 }

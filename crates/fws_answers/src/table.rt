@@ -14,6 +14,9 @@ use std::alloc::Global;
 /// How many bytes a name can be filled with, and how many a put takes.
 const MOST: u64 = 8_388_608;
 
+/// A line of which a name can hold many.
+const LINE: &[u8] = b"###############################################################\n";
+
 /// How much of a text is shown that isn't as wanted.
 const SHOWN: usize = 2048;
 
@@ -40,6 +43,16 @@ fn filled(alloc: Global, length: usize) -> Result<Text, Memory> {
     Text::of(alloc, bytes.as_slice())
 }
 
+/// So many bytes: lines like `LINE`, and as much of one as is left.
+fn lined(alloc: Global, length: usize) -> Result<Text, Memory> {
+    let mut text = Text::new(alloc);
+    for _ in 0..length / LINE.len().max(1) {
+        text.put(LINE)?;
+    }
+    text.put(&LINE[..(length % LINE.len().max(1)).min(LINE.len())])?;
+    Ok(text)
+}
+
 /// A generated filter of so many rules.
 fn filter_of(alloc: Global, rules: &Word) -> Result<Text, Stop> {
     match u32::try_from(number(rules)?) {
@@ -57,16 +70,19 @@ enum Holds {
     Filter,
     /// One byte many times.
     Fill,
+    /// Lines of one byte.
+    Lines,
 }
 
 /// The words for what a name can hold.
-const CONTENTS: [(&[u8], Holds); 3] = [
+const CONTENTS: [(&[u8], Holds); 4] = [
     (b"file", Holds::File),
     (b"filter", Holds::Filter),
     (b"fill", Holds::Fill),
+    (b"lines", Holds::Lines),
 ];
 
-/// What a line lets a name hold: the content of a file, a generated filter, or one byte many times.
+/// What a line lets a name hold: the content of a file, a generated filter, one byte many times, or lines of it.
 fn content_of<S: Shelf>(
     alloc: Global,
     files: &mut S,
@@ -77,6 +93,7 @@ fn content_of<S: Shelf>(
         Some(Holds::File) => Ok(files.read(alloc, what.text.as_slice(), FILE_LIMIT)?),
         Some(Holds::Filter) => filter_of(alloc, what),
         Some(Holds::Fill) => Ok(filled(alloc, number(what)? as usize)?),
+        Some(Holds::Lines) => Ok(lined(alloc, number(what)? as usize)?),
         None => Err(Stop::Malformed),
     }
 }
@@ -156,6 +173,56 @@ fn try_case<S: Shelf>(
     judge_found(alloc, files, said, kind, command, &found, status, wanted)
 }
 
+/// Adds what a case came to that tries the outside in turn: that all is as expected, or where it isn't.
+fn put_turns(said: &mut Said, kind: &Word, command: &Word, bad: Option<u64>) -> Result<(), Memory> {
+    said.text.put(kind.text.as_slice())?;
+    said.text.put(b" ")?;
+    said.text.put(command.text.as_slice())?;
+    let Some(place) = bad else {
+        return said.text.put(b": as expected\n");
+    };
+    said.agrees = false;
+    said.text.put(b": NOT as expected at ")?;
+    put_dec(&mut said.text, place)?;
+    said.text.put(b"\n")
+}
+
+/// Tries each read of a command line that reads these names, and adds what it came to.
+fn try_reads(
+    outside: &mut Outside,
+    said: &mut Said,
+    kind: &Word,
+    command: &Word,
+    names: &[Word],
+) -> Result<(), Stop> {
+    let bad = outside.find_bad_read(command, names)?;
+    Ok(put_turns(said, kind, command, bad)?)
+}
+
+/// Tries each put of a command line that ends with this status, and adds what it came to.
+fn try_puts(
+    outside: &mut Outside,
+    said: &mut Said,
+    kind: &Word,
+    command: &Word,
+    status: &Word,
+) -> Result<(), Stop> {
+    let bad = outside.find_bad_put(command, number(status)?)?;
+    Ok(put_turns(said, kind, command, bad)?)
+}
+
+/// Tries a command line over each beginning of what the name holds, and adds what it came to.
+fn try_cuts(
+    outside: &mut Outside,
+    said: &mut Said,
+    kind: &Word,
+    command: &Word,
+    name: &Word,
+) -> Result<(), Stop> {
+    let bad = outside.find_bad_cut(command, name)?;
+    Ok(put_turns(said, kind, command, bad)?)
+}
+
 /// Lets a name hold what a line says.
 fn hold<S: Shelf>(
     alloc: Global,
@@ -196,6 +263,13 @@ fn follow<S: Shelf>(
         [kind, read] if kind.is(b"shelf") => empty_shelves(alloc, outside, read),
         [kind, most, put] if kind.is(b"sink") => set_sink(outside, most, put),
         [kind, name, command] if kind.is(b"answer") => outside.hold_answer(name, command),
+        [kind, command, names @ ..] if kind.is(b"reads") => {
+            try_reads(outside, said, kind, command, names)
+        }
+        [kind, command, status] if kind.is(b"puts") => {
+            try_puts(outside, said, kind, command, status)
+        }
+        [kind, command, name] if kind.is(b"cuts") => try_cuts(outside, said, kind, command, name),
         [kind, name, what] => hold(alloc, files, outside, kind, name, what),
         [kind, command, status, wanted @ ..] => {
             try_case(alloc, files, outside, said, kind, command, status, wanted)
