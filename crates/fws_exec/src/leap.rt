@@ -130,8 +130,9 @@ impl Errand<'_, '_> {
         start
     }
 
-    /// Where packets of the look, to which rules did this, come from the place as they are: to an instruction that may do something
-    /// to them, or to where a run begins that has it.
+    /// Where packets of the look, to which rules did this, come from the place as they are: to where the run begins that has the
+    /// place which they come to, so that classes stay together that a run may take, or else to this place, which has an
+    /// instruction that may do something to them or is as far as is looked.
     fn reached(&self, reached: &[bool], progress: &Progress, look: &Look, place: u32) -> u32
         requires part { part_ok self.now.code.now self.now.part ≡ true }
         requires low { self.now.part.first ≤ place }
@@ -140,10 +141,10 @@ impl Errand<'_, '_> {
     {
         let limit = run_limit(place, self.part.past);
         let end = self.onward(reached, progress, look, place, limit);
-        if end >= limit {
+        let start = self.run_start(place, end);
+        if start == place && end >= limit {
             return end;
         }
-        let start = self.run_start(place, end);
         self.onward(reached, progress, look, place, start)
     }
 }
