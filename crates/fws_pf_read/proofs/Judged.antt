@@ -6,13 +6,9 @@ use Rattle.std.specs.List.{list_all}
 use Rattle.fws_num.specs.declared.word.Word.{Word}
 use Rattle.fws_num.specs.Words.{is_printed, is_sound}
 use Rattle.fws_net.specs.declared.cause.Cause.{Cause}
-use Rattle.fws_net.specs.declared.cause.Cause.TheVariants.{Syntax}
 use Rattle.fws_net.specs.Reading.{and_then}
-use Rattle.fws_pf.specs.declared.statement.Statement.{Statement}
-use Rattle.fws_pf.specs.declared.statement.Statement.TheVariants as statements
-use Rattle.fws_pf.specs.StatementText.{words_taken}
-use Rattle.fws_pf.specs.Values.{Setting}
 use Rattle.fws_pf_words.specs.Uses.{all_but_last, last_joined}
+use Rattle.fws_pf_read.specs.Taking.{words_taken}
 
 behind : (a b : Bool) → (a && b) ≡ true → b ≡ true
 behind true b h = h
@@ -43,22 +39,6 @@ front_all (w ∷ v ∷ ws) h =
 pub front_judged : (ws front : List Word) → front ≡ all_but_last ws → list_all is_sound ws ≡ true → list_all is_sound front ≡ true
 front_judged ws front e h = ap (list_all is_sound) e ∙ front_all ws h
 
--- a statement that has no effect passes over them
-one_passed : (b : Bool) (k : Statement → Result Statement Cause) → b ≡ true → and_then (cond b (Ok statements.Idle) (Err Syntax)) k ≡ k statements.Idle
-one_passed true k e = refl
-one_passed false k e = absurd (true≢false (sym e))
-
-all_passed : (setting : Setting) (tags : List (List ℕ)) (ws : List Word) → list_all is_sound ws ≡ true → words_taken setting tags ws statements.Idle ≡ Ok statements.Idle
-all_passed setting tags [] h = refl
-all_passed setting tags (w ∷ ws) h =
-    one_passed (is_sound w) (words_taken setting tags ws) (ahead (is_sound w) (list_all is_sound ws) h)
-    ∙ all_passed setting tags ws (behind (is_sound w) (list_all is_sound ws) h)
-
-pub passed_over : (setting : Setting) (tags : List (List ℕ)) (ws : List Word) (n : ℕ) (s : Statement) (total : Result Statement Cause) → list_all is_sound ws ≡ true
-    → s ≡ statements.Idle → words_taken setting tags (drop n ws) s ≡ total → total ≡ Ok s
-passed_over setting tags ws n s total h e t =
-    sym t ∙ ap (words_taken setting tags (drop n ws)) e ∙ all_passed setting tags (drop n ws) (rest_judged ws (drop n ws) n refl h) ∙ ap (λ x. Ok x) (sym e)
-
 joined_by : (quoted whole : Bool) (t text : List ℕ) → cond quoted whole (list_all is_printed t) ≡ true → list_all is_printed text ≡ true
     → cond quoted whole (list_all is_printed (t ++ text)) ≡ true
 joined_by true whole t text h p = h
@@ -71,7 +51,22 @@ last_all (w ∷ []) text h p =
     both (is_sound (record w { text = w.text ++ text })) true (joined_by w.quoted w.whole w.text text (ahead (is_sound w) true h) p) refl
 last_all (w ∷ v ∷ ws) text h p = last_all (v ∷ ws) text (behind (is_sound w) (list_all is_sound (v ∷ ws)) h) p
 
-pub last_passed : (setting : Setting) (tags : List (List ℕ)) (ws : List Word) (text : List ℕ) (s : Statement) → list_all is_sound ws ≡ true → list_all is_printed text ≡ true
-    → s ≡ statements.Idle → words_taken setting tags (last_joined ws text) s ≡ Ok s
-last_passed setting tags ws text s h p e =
-    ap (words_taken setting tags (last_joined ws text)) e ∙ all_passed setting tags (last_joined ws text) (last_all ws text h p) ∙ ap (λ x. Ok x) (sym e)
+-- a statement that has no effect passes over them
+one_passed : {S : Type 0} (b : Bool) (r : Result S Cause) (s : S) (cause : Cause) (k : S → Result S Cause) → b ≡ true → r ≡ Ok s → and_then (cond b r (Err cause)) k ≡ k s
+one_passed true r s cause k e same = ap (λ x. and_then x k) same
+one_passed false r s cause k e same = absurd (true≢false (sym e))
+
+all_passed : {S : Type 0} (step : Word → S → Result S Cause) (fault : S → Cause → Cause) (ws : List Word) (s : S) → ((w : Word) → step w s ≡ Ok s) → list_all is_sound ws ≡ true
+    → words_taken step fault ws s ≡ Ok s
+all_passed step fault [] s idle h = refl
+all_passed step fault (w ∷ ws) s idle h =
+    one_passed (is_sound w) (step w s) s _ (words_taken step fault ws) (ahead (is_sound w) (list_all is_sound ws) h) (idle w)
+    ∙ all_passed step fault ws s idle (behind (is_sound w) (list_all is_sound ws) h)
+
+pub passed_over : {S : Type 0} (step : Word → S → Result S Cause) (fault : S → Cause → Cause) (ws : List Word) (n : ℕ) (s : S) (total : Result S Cause) → list_all is_sound ws ≡ true
+    → ((w : Word) → step w s ≡ Ok s) → words_taken step fault (drop n ws) s ≡ total → total ≡ Ok s
+passed_over step fault ws n s total h idle t = sym t ∙ all_passed step fault (drop n ws) s idle (rest_judged ws (drop n ws) n refl h)
+
+pub last_passed : {S : Type 0} (step : Word → S → Result S Cause) (fault : S → Cause → Cause) (ws : List Word) (text : List ℕ) (s : S) → list_all is_sound ws ≡ true
+    → list_all is_printed text ≡ true → ((w : Word) → step w s ≡ Ok s) → words_taken step fault (last_joined ws text) s ≡ Ok s
+last_passed step fault ws text s h p idle = all_passed step fault (last_joined ws text) s idle (last_all ws text h p)

@@ -1,13 +1,10 @@
 -- Words that belong to a value of a rule and don't end it.
-use Rattle.std.proofs.Common.{◌≡◌, ℕ, Bool, true, false, ◌&&◌, not, cond, Option, None, Some, option_and_then, Result, Ok, Err, List, [], ◌∷◌, ◌++◌, length, take, drop, refl, sym, ap, subst, ◌∙◌, arith, IfOk, suc, ◌+◌, ◌<◌, get_or, drop-cons}
-use Rattle.std.proofs.lemmas.List.{take-append-drop, take_all}
+use Rattle.std.proofs.Common.{◌≡◌, ℕ, Bool, true, false, ◌&&◌, not, cond, Option, None, Some, option_and_then, Result, Ok, Err, List, [], ◌∷◌, refl, sym, ap, ◌∙◌}
 use Rattle.fws_num.specs.declared.word.Word.{Word}
 use Rattle.fws_num.specs.Words.{is_sound}
 use Rattle.fws_net.specs.declared.cause.Cause.{Cause}
 use Rattle.fws_net.specs.declared.cause.Cause.TheVariants.{Syntax}
-use Rattle.fws_net.specs.declared.answer.LineFault.{LineFault}
-use Rattle.fws_net.specs.declared.answer.LineFault.TheVariants as faults
-use Rattle.fws_net.specs.Reading.{FaultGiven, and_then}
+use Rattle.fws_net.specs.Reading.{and_then}
 use Rattle.fws_pf.specs.declared.rule_draft.Expects.{Expects}
 use Rattle.fws_pf.specs.declared.rule_draft.Expects.TheVariants as expect
 use Rattle.fws_pf.specs.declared.rule_draft.Place.{Place}
@@ -19,14 +16,10 @@ use Rattle.fws_pf.specs.declared.statement.TableExpects.{TableExpects}
 use Rattle.fws_pf.specs.declared.statement.TableExpects.TheVariants as tables
 use Rattle.fws_pf.specs.declared.value_draft.ValueDraft.{ValueDraft}
 use Rattle.fws_pf.specs.RuleText.{behind, expected_step, value_taken, valued, word_step}
-use Rattle.fws_pf.specs.declared.macros.Macro.{Macro}
-use Rattle.fws_pf.specs.Macros.{meant}
-use Rattle.fws_pf.specs.StatementText.{fault, meant_taken, raw_taken, raws_taken, table_expected_step, word_taken, words_taken}
+use Rattle.fws_pf.specs.StatementText.{table_expected_step, word_taken, words_taken}
 use Rattle.fws_pf.specs.Values.{Setting, has_ended, value_step}
 use Rattle.fws_pf_words.specs.Fronts.{going_on, within, word_within}
-use Rattle.fws_pf_read.specs.declared.statement.Statement.{Statement as Own}
 use Rattle.fws_pf_read.specs.Places.{value_place}
-use Rattle.fws_pf_read.specs.Statements.{StatementGiven, seen}
 
 -- A word
 
@@ -182,99 +175,3 @@ skip_words setting [] v new h tags = ap (λ (x : ValueDraft). Ok (statements.Ski
 skip_words setting (w ∷ ws) v new h tags =
     next_goes setting tags ws (statements.SkipOn v) (statements.SkipOn new) w (λ (x : ValueDraft). statements.SkipOn x)
     (word_within setting w v) new h (λ x o. skip_word setting tags w v x o) (λ x k. skip_words setting ws x new k tags)
-
--- Words behind words
-
-after : (setting : Setting) (tags : List (List ℕ)) (xs ys : List Word) (s : Statement) → words_taken setting tags (xs ++ ys) s ≡ and_then (words_taken setting tags xs s) (words_taken setting tags ys)
-after setting tags [] ys s = refl
-after setting tags (x ∷ xs) ys s = after_word (word_taken setting tags x s) (λ t. after setting tags xs ys t)
-  where
-    after_word : (r : Result Statement Cause) → ((t : Statement) → words_taken setting tags (xs ++ ys) t ≡ and_then (words_taken setting tags xs t) (words_taken setting tags ys))
-        → and_then r (words_taken setting tags (xs ++ ys)) ≡ and_then (and_then r (words_taken setting tags xs)) (words_taken setting tags ys)
-    after_word (Ok t) h = h t
-    after_word (Err cause) h = refl
-
--- the words that are left of those of which some were taken
-pub words_left : (setting : Setting) (tags : List (List ℕ)) (ws rest : List Word) (n : ℕ) (s next : Statement) → words_taken setting tags (take n ws) s ≡ Ok next → rest ≡ drop n ws
-    → words_taken setting tags ws s ≡ words_taken setting tags rest next
-words_left setting tags ws rest n s next h r =
-    ap (λ l. words_taken setting tags l s) (sym (take-append-drop n ws)) ∙ after setting tags (take n ws) (drop n ws) s
-    ∙ ap (λ q. and_then q (words_taken setting tags (drop n ws))) h ∙ ap (λ l. words_taken setting tags l next) (sym r)
-
-pub words_behind : (setting : Setting) (tags : List (List ℕ)) (xs ys all : List Word) (s next : Statement) → all ≡ xs ++ ys → words_taken setting tags xs s ≡ Ok next
-    → words_taken setting tags all s ≡ words_taken setting tags ys next
-words_behind setting tags xs ys all s next a h =
-    ap (λ l. words_taken setting tags l s) a ∙ after setting tags xs ys s ∙ ap (λ q. and_then q (words_taken setting tags ys)) h
-
--- Pieces
-
-pub piece_whole : (setting : Setting) (tags : List (List ℕ)) (ws : List Word) (n : ℕ) (s next : Statement) → words_taken setting tags (take n ws) s ≡ Ok next → n ≡ length ws
-    → words_taken setting tags ws s ≡ Ok next
-piece_whole setting tags ws n s next h e = ap (λ l. words_taken setting tags l s) (sym (take_all n ws (omega arith))) ∙ h
-
-pub piece_rest : (setting : Setting) (tags : List (List ℕ)) (ws rest : List Word) (n : ℕ) (s next : Statement) (r : Result Own (LineFault Cause))
-    → words_taken setting tags (take n ws) s ≡ Ok next → rest ≡ drop n ws → StatementGiven r (words_taken setting tags rest next) → StatementGiven r (words_taken setting tags ws s)
-piece_rest setting tags ws rest n s next r h e given = subst (StatementGiven r) (sym (words_left setting tags ws rest n s next h e)) given
-
--- a piece that was taken, ahead of another
-pub front_taken : (setting : Setting) (tags : List (List ℕ)) (xs ys all : List Word) (s : Statement) (next : Own) (r : Result Own (LineFault Cause)) → all ≡ xs ++ ys
-    → words_taken setting tags xs s ≡ Ok (seen next) → StatementGiven r (words_taken setting tags ys (seen next)) → StatementGiven r (words_taken setting tags all s)
-front_taken setting tags xs ys all s next r a h given = subst (StatementGiven r) (sym (words_behind setting tags xs ys all s (seen next) a h)) given
-
-refused_front : (setting : Setting) (tags : List (List ℕ)) (xs ys all : List Word) (s : Statement) (cause : Cause) → all ≡ xs ++ ys → words_taken setting tags xs s ≡ Err cause
-    → words_taken setting tags all s ≡ Err cause
-refused_front setting tags xs ys all s cause a h =
-    ap (λ l. words_taken setting tags l s) a ∙ after setting tags xs ys s ∙ ap (λ q. and_then q (words_taken setting tags ys)) h
-
-pub front_refused : (setting : Setting) (tags : List (List ℕ)) (xs ys all : List Word) (s : Statement) (fault : LineFault Cause) → all ≡ xs ++ ys
-    → FaultGiven fault (words_taken setting tags xs s) → FaultGiven fault (words_taken setting tags all s)
-front_refused setting tags xs ys all s (faults.Bad cause) a h = refused_front setting tags xs ys all s cause a h
-front_refused setting tags xs ys all s faults.Memory a h = tt
-
--- The words of a statement
-
-raws_ahead : (setting : Setting) (macros : List Macro) (tags : List (List ℕ)) (words : List Word) (i : ℕ) (w : Word) (s : Statement) → i < length words → w ≡ get_or words i w
-    → raws_taken setting macros tags (drop i words) s ≡ and_then (raw_taken setting macros tags w s) (raws_taken setting macros tags (drop (i + 1) words))
-raws_ahead setting macros tags words i w s lt r =
-    ap (λ l. raws_taken setting macros tags l s) (drop-cons words i w lt ∙ ap (λ (x : Word). x ∷ drop (suc i) words) (sym r))
-    ∙ ap (λ n. and_then (raw_taken setting macros tags w s) (raws_taken setting macros tags (drop n words))) (let k : suc i ≡ i + 1 = omega arith in k)
-
-pub raws_step : (setting : Setting) (macros : List Macro) (tags : List (List ℕ)) (words : List Word) (i : ℕ) (w : Word) (s next : Statement) (total : Result Statement Cause)
-    → i < length words → w ≡ get_or words i w → raw_taken setting macros tags w s ≡ Ok next → raws_taken setting macros tags (drop i words) s ≡ total
-    → raws_taken setting macros tags (drop (i + 1) words) next ≡ total
-raws_step setting macros tags words i w s next total lt r h e =
-    sym (ap (λ x. and_then x (raws_taken setting macros tags (drop (i + 1) words))) h) ∙ sym (raws_ahead setting macros tags words i w s lt r) ∙ e
-
-pub raws_refused : (setting : Setting) (macros : List Macro) (tags : List (List ℕ)) (words : List Word) (i : ℕ) (w : Word) (s : Statement) (total : Result Statement Cause)
-    (fault : LineFault Cause) → i < length words → w ≡ get_or words i w → FaultGiven fault (raw_taken setting macros tags w s)
-    → raws_taken setting macros tags (drop i words) s ≡ total → FaultGiven fault total
-raws_refused setting macros tags words i w s total (faults.Bad cause) lt r h e =
-    sym e ∙ raws_ahead setting macros tags words i w s lt r ∙ ap (λ x. and_then x (raws_taken setting macros tags (drop (i + 1) words))) h
-raws_refused setting macros tags words i w s total faults.Memory lt r h e = tt
-
--- A word and the words for which it stands
-
-pub in_any_case : {X Y : Type 0} (r : Result X Y) (P : X → Type 0) → ((x : X) → P x) → IfOk r P
-in_any_case (Ok x) P f = f x
-in_any_case (Err e) P f = tt
-
-pub raw_sound : (setting : Setting) (macros : List Macro) (tags : List (List ℕ)) (w : Word) (s : Statement) (r : Result Own (LineFault Cause)) → is_sound w ≡ true
-    → StatementGiven r (meant_taken setting tags (meant macros w) s) → StatementGiven r (raw_taken setting macros tags w s)
-raw_sound setting macros tags w s r sound given =
-    subst (λ (b : Bool). StatementGiven r (cond b (meant_taken setting tags (meant macros w) s) (Err (fault s Syntax)))) (sym sound) given
-
-pub raw_unsound : (setting : Setting) (macros : List Macro) (tags : List (List ℕ)) (w : Word) (s : Statement) (why : LineFault Cause) → is_sound w ≡ false
-    → why ≡ faults.Bad (fault s Syntax) → FaultGiven why (raw_taken setting macros tags w s)
-raw_unsound setting macros tags w s why sound e =
-    subst (λ (f : LineFault Cause). FaultGiven f (raw_taken setting macros tags w s)) (sym e)
-    (ap (λ (b : Bool). cond b (meant_taken setting tags (meant macros w) s) (Err (fault s Syntax))) sound)
-
-pub meant_given : (setting : Setting) (macros : List Macro) (tags : List (List ℕ)) (w : Word) (ws : List Word) (s : Statement) (r : Result Own (LineFault Cause))
-    → meant macros w ≡ Ok ws → StatementGiven r (words_taken setting tags ws s) → StatementGiven r (meant_taken setting tags (meant macros w) s)
-meant_given setting macros tags w ws s r e given = subst (λ (m : Result (List Word) Cause). StatementGiven r (meant_taken setting tags m s)) (sym e) given
-
-pub meant_refused : (setting : Setting) (macros : List Macro) (tags : List (List ℕ)) (w : Word) (s : Statement) (cause : Cause) (why : LineFault Cause) → meant macros w ≡ Err cause
-    → why ≡ faults.Bad (fault s cause) → FaultGiven why (meant_taken setting tags (meant macros w) s)
-meant_refused setting macros tags w s cause why e f =
-    subst (λ (x : LineFault Cause). FaultGiven x (meant_taken setting tags (meant macros w) s)) (sym f)
-    (ap (λ (m : Result (List Word) Cause). meant_taken setting tags m s) e)

@@ -1,14 +1,14 @@
 -- What was read so far of a statement, as the reader has it.
-use Rattle.std.specs.Prelude.{◌≡◌, ℕ, Result, Ok, Err, List, []}
+use Rattle.std.specs.Prelude.{◌≡◌, ℕ, Result, List, []}
 use Rattle.fws_net.specs.declared.answer.LineFault.{LineFault}
 use Rattle.fws_net.specs.declared.cause.Cause.{Cause}
-use Rattle.fws_net.specs.Reading.{FaultGiven}
 use Rattle.fws_pf.specs.declared.statement.Statement.{Statement as AnyStatement}
 use Rattle.fws_pf.specs.declared.statement.Statement.TheVariants as any
 use Rattle.fws_pf.specs.declared.value_draft.Item.{Item}
 use Rattle.fws_pf_words.specs.TableSteps.{table_seen}
 use Rattle.fws_pf_read.specs.declared.statement.Statement.{Statement}
 use Rattle.fws_pf_read.specs.declared.statement.Statement.TheVariants as own
+use Rattle.fws_pf_read.specs.Taking.{SaidGiven}
 
 -- the statement
 abbrev pub seen : Statement → AnyStatement
@@ -30,8 +30,7 @@ items_of _ = []
 
 -- a statement is what reading gives, unless memory ran out
 abbrev pub StatementGiven : Result Statement (LineFault Cause) → Result AnyStatement Cause → Type 0
-StatementGiven (Ok s) read = read ≡ Ok (seen s)
-StatementGiven (Err fault) read = FaultGiven fault read
+StatementGiven result read = SaidGiven seen result read
 
 -- these are the tags of the text, unless a rule has them already
 abbrev pub AreTags : List (List ℕ) → Statement → List (List ℕ) → Type 0

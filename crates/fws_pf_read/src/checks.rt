@@ -33,7 +33,7 @@ fn has_ports(d: &Draft) -> bool
 }
 
 /// Whether it has a test of ports, flags or types without the protocol that has them.
-fn lacks_protocol(d: &Draft) -> bool
+pub(crate) fn lacks_protocol(d: &Draft) -> bool
     ensures { result ≡ lacks_protocol (draft_of d.now) }
 {
     (has_ports(d) && !has_port_protocol(&d.protocols))
@@ -83,7 +83,7 @@ fn exceeds_limit(expanded: u64, d: &Draft) -> bool
 }
 
 /// Whether statements that make more than one rule make too many with this one.
-fn is_expanded(expanded: u64, d: &Draft) -> bool
+pub(crate) fn is_expanded(expanded: u64, d: &Draft) -> bool
     ensures { (tables : List Table) → result ≡ nat_lt 200000 (expanded_with expanded (condition_count (choices tables (draft_of d.now)))) }
 {
     exceeds_limit(expanded, d)

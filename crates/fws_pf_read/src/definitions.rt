@@ -172,7 +172,7 @@ fn tables_behind(
 }
 
 /// The tables that statements define, in their order, refused ones among them. An error is want of memory.
-pub(crate) fn all_tables(alloc: Global, site: &Site, lines: &[Line]) -> Result<Tables, Memory>
+pub fn all_tables(alloc: Global, site: &Site, lines: &[Line]) -> Result<Tables, Memory>
     requires { IsSound site.now }
     ensures { IfOk result (λ tables. tables ≡ all_tables site.now lines.now) }
 {

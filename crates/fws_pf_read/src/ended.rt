@@ -15,7 +15,7 @@ use std::alloc::Global;
 use std::mem;
 
 /// Whether what follows may be left out.
-fn is_open(expects: Expects) -> bool
+pub fn is_open(expects: Expects) -> bool
     ensures { result ≡ is_open expects }
 {
     matches!(
@@ -39,8 +39,8 @@ fn is_open(expects: Expects) -> bool
     )
 }
 
-/// Whether a translation has what it writes.
-fn is_written(expects: Expects) -> bool
+/// Whether what is written stands there.
+pub fn is_written(expects: Expects) -> bool
     ensures { result ≡ is_written expects }
 {
     matches!(expects, Expects::Targeted | Expects::Ended)
@@ -65,7 +65,7 @@ fn may_end(d: &Draft) -> bool
 }
 
 /// Why a rule is refused whose words end too early: a network without `bitmask` is left out.
-fn early(expects: Expects) -> Cause
+pub fn early(expects: Expects) -> Cause
     ensures { result ≡ early expects }
 {
     match expects {
@@ -90,7 +90,7 @@ fn end_value(alloc: Global, place: Place, d: &mut Draft) -> Result<(), ReadFault
 }
 
 /// Takes the value at which the words end, if they end at one.
-fn last_valued(alloc: Global, d: &mut Draft) -> Result<(), ReadFault>
+pub(crate) fn last_valued(alloc: Global, d: &mut Draft) -> Result<(), ReadFault>
     ensures { StepGiven result (draft_of d.new) (last_valued d.old.expects (draft_of d.old)) }
 {
     match value_place(d.expects) {

@@ -17,7 +17,7 @@ use std::marker::Model;
 
 /// A table that is read. Contracts see what was read of it.
 #[derive(Drop)]
-pub(crate) struct HeldTable {
+pub struct HeldTable {
     table: Box<LongTable>,
 }
 
@@ -34,7 +34,7 @@ fn dismiss_table(_table: LongTable) {}
 
 impl HeldTable {
     /// This table. An error is want of memory.
-    pub(crate) fn new(alloc: Global, table: LongTable) -> Result<HeldTable, Memory>
+    pub fn new(alloc: Global, table: LongTable) -> Result<HeldTable, Memory>
         ensures { IfOk result (λ t. t ≡ table) }
     {
         match Box::new(alloc, table) {
@@ -47,19 +47,19 @@ impl HeldTable {
     }
 
     /// What its next word is taken for.
-    pub(crate) fn expects(&self) -> TableExpects
+    pub fn expects(&self) -> TableExpects
         ensures { result ≡ self.now.expects }
     {
         self.table.expects
     }
 
     /// Whether the next word stands in its list.
-    pub(crate) fn is_in_list(&self) -> bool {
+    pub fn is_in_list(&self) -> bool {
         self.table.members.spot().in_list
     }
 
     /// Takes a word, which is refused for this cause where a keyword may stand.
-    pub(crate) fn step(
+    pub fn step(
         &mut self,
         alloc: Global,
         setting: &Setting,
@@ -73,7 +73,7 @@ impl HeldTable {
     }
 
     /// What was read of it, taken out.
-    pub(crate) fn into_table(self) -> LongTable
+    pub fn into_table(self) -> LongTable
         ensures { result ≡ self }
     {
         Box::into_inner(self.table)
@@ -82,7 +82,7 @@ impl HeldTable {
 
 /// A value that is read. Contracts see what was read of it.
 #[derive(Drop)]
-pub(crate) struct HeldValue {
+pub struct HeldValue {
     value: Box<LongValue>,
 }
 
@@ -96,7 +96,7 @@ impl Model for HeldValue {
 
 impl HeldValue {
     /// This value. An error is want of memory.
-    pub(crate) fn new(alloc: Global, value: LongValue) -> Result<HeldValue, Memory>
+    pub fn new(alloc: Global, value: LongValue) -> Result<HeldValue, Memory>
         ensures { IfOk result (λ v. v ≡ value) }
     {
         match Box::new(alloc, value) {
@@ -109,17 +109,12 @@ impl HeldValue {
     }
 
     /// Whether the next word stands in its list.
-    pub(crate) fn is_in_list(&self) -> bool {
+    pub fn is_in_list(&self) -> bool {
         self.value.spot().in_list
     }
 
     /// Takes a word of the value, and says so, or leaves the word behind it.
-    pub(crate) fn step(
-        &mut self,
-        alloc: Global,
-        setting: &Setting,
-        w: &Word,
-    ) -> Result<bool, ReadFault>
+    pub fn step(&mut self, alloc: Global, setting: &Setting, w: &Word) -> Result<bool, ReadFault>
         requires { IsSound setting.now.site }
         ensures { TakenGiven result self.new (value_step setting.now w.now self.old) }
     {
@@ -127,7 +122,7 @@ impl HeldValue {
     }
 
     /// What was read of it, taken out.
-    pub(crate) fn into_value(self) -> LongValue
+    pub fn into_value(self) -> LongValue
         ensures { result ≡ self }
     {
         Box::into_inner(self.value)

@@ -90,7 +90,7 @@ fn is_keyword(text: &[u8]) -> bool
 }
 
 /// Why a word is refused that stands where a keyword may stand, and isn't one of those that may.
-pub(crate) fn misplaced(text: &[u8]) -> Cause
+pub fn misplaced(text: &[u8]) -> Cause
     ensures { result ≡ misplaced text.now }
 {
     if is_keyword(text) {

@@ -24,7 +24,7 @@ pub(crate) fn filter_rule(d: &Draft, cond: Cond) -> PfRule
 }
 
 /// The end that is written.
-fn target_end(target: Target) -> End
+pub fn target_end(target: Target) -> End
     ensures { result ≡ target_end target }
 {
     if target.is_mapped {

@@ -1,15 +1,13 @@
 //! A statement, word by word.
 
-ghost use Rattle.std.specs.Prelude.{◌≡◌, ℕ, ◌≤◌, true, Ok, List, length, take, IfOk};
-ghost use Rattle.std.specs.List.{list_all};
-ghost use Rattle.fws_num.specs.Words.{is_printed, is_sound};
+ghost use Rattle.std.specs.Prelude.{◌≡◌, ℕ, ◌≤◌, Ok, List, length, take, IfOk};
 ghost use Rattle.fws_net.specs.declared.answer.LineFault.TheVariants.{Bad};
 ghost use Rattle.fws_net.specs.Reading.{StepGiven, and_then};
 ghost use Rattle.fws_net.specs.Routes.{IsSound};
 ghost use Rattle.fws_pf.specs.declared.macros.Macro.{Macro as AnyMacro};
 ghost use Rattle.fws_pf.specs.declared.statement.Statement.TheVariants as any;
 ghost use Rattle.fws_pf.specs.RuleText.{fresh_rule, rule_step};
-ghost use Rattle.fws_pf.specs.StatementText.{begun, fault, negated, other_begun, rule_begun, set_step, skip_on_step, skip_step, statement_step, table_step, word_taken, words_taken};
+ghost use Rattle.fws_pf.specs.StatementText.{begun, fault, negated, other_begun, rule_begun, set_step, skip_on_step, skip_step, statement_step, table_step, words_taken};
 ghost use Rattle.fws_pf_words.specs.TableSteps.{table_seen};
 ghost use Rattle.fws_pf_words.specs.UsesKnown.{AreUses, ArePiece};
 ghost use Rattle.fws_pf_read.specs.Statements.{AreTags, StatementGiven, items_of, seen};
@@ -17,9 +15,10 @@ ghost use Rattle.fws_pf_read.specs.Statements.{AreTags, StatementGiven, items_of
 use crate::held::{HeldTable, HeldValue};
 use crate::keywords::{action_word, misplaced};
 use crate::rule::{Rule, dismiss_rule, fresh_rule, rule_step, rule_within};
+use crate::takes_words::TakesWords;
 use fws_net::{Cause, ReadFault};
 use fws_num::{Memory, Text, Word};
-use fws_pf::{ActionWord, Expects, TableExpects, ValueKind, Verb};
+use fws_pf::{ActionWord, Expects, Statement as AnyStatement, TableExpects, ValueKind, Verb};
 use fws_pf_words::{KnownUses, LongValue, Setting, Source, Tags, fresh_table};
 use fws_rule::is;
 use std::alloc::Global;
@@ -265,7 +264,7 @@ fn fault(s: &Statement, cause: Cause) -> Cause
 }
 
 /// Refuses a word that can't be judged, or whose macro isn't there, and with it the statement.
-pub(crate) fn refused(s: Statement, cause: Cause) -> ReadFault
+fn refused(s: Statement, cause: Cause) -> ReadFault
     ensures { result ≡ Bad (fault (seen s) cause) }
 {
     let cause = fault(&s, cause);
@@ -273,74 +272,14 @@ pub(crate) fn refused(s: Statement, cause: Cause) -> ReadFault
     ReadFault::Bad(cause)
 }
 
-/// Takes a word out of a macro, or one that stands there.
-fn word_taken(
-    alloc: Global,
-    setting: &Setting,
-    tags: &mut Tags,
-    w: &Word,
-    s: Statement,
-) -> Result<Statement, ReadFault>
-    requires { IsSound setting.now.site }
-    ensures given { (t : List (List ℕ)) → AreTags t s tags.old → StatementGiven result (word_taken setting.now t w.now (seen s)) }
-    ensures kept { (t : List (List ℕ)) → AreTags t s tags.old → IfOk result (λ next. AreTags t next tags.new) }
-{
-    if !w.is_sound() {
-        return Err(refused(s, Cause::Syntax));
-    }
-    statement_step(alloc, setting, tags, w, s)
-}
-
-/// Whether each byte is one that is printed.
-pub(crate) fn are_printed(text: &[u8]) -> bool
-    ensures { result ≡ list_all is_printed text.now }
-{
-    text.iter().all(|c| 33 <= *c && *c <= 126)
-}
-
 /// Whether the statement is within a list, in which uses of macros may come again.
-pub(crate) fn is_in_list(s: &Statement) -> bool {
+fn is_in_list(s: &Statement) -> bool {
     match s {
         Statement::Rule(rule) => rule.is_in_list(),
         Statement::Table(d) => d.is_in_list(),
         Statement::SkipOn(v) => v.is_in_list(),
         _ => false,
     }
-}
-
-/// Whether words that can be judged change nothing any more.
-pub(crate) fn passes_over(sound: bool, s: &Statement) -> bool
-    ensures { result ≡ true → (sound ≡ true) × (seen s.now ≡ any.Idle) }
-{
-    match s {
-        Statement::Idle => sound,
-        _ => false,
-    }
-}
-
-/// Takes words out of a macro, or one that stands there. A statement that has no effect passes over words of which all are known
-/// to be such that can be judged.
-pub(crate) fn words_taken(
-    alloc: Global,
-    setting: &Setting,
-    tags: &mut Tags,
-    words: &[Word],
-    sound: bool,
-    s: Statement,
-) -> Result<Statement, ReadFault>
-    requires site { IsSound setting.now.site }
-    requires judged { sound ≡ true → list_all is_sound words.now ≡ true }
-    ensures given { (t : List (List ℕ)) → AreTags t s tags.old → StatementGiven result (words_taken setting.now t words.now (seen s)) }
-    ensures kept { (t : List (List ℕ)) → AreTags t s tags.old → IfOk result (λ next. AreTags t next tags.new) }
-{
-    let mut next = s;
-    for w in words {
-        if passes_over(sound, &next) {
-            return Ok(next);
-        }
-        next = word_taken(alloc, setting, tags, w, next)?;
-    }
-    Ok(next)
 }
 
 /// Takes words that belong to the value at which a rule is and don't end it, up to the first other word, and tells how many.
@@ -423,7 +362,7 @@ fn skip_piece(
 
 /// Takes words that belong to the value at which the statement is and don't end it, up to the first other word, and tells how
 /// many.
-pub(crate) fn statement_within(
+fn statement_within(
     alloc: Global,
     setting: &Setting,
     uses: &mut KnownUses,
@@ -445,5 +384,56 @@ pub(crate) fn statement_within(
         Statement::Table(d) => table_piece(alloc, setting, uses, source, name, words, d),
         Statement::SkipOn(v) => skip_piece(alloc, setting, uses, source, name, words, v),
         other => Ok((other, 0)),
+    }
+}
+
+impl TakesWords for Statement {
+    type Said = AnyStatement;
+
+    ghost use Rattle.fws_pf.specs.StatementText.{fault, statement_step};
+    ghost use Rattle.fws_pf_read.specs.Statements.{AreTags, items_of, seen};
+
+    ghost seen = { λ s. seen s };
+
+    ghost step = { λ setting t w s. statement_step setting t w s };
+
+    ghost fault = { λ s cause. fault s cause };
+
+    ghost items = { λ s. items_of s };
+
+    ghost tagged = { λ t s k. AreTags t s k };
+
+    fn step(
+        self,
+        alloc: Global,
+        setting: &Setting,
+        tags: &mut Tags,
+        w: &Word,
+    ) -> Result<Statement, ReadFault> {
+        statement_step(alloc, setting, tags, w, self)
+    }
+
+    fn take_within(
+        self,
+        alloc: Global,
+        setting: &Setting,
+        uses: &mut KnownUses,
+        source: Source,
+        name: &Text,
+        words: &[Word],
+    ) -> Result<(Statement, usize), Memory> {
+        statement_within(alloc, setting, uses, source, name, words, self)
+    }
+
+    fn refused(self, cause: Cause) -> ReadFault {
+        refused(self, cause)
+    }
+
+    fn is_idle(&self) -> bool {
+        matches!(self, Statement::Idle)
+    }
+
+    fn is_in_list(&self) -> bool {
+        is_in_list(self)
     }
 }

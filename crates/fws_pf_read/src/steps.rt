@@ -82,7 +82,7 @@ pub(crate) fn put_value(alloc: Global, place: Place, d: &mut Draft) -> Result<()
 }
 
 /// Takes a value that took a word, if it has ended.
-fn take_value(alloc: Global, place: Place, d: &mut Draft) -> Result<(), Memory>
+pub(crate) fn take_value(alloc: Global, place: Place, d: &mut Draft) -> Result<(), Memory>
     ensures { OnOk result (draft_of d.new ≡ value_taken place d.old.value (draft_of d.old)) }
 {
     if has_ended(d.value.expects()) {
@@ -353,7 +353,7 @@ fn value_word_step(
 }
 
 /// The place whose value the next word belongs to.
-pub(crate) fn value_place(expects: Expects) -> Option<Place>
+pub fn value_place(expects: Expects) -> Option<Place>
     ensures { result ≡ value_place expects }
 {
     match expects {

@@ -23,7 +23,7 @@ use fws_pf_words::{begins_with_digit, is_any_mark, is_mark, modified};
 use fws_rule::is;
 
 /// Takes what is written so far, and goes on.
-fn put_target(d: &mut Draft, target: Target, next: Expects)
+pub(crate) fn put_target(d: &mut Draft, target: Target, next: Expects)
     ensures { draft_of d.new ≡ with_target target next (draft_of d.old) }
 {
     d.target = Some(target);
@@ -50,8 +50,8 @@ fn host_net(addr: u32) -> Prefix
     Prefix { addr, len: 32 }
 }
 
-/// The first address of an interface.
-fn face_target(site: &Site, name: &[u8]) -> Result<Target, ReadFault>
+/// The first address of an interface as what is written.
+pub fn face_target(site: &Site, name: &[u8]) -> Result<Target, ReadFault>
     requires { IsSound site.now }
     ensures { CauseGiven result (face_target site.now name.now) }
 {
@@ -164,7 +164,7 @@ fn target_end_step(w: &Word, d: &mut Draft) -> Result<(), ReadFault>
 }
 
 /// The target with `bitmask` behind it.
-fn mapped(target: Target) -> Target
+pub fn mapped(target: Target) -> Target
     ensures { result ≡ mapped target }
 {
     Target {
@@ -174,7 +174,7 @@ fn mapped(target: Target) -> Target
 }
 
 /// The target with `static-port` behind it.
-fn kept_static(target: Target) -> Target
+pub fn kept_static(target: Target) -> Target
     ensures { result ≡ kept_static target }
 {
     Target {
@@ -184,7 +184,7 @@ fn kept_static(target: Target) -> Target
 }
 
 /// Takes `bitmask` behind a network that is written over the source; `static-port` may stand before it.
-fn nat_bitmask(w: &Word, target: Target, d: &mut Draft) -> Result<(), ReadFault>
+pub(crate) fn nat_bitmask(w: &Word, target: Target, d: &mut Draft) -> Result<(), ReadFault>
     ensures { StepGiven result (draft_of d.new) (bitmask_of Verb.Nat w.now (draft_of d.old) target) }
 {
     if is(w.text.as_slice(), b"bitmask") {
@@ -199,7 +199,7 @@ fn nat_bitmask(w: &Word, target: Target, d: &mut Draft) -> Result<(), ReadFault>
 }
 
 /// Takes `bitmask` behind a network that is written over the destination.
-fn rdr_bitmask(w: &Word, target: Target, d: &mut Draft) -> Result<(), ReadFault>
+pub(crate) fn rdr_bitmask(w: &Word, target: Target, d: &mut Draft) -> Result<(), ReadFault>
     ensures { StepGiven result (draft_of d.new) (bitmask_of Verb.Rdr w.now (draft_of d.old) target) }
 {
     if is(w.text.as_slice(), b"bitmask") {
@@ -230,7 +230,7 @@ fn bitmask_step(w: &Word, d: &mut Draft) -> Result<(), ReadFault>
 }
 
 /// Whether `bitmask` may stand behind the target.
-fn may_be_mapped(target: Target) -> bool
+pub fn may_be_mapped(target: Target) -> bool
     ensures { result ≡ may_be_mapped target }
 {
     !target.is_face && !target.is_mapped

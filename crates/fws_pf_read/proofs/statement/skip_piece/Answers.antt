@@ -1,4 +1,4 @@
-use Rattle.std.proofs.Common.{◌≡◌, List, Ok, take, sym, ap, subst, ◌∙◌}
+use Rattle.std.proofs.Common.{◌≡◌, Ok, take, sym, ap, subst, ◌∙◌}
 use Rattle.fws_pf.specs.StatementText.{words_taken}
 use Rattle.fws_pf.specs.declared.statement.Statement.TheVariants as any
 use Rattle.fws_pf.specs.declared.value_draft.ValueDraft.{ValueDraft}

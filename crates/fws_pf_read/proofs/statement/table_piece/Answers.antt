@@ -1,4 +1,4 @@
-use Rattle.std.proofs.Common.{◌≡◌, List, Ok, take, refl, sym, ap, subst, ◌∙◌}
+use Rattle.std.proofs.Common.{◌≡◌, Ok, take, sym, ap, subst, ◌∙◌}
 use Rattle.fws_pf.specs.StatementText.{words_taken}
 use Rattle.fws_pf.specs.declared.statement.Statement.TheVariants as any
 use Rattle.fws_pf_words.specs.declared.table_draft.LongTable.{LongTable}
