@@ -1,7 +1,7 @@
 """python3 make.py N FAMILY [LANG]
 
-Writes a file of a family in the language LANG, which is `iptables` where it lacks, `ipfw`, `pf` or `ios`; the same one each
-time. Of these, N is the number of rules of the chain FORWARD:
+Writes a file of a family in the language LANG, which is `iptables` where it lacks, `ipfw`, `pf`, `ios`, or `openbsd` for pf of
+OpenBSD; the same one each time. Of these, N is the number of rules of the chain FORWARD:
 
 overlapping: sources and destinations are drawn from 64 networks, so that rules overlap.
 apart: each rule has a source and a destination of its own.
@@ -33,6 +33,8 @@ published: N ports of the host are mapped to hosts of their own, packets of a ho
 FORWARD accept packets to these, as Docker writes them.
 crossing: N rules, of which half stand in mangle PREROUTING, before what tracked connections write, and half in FORWARD,
 and each tests a source, a destination, a protocol with ports, and an interface, or some of these.
+dropped: N rules of mangle FORWARD that accept or drop packets by a source, a destination, and ranges of ports at both ends, or some of
+the four, behind which FORWARD drops everything: so rules are many, and rows few.
 
 These two are written in iptables and ipfw, with the same table; in iptables INPUT, FORWARD and OUTPUT have the same rules, as
 each pass of ipfw goes through all of them:
@@ -62,6 +64,7 @@ instanced: N instances, each of which translates the packets of one network that
 tagged: N rules tag the packets of sources of their own, and N accept or drop packets by tag.
 counted: N rules tag the packets of sources that overlap, and no rule tests a tag.
 kept: N rules of which each keeps state of TCP from a source of its own.
+webbed: N rules of which each skips to a later one, drawn among all, for packets of one source or to one destination.
 
 These are in Cisco IOS alone:
 
@@ -75,6 +78,16 @@ translated: N rules that write a source each for the packets of one network.
 tagged: N rules tag the packets of sources of their own, and N pass some destination by tag.
 overridden: N rules that pass or block what those of decided do, none of them quick, so that the last that matches decides.
 expanded: one rule with a list of N sources and one of 500 ports, which stands for a rule for each choice.
+chained: N rules that pass what comes in with the tag of the rule before, and put one of their own.
+tabled: N rules, each of which uses the same table of N addresses.
+own: N rules that name every address of the host; in ipfw too.
+circled: N tables, of which each has an address and the next one, and the last one the first, and a rule for each.
+
+Of these, decided, redirected, translated, tagged, overridden, expanded, tabled and own are written for OpenBSD's pf too, with the same
+tables; where the others translate, a `match` rule writes. And this one is in OpenBSD's pf alone:
+
+held: N rules, 255 at most, of which each redirects a port to a host of its own, held till the pass ends, and puts one of 50 tags, by
+which what goes out is passed.
 
 These are refused in their second line, since it stands for too many rules or too large a macro; the first one defines a macro
 of 4,000 addresses:
@@ -298,6 +311,20 @@ def crossing(rng, count):
     return table('mangle', ['PREROUTING ACCEPT'], before) + filtering('DROP', [], behind)
 
 
+def dropped(rng, count):
+    def ports():
+        first = rng.randrange(65536)
+        return '%d:%d' % (first, min(65535, first + rng.randrange(4000)))
+
+    def rule():
+        tests = ['-d ' + spelled(network_or_host(rng)), '-s ' + spelled(network_or_host(rng)), '--dport ' + ports(), '--sport ' + ports()]
+        chosen = [test for test in tests if rng.random() < 0.5] or tests[:1]
+        of_tcp = ['-p tcp -m tcp'] if any('port' in test for test in chosen) else []
+        return 'FORWARD %s -j %s' % (' '.join(of_tcp + chosen), accept_or_drop(rng))
+
+    return table('mangle', ['FORWARD ACCEPT'], [rule() for _ in range(count)]) + table('filter', ['FORWARD DROP'], [])
+
+
 # Files with the same rules in iptables and ipfw
 
 BUILT_IN = ('INPUT', 'FORWARD', 'OUTPUT')
@@ -380,6 +407,15 @@ def counted_ipfw(rng, count):
 
 def kept_ipfw(rng, count):
     return ['add %d allow tcp from %s to any keep-state' % (k, address) for k, address in enumerate(drawn_addresses(rng, count), 1)]
+
+
+def webbed_ipfw(rng, count):
+    lines = []
+    for k in range(count):
+        network = spelled(network_or_host(rng))
+        ends = 'from %s to any' % network if rng.random() < 0.5 else 'from any to %s' % network
+        lines.append('add %d skipto %d ip %s' % (k + 1, rng.randrange(k + 2, count + 2), ends))
+    return lines + ['add %d allow ip from any to any' % (count + 1)]
 
 
 # Files with the same rules in iptables and pf
@@ -529,6 +565,18 @@ def expanded_pf(rng, count):
     return ['pass proto tcp from { %s } to any port { %s }' % (sources, ports)]
 
 
+def chained_pf(rng, count):
+    rules = ['pass in from 10.0.0.0/8 to any flags any tag T0']
+    rules += ['pass in from any to %s flags any tagged T%d tag T%d' % (spelled(network_or_host(rng)), k, k + 1) for k in range(count)]
+    return rules + ['block out all tagged T%d' % count]
+
+
+def circled_pf(rng, count):
+    addresses = drawn_addresses(rng, count)
+    tables = ['table <t%d> { %s <t%d> }' % (k, address, (k + 1) % count) for k, address in enumerate(addresses)]
+    return tables + ['pass in quick proto tcp from <t%d> to any port %d flags any' % (k, k + 1) for k in range(count)] + ['block all']
+
+
 def macro_of(rng, *ends):
     return 'm = "%s"' % ', '.join([*drawn_addresses(rng, 4000), *ends])
 
@@ -571,15 +619,38 @@ def passed_pf(rng, count):
     return [macro_of(rng), 'scrub %s "' % ' '.join(['$m'] * count)]
 
 
+# Files of OpenBSD's pf: most are those of pf word for word
+
+
+def redirected_openbsd(rng, count):
+    rules = ['match in on em1 proto tcp from any to 203.0.113.2 port %d rdr-to %s port 80' % (2000 + k, host(k)) for k in range(count)]
+    return rules + ['block all'] + ['pass proto tcp from any to %s port 80 flags any' % host(k) for k in range(count)]
+
+
+def translated_openbsd(rng, count):
+    rules = ['match out on em1 from 10.%d.%d.0/24 to any nat-to %s' % (k // 250, k % 250, public(k)) for k in range(count)]
+    return rules + ['pass all flags any']
+
+
+def held_openbsd(rng, count):
+    """Rules whose ends are held, 255 at most, beside 50 tags."""
+    rules = ['pass in on em1 proto tcp from any to 203.0.113.2 port %d tag T%d rdr-to %s port 80 flags any' % (2000 + k, k % 50, host(k))
+             for k in range(count)]
+    return ['block all'] + rules + ['pass out from any to 10.%d.0.0/16 flags any tagged T%d' % (k, k) for k in range(50)]
+
+
 FILES = {
     'iptables': {family.__name__: family for family in (
-        called, shared, loaded, rewritten, services, unfolded, marked, sourced, mapped, mapped_by_way, balanced, published, crossing, skipping,
-        sources, decided, applied, bordered)},
+        called, shared, loaded, rewritten, services, unfolded, marked, sourced, mapped, mapped_by_way, balanced, published, crossing, dropped,
+        skipping, sources, decided, applied, bordered)},
     'ipfw': {'skipping': skipping_ipfw, 'sources': sources_ipfw, 'redirected': redirected_ipfw, 'addressed': addressed_ipfw,
-             'instanced': instanced_ipfw, 'tagged': tagged_ipfw, 'counted': counted_ipfw, 'kept': kept_ipfw, 'own': own_ipfw},
+             'instanced': instanced_ipfw, 'tagged': tagged_ipfw, 'counted': counted_ipfw, 'kept': kept_ipfw, 'own': own_ipfw,
+             'webbed': webbed_ipfw},
     'pf': {'decided': decided_pf, 'redirected': redirected_pf, 'translated': translated_pf, 'tagged': tagged_pf, 'expanded': expanded_pf,
-           'tabled': tabled_pf, 'own': own_pf, 'overridden': overridden_pf,
+           'tabled': tabled_pf, 'own': own_pf, 'overridden': overridden_pf, 'chained': chained_pf, 'circled': circled_pf,
            'repeated': repeated_pf, 'joined': joined_pf, 'defined': defined_pf, 'typed': typed_pf, 'passed': passed_pf},
+    'openbsd': {'decided': decided_pf, 'redirected': redirected_openbsd, 'translated': translated_openbsd, 'tagged': tagged_pf,
+                'expanded': expanded_pf, 'tabled': tabled_pf, 'own': own_pf, 'overridden': overridden_pf, 'held': held_openbsd},
     'ios': {'applied': applied_ios, 'bordered': bordered_ios, 'mapped': mapped_ios, 'asked': asked_ios},
 }
 

@@ -1,7 +1,7 @@
-"""python3 ratio.py LANG FAMILY COUNT TIMES PROGRAM SITE
+"""python3 ratio.py LANG FAMILY COUNT TIMES PROGRAM SITE [FIRST]
 
-Makes the tables of a family of make.py from its file in iptables and from its file in LANG, three times each in turn. Prints
-a line `FAMILY takes N times as long in LANG as in iptables for COUNT` of the best times. Exit status 1 where that is more than
+Makes the tables of a family of make.py from its file in FIRST, iptables where it lacks, and from its file in LANG, three times each
+in turn. Prints a line `FAMILY takes N times as long in LANG as in FIRST for COUNT` of the best times. Exit status 1 where that is more than
 TIMES, or where the two tables aren't the same.
 """
 
@@ -29,19 +29,19 @@ def table(work, program, site, family, count, lang):
     return [program, 'synth', lang, site, name, 'new']
 
 
-def main(other, family, count, most, program, site):
+def main(other, family, count, most, program, site, first='iptables'):
     best, tables = {}, set()
     with tempfile.TemporaryDirectory() as work:
-        commands = {lang: table(work, program, site, family, count, lang) for lang in ('iptables', other)}
+        commands = {lang: table(work, program, site, family, count, lang) for lang in (first, other)}
         for _ in range(3):
             for lang, command in commands.items():
                 written, taken = made(command)
                 tables.add(written)
                 best[lang] = min(taken, best.get(lang, taken))
-    times = best[other] / best['iptables']
-    print(family, 'takes %.1f times as long in %s as in iptables for %s' % (times, other, count))
+    times = best[other] / best[first]
+    print(family, 'takes %.2f times as long in %s as in %s for %s' % (times, other, first, count))
     if len(tables) > 1:
-        print(family, count, 'has other tables in', other, 'than in iptables')
+        print(family, count, 'has other tables in', other, 'than in', first)
     return 0 if times <= most and len(tables) == 1 else 1
 
 

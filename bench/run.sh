@@ -1,8 +1,8 @@
 #!/usr/bin/env bash
 # Runs the built programs over growing inputs, and prints a line `family size seconds megabytes counts` for each:
 # filter files of growing length, files with chains of the user's and with rules of nat and mangle, an instance of ipfw with
-# many redirects, the same rules in ipfw, pf or Cisco IOS and in iptables, lists of pf that stand for many rules, 400 rules
-# at sites of growing size, the writing of these sites by the command site2, translations, the command load, runs of events,
+# many redirects, the same rules in ipfw, pf or Cisco IOS and in iptables, and in pf of OpenBSD and of FreeBSD, lists of pf that stand for
+# many rules, 400 rules at sites of growing size, the writing of these sites by the command site2, translations, the command load, runs of events,
 # comparisons of two texts, rules that packets use and rules that none uses, texts of up to 4 MiB that are read and not executed,
 # in all four languages, execution alone and that of established packets, trees that are made of rows or recoloured, and diagrams
 # that are unfolded or refused. Exit status 1 where a bound is passed. Build first: ./fws --build
@@ -57,6 +57,7 @@ rules balanced 4.5 500 1000
 rules published 2.6 500 1000
 rules rewritten 12 4000
 rules blocked 2.3 106000
+rules dropped 3 1280
 python3 "$top/bench/growth.py" listed 15 "$program" "$site" || status=1
 python3 "$top/bench/growth.py" partial 15 "$program" "$site" || status=1
 
@@ -85,7 +86,8 @@ python3 "$top/bench/ratio.py" ipfw skipping 4000 2 "$program" "$site" || status=
 python3 "$top/bench/ratio.py" ipfw sources 65534 2 "$program" "$site" || status=1
 
 echo 'family sources seconds megabytes rows'
-rules_in pf expanded 10 400
+python3 "$top/bench/make.py" 400 expanded pf >"$work/file" || exit 1
+measure expanded 400 3 300 "$program" synth pf "$site" "$work/file" new
 sharing() { # language family rules seconds megabytes site: rules that share a set of addresses
     python3 "$top/bench/make.py" "$3" "$2" "$1" >"$work/file" || exit 1
     measure "$2" "$3" "$4" "$5" "$program" synth "$1" "$6" "$work/file" new
@@ -98,7 +100,21 @@ for family in redirected translated tagged; do
     rules_in pf "$family" 1.5 1000
     doubled pf "$family" 1000
 done
+rules_in pf chained 2 800
+rules_in pf circled 0.5 1000
+doubled pf circled 1000
 python3 "$top/bench/ratio.py" pf decided 4000 4 "$program" "$site" || status=1
+
+sharing openbsd tabled 4000 3 200 "$site"
+sharing openbsd own 2000 2 200 "$work/site.992"
+for family in redirected translated tagged; do
+    rules_in openbsd "$family" 1.5 1000
+    doubled openbsd "$family" 1000
+done
+rules_in openbsd held 1.5 200
+for family in decided overridden redirected translated tagged; do
+    python3 "$top/bench/ratio.py" openbsd "$family" 1000 1.3 "$program" "$site" pf || status=1
+done
 
 echo 'family uses seconds megabytes'
 for family in repeated joined defined typed; do
@@ -148,6 +164,15 @@ translated decided 1000 pf pf /150
 # to Cisco IOS placing and printing may take five times as long as both tables, which a translation makes too
 times=6 translated loaded 400 iptables ios 59418
 times=6 translated loaded 4000 iptables ios /40
+
+answered() { # family count language target seconds megabytes status: an answer that is short, however long the text is
+    python3 "$top/bench/answered.py" "$@" "$program" "$site" || status=1
+}
+
+echo 'family rules language target seconds megabytes lines'
+answered unfolded 998 iptables ios 3 1024 1
+answered dropped 1280 iptables ios 6 1024 0
+answered webbed 500 ipfw pf 3 1024 0
 
 echo 'command rules seconds megabytes counts'
 measure load 400 5 4096 "$program" load 400

@@ -1,5 +1,5 @@
 -- The forms of a command line.
-use Rattle.std.specs.Prelude.{◌≡◌, ◌≤◌, ℕ, true, ◌&&◌, nat_eq, Option, Some, None, List, [], ◌∷◌, codes, if◌then◌else◌}
+use Rattle.std.specs.Prelude.{◌≡◌, ◌≤◌, ℕ, Bool, true, false, ◌&&◌, nat_eq, Option, Some, None, List, [], ◌∷◌, codes, if◌then◌else◌}
 use Rattle.std.specs.Option.{option_map_or}
 use Rattle.std.specs.Str.{bytes_eq}
 use Rattle.fws_num.specs.Numbers.{dec_of}
@@ -9,7 +9,7 @@ use Rattle.fws_top.specs.Asks.{are_asks, are_shown}
 use Rattle.fws_top.specs.declared.form.Form.{Form}
 use Rattle.fws_top.specs.declared.form.Form.TheVariants.{Unknown, Help, Version, Synth, Query, Translate, Trace, Why, Run, Same, Dead, Load, SecondForm}
 use Rattle.fws_top.specs.declared.lang.SourceLang.{SourceLang}
-use Rattle.fws_top.specs.declared.lang.SourceLang.TheVariants.{Iptables, Ipfw, Pf, Ios}
+use Rattle.fws_top.specs.declared.lang.SourceLang.TheVariants.{Iptables, Ipfw, Pf, Ios, Openbsd}
 use Rattle.fws_top.specs.declared.lang.TargetLang.{TargetLang}
 use Rattle.fws_top.specs.declared.lang.TargetLang.TheVariants as targets
 
@@ -42,7 +42,16 @@ lang_of word =
     else if bytes_eq word (codes "ipfw") then Some Ipfw
     else if bytes_eq word (codes "pf") then Some Pf
     else if bytes_eq word (codes "ios") then Some Ios
+    else if bytes_eq word (codes "openbsd") then Some Openbsd
     else None
+
+-- commands tell of the rules of this language
+abbrev pub tells_of_rules : SourceLang → Bool
+tells_of_rules Iptables = true
+tells_of_rules Ipfw = true
+tells_of_rules Pf = true
+tells_of_rules Ios = true
+tells_of_rules Openbsd = false
 
 -- a language in which policies are written
 abbrev pub target_of : List ℕ → Option TargetLang
@@ -98,9 +107,9 @@ abbrev pub trace_command : SourceLang → List ℕ → List ℕ → List (List �
 trace_command lang site file (conns ∷ packets ∷ []) = trace lang site file conns packets
 trace_command lang site file _ = unknown
 
--- `why LANG SITE FILE CONNS PACKETS`
+-- `why LANG SITE FILE CONNS PACKETS`, of a language of whose rules it tells
 abbrev pub why_command : SourceLang → List ℕ → List ℕ → List (List ℕ) → Command
-why_command lang site file (conns ∷ packets ∷ []) = why lang site file conns packets
+why_command lang site file (conns ∷ packets ∷ []) = if tells_of_rules lang then why lang site file conns packets else unknown
 why_command lang site file _ = unknown
 
 -- `run LANG SITE FILE EVENTS`
@@ -113,9 +122,13 @@ abbrev pub same_command : SourceLang → List ℕ → List ℕ → List (List �
 same_command lang site file (word ∷ other ∷ []) = option_map_or (λ other_lang. same lang site file other_lang other) (lang_of word) unknown
 same_command lang site file _ = unknown
 
--- `dead LANG SITE FILE` takes no further words
+-- `dead LANG SITE FILE`, of such a language
+abbrev pub unused_command : SourceLang → List ℕ → List ℕ → Command
+unused_command lang site file = if tells_of_rules lang then dead lang site file else unknown
+
+-- it takes no further words
 abbrev pub dead_command : SourceLang → List ℕ → List ℕ → List (List ℕ) → Command
-dead_command lang site file [] = dead lang site file
+dead_command lang site file [] = unused_command lang site file
 dead_command lang site file (word ∷ words) = unknown
 
 -- `translate FROM TO SITE FILE`, behind FROM and TO

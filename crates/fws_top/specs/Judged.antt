@@ -40,8 +40,12 @@ use Rattle.fws_pf.specs.Uses.{used as pf_used}
 use Rattle.fws_pf.specs.Walk.{walk as pf_walk}
 use Rattle.fws_pf_print.specs.Labels.{labels_of as pf_labels}
 use Rattle.fws_pf_put.specs.Placed.{tracks as pf_tracks}
+use Rattle.fws_pfo.specs.declared.config.PfoConfig.{PfoConfig}
+use Rattle.fws_pfo.specs.FileText.{spelled as pfo_spelled}
+use Rattle.fws_pfo.specs.Tracks.{tracks as pfo_tracks}
+use Rattle.fws_pfo.specs.Walk.{walk as pfo_walk}
 use Rattle.fws_top.specs.declared.lang.SourceLang.{SourceLang}
-use Rattle.fws_top.specs.declared.lang.SourceLang.TheVariants.{Iptables, Ipfw, Pf, Ios}
+use Rattle.fws_top.specs.declared.lang.SourceLang.TheVariants.{Iptables, Ipfw, Pf, Ios, Openbsd}
 use Rattle.fws_top.specs.Lines.{line_words, loop_words, deep_words, long_words, cause_text}
 
 -- Refusals for the chains
@@ -98,6 +102,10 @@ pf_refusal site c = None
 abbrev pub ios_refusal : Site → IosConfig → Option ChainRefusal
 ios_refusal site c = None
 
+-- nor one of pf of OpenBSD
+abbrev pub pfo_refusal : Site → PfoConfig → Option ChainRefusal
+pfo_refusal site c = None
+
 -- Judging
 
 -- a packet of the site: it comes from the host, loopback or an interface
@@ -129,6 +137,10 @@ pf_meant site = meant_by (λ config. pf_walk config site) (pf_tracks site) (λ c
 abbrev pub ios_meant : Site → IosConfig → Policy
 ios_meant site = meant_by (λ config. ios_walk config site) (ios_tracks site) (λ config. ios_used config site) ios_labels
 
+-- of its rules nothing is told, and they have no labels: no command asks for them
+abbrev pub pfo_meant : Site → PfoConfig → Policy
+pfo_meant site = meant_by (λ config. pfo_walk config site) (pfo_tracks site) (λ config p k. []) (λ config. [])
+
 -- a text is refused with these words, or accepted with what it means
 pub data Judged : Type 0 where
   refused : List ℕ → Judged
@@ -158,3 +170,4 @@ judge Iptables site text = judged_by (ipt_refusal site) (ipt_meant site) (ipt_sp
 judge Ipfw site text = judged_by (ipfw_refusal site) (ipfw_meant site) (ipfw_spelled site text)
 judge Pf site text = judged_by (pf_refusal site) (pf_meant site) (pf_spelled site text)
 judge Ios site text = judged_by (ios_refusal site) (ios_meant site) (ios_spelled site text)
+judge Openbsd site text = judged_by (pfo_refusal site) (pfo_meant site) (pfo_spelled site text)

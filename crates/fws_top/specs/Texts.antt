@@ -26,6 +26,6 @@ help_text =
     codes "fws dead LANG SITE FILE                           the rules of FILE that no packet uses at the site SITE, new or established, by their numbers and labels" ++ 10 ∷
     codes "fws load N                                        how many rows the tables of a filter of N generated rules have, N from 1 to 4000, and in how many languages it can be written" ++ 10 ∷
     codes "fws site2 SITE                                    the site file SITE in its second form" ++ 10 ∷
-    codes "languages: iptables ipfw pf ios; TO: iptables ipfw pf ios" ++ 10 ∷
+    codes "languages: iptables ipfw pf ios openbsd; TO, and LANG of why and dead: iptables ipfw pf ios" ++ 10 ∷
     codes "fields: entry proto dst dport src sport flags icmp, with est also rdst rdport rsrc rsport; and verdict=accept or verdict=drop" ++ 10 ∷
     codes "exit status: 0 answered, 1 can't be placed, 2 bad command line, 3 a file is refused, 4 a file can't be read, 5 the output can't be written, 6 out of memory" ++ 10 ∷ []

@@ -2,7 +2,7 @@
 
 ghost use Rattle.std.specs.Prelude.{◌≡◌};
 ghost use Rattle.std.specs.Str.{bytes_eq};
-ghost use Rattle.fws_top.specs.Forms.{lang_of, target_of, state_of, command_of, single_command, short_command, load_command, synth_command, query_command, state_command, table_command, translate_command, trace_command, why_command, run_command, same_command, dead_command, source_command, asked, IsSpelled};
+ghost use Rattle.fws_top.specs.Forms.{lang_of, tells_of_rules, target_of, state_of, command_of, single_command, short_command, load_command, synth_command, query_command, state_command, table_command, translate_command, trace_command, why_command, run_command, same_command, unused_command, dead_command, source_command, asked, IsSpelled};
 
 use crate::ask::{are_asks, are_shown};
 use crate::lang::{SourceLang, TargetLang};
@@ -65,8 +65,23 @@ fn read_lang(word: &Text) -> Option<SourceLang>
         Some(SourceLang::Pf)
     } else if is(word, b"ios") {
         Some(SourceLang::Ios)
+    } else if is(word, b"openbsd") {
+        Some(SourceLang::Openbsd)
     } else {
         None
+    }
+}
+
+/// Whether commands tell of the rules of a language.
+fn tells_of_rules(lang: SourceLang) -> bool
+    ensures { result ≡ tells_of_rules lang }
+{
+    match lang {
+        SourceLang::Iptables => true,
+        SourceLang::Ipfw => true,
+        SourceLang::Pf => true,
+        SourceLang::Ios => true,
+        SourceLang::Openbsd => false,
     }
 }
 
@@ -239,14 +254,18 @@ fn read_trace<'a>(lang: SourceLang, site: &'a [u8], file: &'a [u8], rest: &'a [T
     }
 }
 
-/// So does `why`.
+/// So does `why`, which tells of rules.
 fn read_why<'a>(lang: SourceLang, site: &'a [u8], file: &'a [u8], rest: &'a [Text]) -> Form<'a>
     ensures asked { asked result ≡ why_command lang site.now file.now rest.now }
     ensures spelled { IsSpelled result }
 {
-    match rest {
-        [conns, packets] => Form::Why(lang, site, file, conns.as_slice(), packets.as_slice()),
-        _ => Form::Unknown,
+    let [conns, packets] = rest else {
+        return Form::Unknown;
+    };
+    if tells_of_rules(lang) {
+        Form::Why(lang, site, file, conns.as_slice(), packets.as_slice())
+    } else {
+        Form::Unknown
     }
 }
 
@@ -275,13 +294,25 @@ fn read_same<'a>(lang: SourceLang, site: &'a [u8], file: &'a [u8], rest: &'a [Te
     }
 }
 
-/// `dead` takes no further words.
+/// `dead` of a language of whose rules it tells.
+fn read_unused<'a>(lang: SourceLang, site: &'a [u8], file: &'a [u8]) -> Form<'a>
+    ensures asked { asked result ≡ unused_command lang site.now file.now }
+    ensures spelled { IsSpelled result }
+{
+    if tells_of_rules(lang) {
+        Form::Dead(lang, site, file)
+    } else {
+        Form::Unknown
+    }
+}
+
+/// `dead` takes no further words, and tells of rules.
 fn read_dead<'a>(lang: SourceLang, site: &'a [u8], file: &'a [u8], rest: &[Text]) -> Form<'a>
     ensures asked { asked result ≡ dead_command lang site.now file.now rest.now }
     ensures spelled { IsSpelled result }
 {
     match rest {
-        [] => Form::Dead(lang, site, file),
+        [] => read_unused(lang, site, file),
         _ => Form::Unknown,
     }
 }

@@ -11,6 +11,8 @@ pub enum SourceLang {
     Pf,
     /// Cisco IOS, as a running configuration writes access lists and NAT.
     Ios,
+    /// pf of OpenBSD, as its pf.conf(5) writes its rules.
+    Openbsd,
 }
 
 /// A language in which policies are written.

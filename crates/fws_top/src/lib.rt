@@ -15,6 +15,7 @@ mod language;
 mod laws;
 mod lines;
 mod loading;
+mod openbsd;
 mod pf;
 mod placed;
 mod policy;
@@ -36,6 +37,7 @@ pub use laws::{
     load_words_are_shown, loads_are_shown, regular_walks_make_regular_tables,
     spelled_tables_are_regular, translations_keep_step,
 };
+pub use openbsd::Openbsd;
 pub use pf::Pf;
 pub use running::run;
 pub use source::Source;

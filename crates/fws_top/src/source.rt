@@ -39,10 +39,11 @@ pub trait Source {
     // accepts.
     ghost tracks: { Site → Self.Config → Bool };
 
-    // The numbers of the rules that a packet's walk uses, in the order in which it comes to them.
+    // The numbers of the rules that a packet's walk uses, in the order in which it comes to them; none in a language of whose rules
+    // nothing is told.
     ghost used: { Self.Config → Site → Packet → Kind → List ℕ };
 
-    // What the rules of a configuration are called, by their numbers.
+    // What the rules of a configuration are called, by their numbers; in such a language none is called anything.
     ghost labels: { Self.Config → List (List ℕ) };
 
     /// The configuration that a text spells at a site. `Refused` comes exactly where a line is refused, and has the first

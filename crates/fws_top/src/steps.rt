@@ -20,6 +20,7 @@ use crate::ipfw::Ipfw;
 use crate::iptables::Iptables;
 use crate::lang::SourceLang;
 use crate::lines::{cannot_read_line, site_cause_text};
+use crate::openbsd::Openbsd;
 use crate::pf::Pf;
 use crate::placed::{Placed, PlacedCode, placed_code, take_placed};
 use crate::policy::{PolicyCode, take_policy};
@@ -105,6 +106,7 @@ fn judge_source(
         SourceLang::Ipfw => take_policy::<Ipfw>(alloc, site, name, bytes),
         SourceLang::Pf => take_policy::<Pf>(alloc, site, name, bytes),
         SourceLang::Ios => take_policy::<Ios>(alloc, site, name, bytes),
+        SourceLang::Openbsd => take_policy::<Openbsd>(alloc, site, name, bytes),
     }
 }
 
@@ -144,6 +146,7 @@ fn judge_placed(
         SourceLang::Ipfw => take_placed::<Ipfw>(alloc, site, name, bytes),
         SourceLang::Pf => take_placed::<Pf>(alloc, site, name, bytes),
         SourceLang::Ios => take_placed::<Ios>(alloc, site, name, bytes),
+        SourceLang::Openbsd => take_placed::<Openbsd>(alloc, site, name, bytes),
     }
 }
 

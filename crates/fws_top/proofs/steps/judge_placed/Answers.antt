@@ -23,3 +23,8 @@ pub returns-in-Ios-clause-refused : goal.returns-in-Ios-clause-refused
 returns-in-Ios-clause-refused c =
     subst (λ lang. IfErr c.take_placed-in-Ios.result (EndsIn (judged c.args.name.now (judge lang c.args.site.now c.args.bytes.now))))
     (sym c.in-Ios.is) c.take_placed-in-Ios.ensures.refused
+
+pub returns-in-Openbsd-clause-refused : goal.returns-in-Openbsd-clause-refused
+returns-in-Openbsd-clause-refused c =
+    subst (λ lang. IfErr c.take_placed-in-Openbsd.result (EndsIn (judged c.args.name.now (judge lang c.args.site.now c.args.bytes.now))))
+    (sym c.in-Openbsd.is) c.take_placed-in-Openbsd.ensures.refused

@@ -1,0 +1,11 @@
+pub mod Drafts
+pub mod Drawn
+pub mod FileText
+pub mod Keywords
+pub mod Regular
+pub mod RuleText
+pub mod Soundness
+pub mod StatementText
+pub mod TargetText
+pub mod Tracks
+pub mod Walk

@@ -1,0 +1,11 @@
+pub mod Acts
+pub mod Bits
+pub mod Courses
+pub mod Deciding
+pub mod Among
+pub mod Filtering
+pub mod HeldWalk
+pub mod Numbered
+pub mod Passing
+pub mod Shown
+pub mod Tags

@@ -1,0 +1,4 @@
+pub mod Blocks
+pub mod Diagram
+pub mod Ends
+pub mod Held

@@ -1,0 +1,12 @@
+//! The control diagram of a configuration of OpenBSD's pf.
+#![tactic(auto)]
+
+mod acting;
+mod diagram;
+mod ends;
+mod filter;
+mod frame;
+mod held;
+mod tail;
+
+pub use diagram::to_ifcl;

@@ -1,0 +1,3 @@
+pub mod Putting
+pub mod SameWords
+pub mod Within
