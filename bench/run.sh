@@ -143,7 +143,7 @@ done
 translated() { # family count language target bytes [file]
     local family=$1 count=$2 language=$3 target=$4 bytes=$5
     shift 5
-    python3 "$top/bench/translated.py" "$family" "$count" "$language" "$target" "$bytes" "${times:-4}" "$program" "$site" "$@" || status=1
+    python3 "$top/bench/translated.py" "$family" "$count" "$language" "$target" "$bytes" "${times:-10}" "$program" "$site" "$@" || status=1
 }
 
 echo 'family rules language target seconds times bytes parts'
@@ -161,9 +161,8 @@ translated router 13 iptables pf 5518 "$top/examples/router.saved"
 translated loaded 400 iptables pf 120000
 translated loaded 4000 iptables pf /70
 translated decided 1000 pf pf /150
-# to Cisco IOS placing and printing may take five times as long as both tables, which a translation makes too
-times=6 translated loaded 400 iptables ios 59418
-times=6 translated loaded 4000 iptables ios /40
+translated loaded 400 iptables ios 59418
+translated loaded 4000 iptables ios /40
 
 answered() { # family count language target seconds megabytes status: an answer that is short, however long the text is
     python3 "$top/bench/answered.py" "$@" "$program" "$site" || status=1

@@ -254,13 +254,13 @@ def is_refusal(text, words, files):
     lines = lines_of(text)
     if lines is None:
         return False
-    for name in [word for word in words if word in files]:
+    for name in [word for word in words if word in files or word.startswith('/dev/')]:
         said = '\n'.join(lines)
         if not said.startswith('refused %s ' % name):
             continue
         rest = said[len('refused %s ' % name):]
         told = re.fullmatch(r'line (\d+) (syntax|left-out|no-name|no-interface|backward|shape|expand|overlap|names|count)', rest)
-        if told:
+        if told and name in files:
             return 1 <= int(told[1]) <= files[name].count(b'\n') + 2
         if re.fullmatch(r'(loop|deep|long) [^\n]+|over 4194304 bytes', rest):
             return True

@@ -158,19 +158,23 @@ def ipfw_faults(text):
                 yield 'a long list: ' + line[:80]
 
 
-# The forms of pf.conf(5), with the options of a line in their order: one of these ahead of the hosts, and behind them for each kind of rule.
-PF_HOST = r'(?:any|\d+(?:\.\d+){3}(?:/\d+)?|\d+(?:\.\d+){3} - \d+(?:\.\d+){3})'
-PF_PORT = r'(?: port (?:= )?\w+(?::\w+)?)?'
-PF_HEAD = r'(?: on (?:"[^"]+"|\S+))?(?: inet)?(?: proto \S+)?(?: all| from %s%s to %s%s| from %s%s| to %s%s)?' % ((PF_HOST, PF_PORT) * 4)
+# The forms of pf.conf(5): macros and tables, then translations and rules, each with its options behind the hosts, in any order.
+PF_ITEM = r'(?:any|self|(?:\d+(?:\.\d+){3}|\$\w+|\w+)(?:/\d+)?(?::network|:0)?(?: - \d+(?:\.\d+){3})?|\((?:\$\w+|\w+)(?::network|:0)?\)|<\w+>)'
+PF_HOST = r'(?:(?:! )?%s|\{ %s(?:, %s)* \})' % ((PF_ITEM,) * 3)
+PF_PORT = r'(?: port (?:(?:= )?\w+(?::\w+)?|\{ \w+(?::\w+)?(?:, \w+(?::\w+)?)* \}))?'
+PF_HEAD = r'(?: on (?:! )?(?:"[^"]+"|\S+))?(?: inet)?(?: proto (?:\w+|\{ \w+(?:, \w+)* \}))?(?: all| from %s%s to %s%s| from %s%s| to %s%s)?' % (
+    (PF_HOST, PF_PORT) * 4)
 PF_TAG = r'(?:"[^"]+"|[A-Za-z_]\w{0,62})'
+PF_FLAGS = r'flags (?:any|[FSRPAU]*/[FSRPAU]+)'
+PF_OPTIONS = r'(?: %s| icmp-type (?:\w+|\{ \w+(?:, \w+)* \})| keep state| tagged %s| tag %s)*' % (PF_FLAGS, PF_TAG, PF_TAG)
 PF_FORMS = [
-    ('rdr', r'no rdr%s(?: tag %s)?(?: tagged %s)?' % (PF_HEAD, PF_TAG, PF_TAG)),
-    ('rdr', r'rdr%s(?: tag %s)?(?: tagged %s)? -> \S+(?: bitmask| port \S+)?' % (PF_HEAD, PF_TAG, PF_TAG)),
-    ('nat', r'no nat%s(?: tag %s)?(?: tagged %s)?' % (PF_HEAD, PF_TAG, PF_TAG)),
-    ('nat', r'nat%s(?: tag %s)?(?: tagged %s)? -> \S+(?: bitmask)? static-port' % (PF_HEAD, PF_TAG, PF_TAG)),
-    ('filter', r'block(?: drop)?(?: in| out)?%s(?: flags [FSRPAU]*/[FSRPAU]+| icmp-type \w+)?(?: tagged %s)?(?: tag %s)?' % (
-        PF_HEAD, PF_TAG, PF_TAG)),
-    ('filter', r'pass(?: in| out)?%s(?: tagged %s)? flags (?:any|[FSRPAU]*/[FSRPAU]+) keep state' % (PF_HEAD, PF_TAG)),
+    ('macro', r'[a-z_]\w* = "[^"]+"'),
+    ('table', r'table <\w+> const \{ %s(?:, %s)* \}' % (PF_ITEM, PF_ITEM)),
+    ('translation', r'no (?:rdr|nat)%s(?: tag %s)?(?: tagged %s)?' % (PF_HEAD, PF_TAG, PF_TAG)),
+    ('translation', r'rdr%s(?: tag %s)?(?: tagged %s)? -> \S+(?: bitmask| port \S+)?' % (PF_HEAD, PF_TAG, PF_TAG)),
+    ('translation', r'nat%s(?: tag %s)?(?: tagged %s)? -> \S+(?: bitmask)? static-port' % (PF_HEAD, PF_TAG, PF_TAG)),
+    ('filter', r'block(?: drop)?(?: in| out)?(?: quick)?%s%s' % (PF_HEAD, PF_OPTIONS)),
+    ('filter', r'pass(?: in| out)?(?: quick)?%s%s' % (PF_HEAD, PF_OPTIONS)),
 ]
 
 
@@ -183,24 +187,28 @@ def pf_faults(text):
             if not found:
                 yield 'a line of no form: ' + line[:80]
             sections += found
-    if sections != sorted(sections, key=('rdr', 'nat', 'filter').index):
+            if line.startswith('pass') and 'keep state' not in line:
+                yield 'a rule that keeps no state: ' + line[:80]
+    if sections != sorted(sections, key=('macro', 'table', 'translation', 'filter').index):
         yield 'sections that are out of order'
 
 
 # The forms of the manuals of Cisco IOS: of entries of extended lists, and of the lines of sections.
 IOS_HOST = r'(?:any|host \d+(?:\.\d+){3}|\d+(?:\.\d+){3} \d+(?:\.\d+){3})'
-IOS_PORT = r'(?: eq \d+| range \d+ \d+)?'
-IOS_ENTRY = r' (?:permit|deny) (?:(?:ip|\d+) %s %s|(?:tcp|udp) %s%s %s%s(?: established)?|icmp %s %s(?: \d+)?)(?: reflect CONNECTIONS)?' % (
+IOS_PORT = r'(?: (?:eq|neq|lt|gt) \d+| range \d+ \d+)?'
+IOS_ENTRY = r' (?:permit|deny) (?:(?:ip|\d+) %s %s|(?:tcp|udp) %s%s %s%s(?: established)?|icmp %s %s(?: \d+)?)(?: reflect [A-Z]\S*)?' % (
     IOS_HOST, IOS_HOST, IOS_HOST, IOS_PORT, IOS_HOST, IOS_PORT, IOS_HOST, IOS_HOST)
 IOS_FORMS = [
     ('interface', r'interface \S+'),
     ('interface', r' ip nat (?:inside|outside)'),
-    ('interface', r' ip access-group \S+ in'),
+    ('interface', r' ip access-group \S+ (?:in|out)'),
     ('list', r'ip access-list extended \S+'),
     ('list', IOS_ENTRY),
-    ('list', r' evaluate CONNECTIONS'),
-    ('nat', r'ip nat pool P\d+ (\d+(?:\.\d+){3}) \1 prefix-length 24'),
-    ('nat', r'ip nat inside source list \S+ pool P\d+ overload'),
+    ('list', r' evaluate [A-Z]\S*'),
+    ('nat', r'ip nat pool \S+ (\d+(?:\.\d+){3}) \1 prefix-length 24'),
+    ('nat', r'ip nat inside source list \S+ (?:pool \S+|interface \S+) overload'),
+    ('nat', r'ip nat inside source static (?:tcp|udp) \d+(?:\.\d+){3} \d+ (?:\d+(?:\.\d+){3}|interface \S+) \d+(?: extendable)?'),
+    ('nat', r'ip nat inside source static \d+(?:\.\d+){3} \d+(?:\.\d+){3}(?: extendable)?'),
 ]
 
 
@@ -218,7 +226,8 @@ def ios_faults(text):
     if sections != sorted(sections, key=('interface', 'list', 'nat').index):
         yield 'sections that are out of order'
     defined = re.findall(r'^ip access-list extended (\S+)$', text, re.MULTILINE)
-    named = re.findall(r'^ ip access-group (\S+) in$', text, re.MULTILINE) + re.findall(r'^ip nat inside source list (\S+) ', text, re.MULTILINE)
+    named = re.findall(r'^ ip access-group (\S+) (?:in|out)$', text, re.MULTILINE)
+    named += re.findall(r'^ip nat inside source list (\S+) ', text, re.MULTILINE)
     if set(named) != set(defined) or len(set(defined)) != len(defined):
         yield 'lists that are not named or not defined: ' + ' '.join(sorted(set(named) ^ set(defined)))
 

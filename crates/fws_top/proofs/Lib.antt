@@ -11,4 +11,5 @@ mod Plans
 mod Points
 mod Policies
 mod RegularTables
+mod Suggestions
 mod UnusedRules

@@ -2,6 +2,7 @@
 
 use crate::language::Language;
 use crate::source::Source;
+use fws_flat::Flat;
 use fws_ifcl::{Ifcl, Spot};
 use fws_ios::IosConfig;
 use fws_ios_print::labels_are_counted;
@@ -78,5 +79,9 @@ impl Language for Ios {
 
     fn print(alloc: Global, c: &IosConfig, site: &Site) -> Result<Text, Memory> {
         fws_ios_print::print(alloc, c, site)
+    }
+
+    fn suggest(alloc: Global, t: &Tables, site: &Site, hints: &Flat) -> Result<Vec<Text>, Memory> {
+        fws_ios_suggest::suggest(alloc, t, site, hints)
     }
 }

@@ -2,6 +2,7 @@
 
 use crate::language::Language;
 use crate::source::Source;
+use fws_flat::Flat;
 use fws_ifcl::{Ifcl, Spot};
 use fws_ipfw::IpfwConfig;
 use fws_ipfw_ifcl::spelled_diagrams;
@@ -81,5 +82,9 @@ impl Language for Ipfw {
 
     fn print(alloc: Global, c: &IpfwConfig, site: &Site) -> Result<Text, Memory> {
         fws_ipfw_print::print(alloc, c, site)
+    }
+
+    fn suggest(alloc: Global, t: &Tables, site: &Site, hints: &Flat) -> Result<Vec<Text>, Memory> {
+        fws_ipfw_suggest::suggest(alloc, t, site, hints)
     }
 }

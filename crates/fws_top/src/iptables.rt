@@ -2,6 +2,7 @@
 
 use crate::language::Language;
 use crate::source::Source;
+use fws_flat::Flat;
 use fws_ifcl::{Ifcl, Spot};
 use fws_ipt::{IptConfig, unrefused_have_no_loop};
 use fws_ipt_ifcl::spelled_diagrams;
@@ -83,5 +84,9 @@ impl Language for Iptables {
 
     fn print(alloc: Global, c: &IptConfig, site: &Site) -> Result<Text, Memory> {
         fws_ipt_print::print(alloc, c, site)
+    }
+
+    fn suggest(alloc: Global, t: &Tables, site: &Site, hints: &Flat) -> Result<Vec<Text>, Memory> {
+        fws_ipt_suggest::suggest(alloc, t, site, hints)
     }
 }

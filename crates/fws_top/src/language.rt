@@ -1,6 +1,7 @@
 //! Languages in which policies are written.
 
 use crate::source::Source;
+use fws_flat::Flat;
 use fws_net::Site;
 use fws_num::{Memory, Text};
 use fws_place::PlaceAnswer;
@@ -8,7 +9,7 @@ use fws_tree::Tables;
 use std::alloc::Global;
 
 /// A language in which policies are written: when its system can hold the tables of a policy, the configuration that
-/// does what they say, and its text.
+/// does what they say, and its text; and texts that a person would rather keep, which may do so too.
 pub trait Language: Source {
     ghost use Rattle.std.specs.Prelude.{◌≡◌, Bool, true, Ok, Err, IfOk, OnOk};
     ghost use Rattle.fws_net.specs.declared.packet.Lang.{Lang};
@@ -43,4 +44,11 @@ pub trait Language: Source {
         requires orderly { IsOrderly site.now }
         requires printable { printable site.now c.now ≡ true }
         ensures { IfOk result (λ text. Self.spelled site.now text ≡ Ok c.now) };
+
+    /// Short texts that may do what the tables of a policy say, the best one first: three at most, and none where nothing is
+    /// suggested. Nothing is promised of them, so that each has to be checked. The hints are code that does what the tables say.
+    fn suggest(alloc: Global, t: &Tables, site: &Site, hints: &Flat) -> Result<Vec<Text>, Memory>
+        requires sound { IsSound site.now }
+        requires orderly { IsOrderly site.now }
+        requires regular { AreRegular site.now t.now };
 }

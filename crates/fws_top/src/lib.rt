@@ -23,6 +23,7 @@ mod running;
 mod source;
 mod status;
 mod steps;
+mod suggesting;
 mod tables;
 mod texts;
 mod translating;

@@ -2,6 +2,7 @@
 
 use crate::language::Language;
 use crate::source::Source;
+use fws_flat::Flat;
 use fws_ifcl::{Ifcl, Spot};
 use fws_net::{ReadAnswer, Site};
 use fws_num::{Memory, Text};
@@ -78,5 +79,9 @@ impl Language for Pf {
 
     fn print(alloc: Global, c: &PfConfig, site: &Site) -> Result<Text, Memory> {
         fws_pf_print::print(alloc, c, site)
+    }
+
+    fn suggest(alloc: Global, t: &Tables, site: &Site, hints: &Flat) -> Result<Vec<Text>, Memory> {
+        fws_pf_suggest::suggest(alloc, t, site, hints)
     }
 }

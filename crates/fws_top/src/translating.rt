@@ -8,7 +8,7 @@ ghost use Rattle.fws_net.specs.declared.packet.Packet.{Packet};
 ghost use Rattle.fws_net.specs.Routes.{IsSound};
 ghost use Rattle.fws_net.specs.SiteLaws.{IsOrderly};
 ghost use Rattle.fws_top.specs.Stops.{Does, DoesRegularly};
-ghost use Rattle.fws_top.specs.Translations.{EmitsBy, IsPlacement, IsPlacementBy, IsTranslation};
+ghost use Rattle.fws_top.specs.Translations.{EmitsBy, GivesFates, IsPlacement, IsPlacementBy, IsTranslation};
 ghost use Rattle.fws_tree.specs.Regular.{AreRegular};
 
 use crate::answer::Answer;
@@ -20,20 +20,46 @@ use crate::language::Language;
 use crate::lines::breach_line;
 use crate::pf::Pf;
 use crate::status::Status;
+use crate::suggesting::suggested;
 use crate::tables::tables;
 use fws_flat::Flat;
 use fws_net::Site;
-use fws_num::Memory;
+use fws_num::{Memory, Text};
 use fws_place::PlaceAnswer;
 use fws_tree::Tables;
 use std::alloc::Global;
 
-/// The text of tables in a language, or the line that says which packets show why its system can't hold them.
+/// The text that is emitted where tables have a configuration: the first suggestion that is right, else that of the configuration.
+fn emitted<L: Language>(
+    alloc: Global,
+    site: &Site,
+    tables: &Tables,
+    config: &L::Config,
+    hints: &Flat,
+) -> Result<Text, Memory>
+    requires orderly { IsOrderly site.now }
+    requires sound { IsSound site.now }
+    requires regular { AreRegular site.now tables.now }
+    requires printable { L.printable site.now config.now ≡ true }
+    requires tracks { L.tracks site.now config.now ≡ true }
+    requires fates { GivesFates site.now tables.now (L.walk config.now site.now) }
+    ensures { IfOk result (EmitsBy (L.spelled site.now) (L.tracks site.now) (λ config. L.walk config site.now) site.now tables.now) }
+{
+    let found = suggested::<L>(alloc, site, tables, hints)?;
+    match found {
+        Some(text) => Ok(text),
+        None => L::print(alloc, config, site),
+    }
+}
+
+/// The text of tables in a language, or the line that says which packets show why its system can't hold them. The hints
+/// are code that does what the tables say.
 fn placed<L: Language>(
     alloc: Global,
     target: TargetLang,
     site: &Site,
     tables: &Tables,
+    hints: &Flat,
 ) -> Result<Answer, Memory>
     requires orderly { IsOrderly site.now }
     requires sound { IsSound site.now }
@@ -43,7 +69,7 @@ fn placed<L: Language>(
     match L::place(alloc, tables, site) {
         Ok(config) => Ok(Answer {
             status: Status::Ok,
-            text: L::print(alloc, &config, site)?,
+            text: emitted::<L>(alloc, site, tables, &config, hints)?,
         }),
         Err(PlaceAnswer::Unfit(breach)) => Ok(Answer {
             status: Status::NotPlaceable,
@@ -59,6 +85,7 @@ fn placed_in(
     target: TargetLang,
     site: &Site,
     tables: &Tables,
+    hints: &Flat,
 ) -> Result<Answer, Memory>
     requires orderly { IsOrderly site.now }
     requires sound { IsSound site.now }
@@ -66,10 +93,10 @@ fn placed_in(
     ensures { IfOk result (λ a. IsPlacement target site.now tables.now a.status a.text) }
 {
     match target {
-        TargetLang::Iptables => placed::<Iptables>(alloc, target, site, tables),
-        TargetLang::Ipfw => placed::<Ipfw>(alloc, target, site, tables),
-        TargetLang::Pf => placed::<Pf>(alloc, target, site, tables),
-        TargetLang::Ios => placed::<Ios>(alloc, target, site, tables),
+        TargetLang::Iptables => placed::<Iptables>(alloc, target, site, tables, hints),
+        TargetLang::Ipfw => placed::<Ipfw>(alloc, target, site, tables, hints),
+        TargetLang::Pf => placed::<Pf>(alloc, target, site, tables, hints),
+        TargetLang::Ios => placed::<Ios>(alloc, target, site, tables, hints),
     }
 }
 
@@ -87,6 +114,6 @@ pub(crate) fn translated(
     ensures { (walk : Packet → Kind → Outcome) → Does code.now site.now walk → IfOk result (λ a. IsTranslation target site.now walk a.status a.text) }
 {
     let tables = tables(alloc, site, code)?;
-    let answer = placed_in(alloc, target, site, &tables)?;
+    let answer = placed_in(alloc, target, site, &tables, code)?;
     Ok(answer)
 }

@@ -1,0 +1,289 @@
+//! Translations ahead of `check-state`, and what packets are behind them.
+
+use crate::diagrams::{colour_of, parted, plain_colours};
+use crate::ends::images;
+use crate::instances::{Instances, by_instances, written_by};
+use fws_net::End;
+use fws_suggest::{
+    DPORT, DST, Diagram, List, Mask, Meeting, PROTO, Policy, Region, Rule, SRC, Side, Stop, Style,
+    end_colours, solved, task_for,
+};
+
+/// Rules that translate, and what packets are behind them.
+#[derive(Drop)]
+pub(crate) struct Translated {
+    pub(crate) rules: Vec<Rule>,
+    pub(crate) behind: Diagram,
+    /// Whether the rules tag what they translate.
+    pub(crate) is_tagged: bool,
+}
+
+/// Which instances may translate packets that come in: a colour is the place of one and one more, 0 for none.
+fn inward(policy: &mut Policy, found: &Instances, is_strict: bool) -> Result<Diagram, Stop> {
+    let arriving = policy.arriving;
+    let allowed = policy.redirections(arriving, is_strict)?;
+    let none = policy.space.only(0)?;
+    let count = policy.destinations.len();
+    let stays = parted(policy, allowed, none, Mask::NONE, count)?;
+    let translated = by_instances(policy, found, allowed, 1)?;
+    policy.space.met(stays, translated, Meeting::Either)
+}
+
+/// The list of colours from one number on, where there are so many instances.
+fn inward_list(
+    policy: &mut Policy,
+    style: &mut Style,
+    diagram: Diagram,
+    from: u32,
+    instances: usize,
+) -> Result<List, Stop> {
+    let colours = plain_colours(policy.alloc, from, colour_of(instances))?;
+    let task = task_for(policy.alloc, diagram, colours, &[0])?;
+    solved(policy, style, &task)
+}
+
+/// Which instances translate packets that come in: by rules that translate alone, or where there are none by others too.
+fn inward_rules(
+    policy: &mut Policy,
+    style: &mut Style,
+    found: &Instances,
+    is_strict: bool,
+) -> Result<Vec<Rule>, Stop> {
+    let diagram = inward(policy, found, is_strict)?;
+    match inward_list(policy, style, diagram, 1, found.maps.len()) {
+        Ok(list) => return Ok(list.rules),
+        Err(Stop::Memory) => return Err(Stop::Memory),
+        Err(Stop::Late) => {}
+    }
+    let list = inward_list(policy, style, diagram, 0, found.maps.len())?;
+    Ok(list.rules)
+}
+
+/// Whether an instance has a destination, by its number.
+fn has_home(found: &Instances, number: u32) -> bool {
+    for home in &found.homes {
+        if colour_of(home.instance).saturating_add(1) == number {
+            return true;
+        }
+    }
+    false
+}
+
+/// The region with less at a field, where something is left.
+fn narrowed(policy: &mut Policy, region: Region, field: usize, side: Side) -> Result<Region, Stop> {
+    let both = policy.space.both(region.side(field), side)?;
+    if both.is_empty() {
+        return Ok(region);
+    }
+    Ok(region.with(field, both))
+}
+
+/// The region of a rule for what its instance redirects.
+fn reached(policy: &mut Policy, found: &Instances, rule: &Rule) -> Result<Region, Stop> {
+    if !has_home(found, rule.colour) {
+        return Ok(rule.region);
+    }
+    let [protocols, destinations, ports] = found.reach(policy, rule.colour)?;
+    let region = narrowed(policy, rule.region, PROTO, protocols)?;
+    let region = narrowed(policy, region, DST, destinations)?;
+    narrowed(policy, region, DPORT, ports)
+}
+
+/// The rules for what their instances redirect, as far as a rule can tell: other instances may follow.
+fn tightened(policy: &mut Policy, found: &Instances, rules: &[Rule]) -> Result<Vec<Rule>, Stop> {
+    let mut narrow = Vec::new(policy.alloc);
+    for rule in rules {
+        let region = reached(policy, found, rule)?;
+        narrow.push(Rule {
+            region,
+            colour: rule.colour,
+        })?;
+    }
+    Ok(narrow)
+}
+
+/// The rules that translate packets that come in.
+fn redirecting(
+    policy: &mut Policy,
+    style: &mut Style,
+    found: &Instances,
+    is_strict: bool,
+) -> Result<Vec<Rule>, Stop> {
+    let wide = inward_rules(policy, style, found, is_strict)?;
+    tightened(policy, found, &wide)
+}
+
+/// What packets are behind rules that translate them as they come in.
+fn behind(
+    policy: &mut Policy,
+    found: &Instances,
+    direct: Diagram,
+    rules: &[Rule],
+    is_tagged: bool,
+) -> Result<Diagram, Stop> {
+    let arriving = policy.arriving;
+    let narrow = policy.narrowed(rules, arriving)?;
+    let painted = policy.painted(&narrow, 0)?;
+    let ends = written_by(policy, found, painted)?;
+    let tagging = if is_tagged { Some(painted) } else { None };
+    let count = found.maps.len().saturating_add(1);
+    images(policy, ends, direct, tagging, count)
+}
+
+/// How packets that come in are translated, in a way.
+fn redirected_so(
+    policy: &mut Policy,
+    style: &mut Style,
+    found: &Instances,
+    direct: Diagram,
+    is_strict: bool,
+    is_tagged: bool,
+) -> Result<Translated, Stop> {
+    let rules = redirecting(policy, style, found, is_strict)?;
+    let behind = behind(policy, found, direct, &rules, is_tagged)?;
+    Ok(Translated {
+        rules,
+        behind,
+        is_tagged,
+    })
+}
+
+/// How packets that come in are translated. It gives up where no way is open.
+pub(crate) fn redirected(
+    policy: &mut Policy,
+    style: &mut Style,
+    found: &Instances,
+) -> Result<Translated, Stop> {
+    let direct = policy.direct()?;
+    if found.maps.is_empty() {
+        return Ok(Translated {
+            rules: Vec::new(policy.alloc),
+            behind: direct,
+            is_tagged: false,
+        });
+    }
+    for (is_strict, is_tagged) in [(false, false), (false, true), (true, false)] {
+        let way = redirected_so(policy, style, found, direct, is_strict, is_tagged)?;
+        if !policy.fails(way.behind)? {
+            return Ok(way);
+        }
+    }
+    Err(Stop::Late)
+}
+
+/// What may be written over the sources of the host's own packets: where that is asked nothing over those that are dropped.
+fn own_sendings(
+    policy: &mut Policy,
+    all: Diagram,
+    own: Diagram,
+    is_strict: bool,
+) -> Result<Diagram, Stop> {
+    let departures = policy.departures();
+    let mine = policy.space.keep(all, &departures)?;
+    if !is_strict {
+        return Ok(mine);
+    }
+    let none = policy.space.only(0)?;
+    let kept = parted(policy, own, none, Mask::ALL, 2)?;
+    policy.space.meet(mine, kept)
+}
+
+/// What may be written over the sources of packets that leave: where that is asked nothing over those of the host's packets
+/// that are dropped.
+fn sendings(
+    policy: &mut Policy,
+    behind: Diagram,
+    own: Diagram,
+    is_strict: bool,
+) -> Result<Diagram, Stop> {
+    let all = policy.sendings(behind)?;
+    let mine = own_sendings(policy, all, own, is_strict)?;
+    if !policy.forwarding {
+        return Ok(mine);
+    }
+    let foreign = policy.foreign()?;
+    let passing = policy.arrivals().with(DST, foreign);
+    let forwarded = policy.space.keep(all, &passing)?;
+    policy.space.meet(forwarded, mine)
+}
+
+/// The host's own packets as the filter sees them behind the translation of sources, where an end is written.
+fn seen_from(
+    policy: &mut Policy,
+    own: Diagram,
+    painted: Diagram,
+    place: usize,
+    end: End,
+) -> Result<Diagram, Stop> {
+    let count = policy.sources.len();
+    let away = policy.where_it_is(painted, colour_of(place), count)?;
+    let here = policy.space.met(own, away, Meeting::Either)?;
+    let image = policy.space.project(here, SRC, Meeting::Both)?;
+    let side = policy.space.range(SRC, end.addr, end.addr)?;
+    let region = policy.everything().with(SRC, side);
+    policy.space.keep(image, &region)
+}
+
+/// The host's own packets as the filter sees them behind the translation of sources.
+fn seen_leaving(policy: &mut Policy, own: Diagram, rules: &[Rule]) -> Result<Diagram, Stop> {
+    let painted = policy.painted(rules, 0)?;
+    let count = policy.sources.len();
+    let written = policy.where_it_is(painted, 0, count)?;
+    let mut seen = policy.space.met(own, written, Meeting::Either)?;
+    for place in 1..count {
+        let Some(Some(end)) = policy.sources.get(place).copied() else {
+            continue;
+        };
+        let placed = seen_from(policy, own, painted, place, end)?;
+        seen = policy.space.meet(seen, placed)?;
+    }
+    Ok(seen)
+}
+
+/// The list of sources that are written.
+fn sending_list(policy: &mut Policy, style: &mut Style, diagram: Diagram) -> Result<List, Stop> {
+    let colours = end_colours(policy.alloc, &policy.sources)?;
+    let task = task_for(policy.alloc, diagram, colours, &[0])?;
+    solved(policy, style, &task)
+}
+
+/// How sources are translated, in a way.
+fn sent_so(
+    policy: &mut Policy,
+    style: &mut Style,
+    behind: Diagram,
+    own: Diagram,
+    is_strict: bool,
+) -> Result<Translated, Stop> {
+    let diagram = sendings(policy, behind, own, is_strict)?;
+    let list = sending_list(policy, style, diagram)?;
+    let seen = seen_leaving(policy, own, &list.rules)?;
+    Ok(Translated {
+        rules: list.rules,
+        behind: seen,
+        is_tagged: false,
+    })
+}
+
+/// How sources are translated, and what is seen then of the host's own packets. It gives up where neither way is open.
+pub(crate) fn sent(
+    policy: &mut Policy,
+    style: &mut Style,
+    behind: Diagram,
+    own: Diagram,
+) -> Result<Translated, Stop> {
+    if policy.sources.len() == 1 {
+        return Ok(Translated {
+            rules: Vec::new(policy.alloc),
+            behind: own,
+            is_tagged: false,
+        });
+    }
+    for is_strict in [false, true] {
+        let way = sent_so(policy, style, behind, own, is_strict)?;
+        if !policy.fails(way.behind)? {
+            return Ok(way);
+        }
+    }
+    Err(Stop::Late)
+}

@@ -1,0 +1,13 @@
+//! Short texts of iptables that may do what tables say. Nothing is promised of them: who uses one checks it.
+#![tactic(auto)]
+
+mod chains;
+mod filter;
+mod options;
+mod rules;
+mod tables;
+mod text;
+mod translation;
+mod writing;
+
+pub use writing::suggest;

@@ -1,0 +1,279 @@
+//! How destinations and sources are translated.
+
+use crate::draft::Translations;
+use fws_net::End;
+use fws_suggest::{
+    ACCEPT, DROP, DST, Diagram, ENTRY, FLAGS, ICMP, List, Marked, Mask, Meeting, Policy, Rule, SRC,
+    Settings, Side, Stop, Task, end_colours, marks_of, solved, split_by_class, task_for,
+};
+
+/// The end at a place of a list.
+pub(crate) fn end_at(ends: &[Option<End>], place: u32) -> Option<End> {
+    match ends.get(place as usize) {
+        Some(end) => *end,
+        None => None,
+    }
+}
+
+/// How rules that translate write sides: where networks are mapped without ranges, since such a rule names a network.
+pub(crate) fn nat_settings(policy: &Policy) -> Settings {
+    let mut settings = Settings::pf();
+    settings.has_ranges = !policy.maps_networks();
+    settings
+}
+
+/// The list that is found for a task where sides are written by these settings.
+pub(crate) fn solved_by(
+    policy: &mut Policy,
+    settings: Settings,
+    universe: Side,
+    task: &Task,
+) -> Result<List, Stop> {
+    let mut style = policy.style(settings, universe)?;
+    solved(policy, &mut style, task)
+}
+
+/// A diagram that doesn't ask for flags and ICMP types, which translations can't ask.
+fn without_details(policy: &mut Policy, diagram: Diagram) -> Result<Diagram, Stop> {
+    let flat = policy.space.project(diagram, FLAGS, Meeting::Both)?;
+    let flat = policy.space.project(flat, ICMP, Meeting::Both)?;
+    if policy.fails(flat)? {
+        return Err(Stop::Late);
+    }
+    Ok(flat)
+}
+
+/// The rules for destinations.
+fn redirecting(policy: &mut Policy, is_strict: bool) -> Result<Vec<Rule>, Stop> {
+    let arriving = policy.arriving;
+    let diagram = policy.redirections(arriving, is_strict)?;
+    let diagram = without_details(policy, diagram)?;
+    let colours = end_colours(policy.alloc, &policy.destinations)?;
+    let task = task_for(policy.alloc, diagram, colours, &[0])?;
+    let settings = nat_settings(policy);
+    let everywhere = policy.space.full(DST);
+    let list = solved_by(policy, settings, everywhere, &task)?;
+    Ok(list.rules)
+}
+
+/// Tries one way to translate destinations: gives what packets are behind it, and nothing where two that must fare differently
+/// have become one.
+fn redirected_by(
+    policy: &mut Policy,
+    translations: &mut Translations,
+    is_strict: bool,
+    is_tagged: bool,
+) -> Result<Option<Diagram>, Stop> {
+    let rules = redirecting(policy, is_strict)?;
+    let arriving = policy.arriving;
+    let narrow = policy.narrowed(&rules, arriving)?;
+    let found = policy.behind(&narrow, is_tagged)?;
+    if found.is_some() {
+        translations.redirected = rules;
+        translations.tags_redirected = is_tagged;
+    }
+    Ok(found)
+}
+
+/// Notes how destinations are translated, and gives what packets are behind that. It gives up where none of the ways is open.
+pub(crate) fn redirect(
+    policy: &mut Policy,
+    translations: &mut Translations,
+) -> Result<Diagram, Stop> {
+    if policy.destinations.len() == 1 {
+        return policy.direct();
+    }
+    for (is_strict, is_tagged) in [(false, false), (false, true), (true, false)] {
+        if let Some(behind) = redirected_by(policy, translations, is_strict, is_tagged)? {
+            return Ok(behind);
+        }
+    }
+    Err(Stop::Late)
+}
+
+/// What of the host's packets may be written over: where that is asked nothing over those that are dropped.
+fn own_sendings(
+    policy: &mut Policy,
+    sendings: Diagram,
+    verdict: Diagram,
+    is_strict: bool,
+) -> Result<Diagram, Stop> {
+    let departures = policy.departures();
+    let own = policy.space.keep(sendings, &departures)?;
+    if !is_strict {
+        return Ok(own);
+    }
+    let mut table = Vec::new(policy.alloc);
+    table.push(policy.space.only(0)?)?;
+    table.push(Mask::ALL)?;
+    let kept = policy.translated(verdict, &table)?;
+    policy.space.meet(own, kept)
+}
+
+/// What of packets that are forwarded may be written over.
+fn forwarded_sendings(policy: &mut Policy, sendings: Diagram) -> Result<Diagram, Stop> {
+    if !policy.forwarding {
+        let anything = policy.space.anything()?;
+        return Ok(anything);
+    }
+    let foreign = policy.foreign()?;
+    let passing = policy.arrivals().with(DST, foreign);
+    policy.space.keep(sendings, &passing)
+}
+
+/// The host's own packets that are sent from an end as the filter sees them: `here` is what becomes of them.
+fn seen_from(policy: &mut Policy, here: Diagram, end: End) -> Result<Diagram, Stop> {
+    if end.port.is_some() {
+        return Err(Stop::Late);
+    }
+    if end.len < 32 {
+        return policy.mapped(here, SRC, end);
+    }
+    let image = policy.space.project(here, SRC, Meeting::Both)?;
+    let side = policy.space.range(SRC, end.addr, end.addr)?;
+    let region = policy.everything().with(SRC, side);
+    policy.space.keep(image, &region)
+}
+
+/// What becomes of the host's own packets over which the source of this colour is written.
+fn sent_as(
+    policy: &mut Policy,
+    verdict: Diagram,
+    painted: Diagram,
+    colour: u32,
+) -> Result<Diagram, Stop> {
+    let count = policy.sources.len();
+    let away = policy.where_it_is(painted, colour, count)?;
+    policy.space.met(verdict, away, Meeting::Either)
+}
+
+/// The host's own packets as the filter sees them behind the translation of sources.
+fn seen_leaving(
+    policy: &mut Policy,
+    verdict: Diagram,
+    rules: &[Rule],
+    tags_sent: bool,
+) -> Result<Diagram, Stop> {
+    let painted = policy.painted(rules, 0)?;
+    let mut seen = sent_as(policy, verdict, painted, 0)?;
+    if tags_sent {
+        return Ok(seen);
+    }
+    for place in 1..policy.sources.len() {
+        let colour = u32::try_from(place).unwrap_or(u32::MAX);
+        if let Some(end) = end_at(&policy.sources, colour) {
+            let here = sent_as(policy, verdict, painted, colour)?;
+            let placed = seen_from(policy, here, end)?;
+            seen = policy.space.meet(seen, placed)?;
+        }
+    }
+    Ok(seen)
+}
+
+/// Rules for sources, and the tags of the entries that they name.
+#[derive(Drop)]
+struct Sending {
+    rules: Vec<Rule>,
+    marks: Vec<Marked>,
+}
+
+/// The rules that write sources, which ask for no entry.
+fn sending_of(policy: &mut Policy, diagram: Diagram) -> Result<Vec<Rule>, Stop> {
+    let colours = end_colours(policy.alloc, &policy.sources)?;
+    let task = task_for(policy.alloc, diagram, colours, &[0])?;
+    let settings = nat_settings(policy).with_exits();
+    let everywhere = policy.space.full(DST);
+    let list = solved_by(policy, settings, everywhere, &task)?;
+    Ok(list.rules)
+}
+
+/// The rules that write sources where entries have to be told apart by tags.
+fn sending_by_entries(policy: &mut Policy, seen: Diagram) -> Result<Sending, Stop> {
+    let classes = policy.entry_classes(seen)?;
+    let whole = sending_of(policy, seen)?;
+    let rules = split_by_class(policy, &whole, &classes)?;
+    let marks = marks_of(policy, &rules, &classes, true)?;
+    Ok(Sending { rules, marks })
+}
+
+/// The rules that write sources as the diagram says.
+fn sending_rules(policy: &mut Policy, seen: Diagram) -> Result<Sending, Stop> {
+    let diagram = policy.space.project(seen, ENTRY, Meeting::Both)?;
+    if policy.fails(diagram)? {
+        return sending_by_entries(policy, seen);
+    }
+    let rules = sending_of(policy, diagram)?;
+    let marks = Vec::new(policy.alloc);
+    Ok(Sending { rules, marks })
+}
+
+/// Tries one way to translate sources: gives what the filter sees then of the host's own packets, and nothing where two of
+/// them that must fare differently have become one.
+fn sent_by(
+    policy: &mut Policy,
+    translations: &mut Translations,
+    sendings: Diagram,
+    verdict: Diagram,
+    is_strict: bool,
+    tags_sent: bool,
+) -> Result<Option<Diagram>, Stop> {
+    let forwarded = forwarded_sendings(policy, sendings)?;
+    let own = own_sendings(policy, sendings, verdict, is_strict)?;
+    let both = policy.space.meet(forwarded, own)?;
+    let seen = without_details(policy, both)?;
+    let found = sending_rules(policy, seen)?;
+    let leaving = seen_leaving(policy, verdict, &found.rules, tags_sent)?;
+    if policy.fails(leaving)? {
+        return Ok(None);
+    }
+    translations.sent = found.rules;
+    translations.marks = found.marks;
+    translations.tags_sent = tags_sent;
+    Ok(Some(leaving))
+}
+
+/// Notes how sources are translated, and gives what the filter sees of the host's own packets. It gives up where none of the
+/// ways is open.
+pub(crate) fn send(
+    policy: &mut Policy,
+    translations: &mut Translations,
+    behind: Diagram,
+) -> Result<Diagram, Stop> {
+    let verdict = policy.verdict(behind)?;
+    let departures = policy.departures();
+    let own = policy.space.keep(verdict, &departures)?;
+    if policy.sources.len() == 1 {
+        return Ok(own);
+    }
+    let sendings = policy.sendings(behind)?;
+    for (is_strict, tags_sent) in [(false, false), (true, false), (true, true)] {
+        if let Some(seen) = sent_by(policy, translations, sendings, own, is_strict, tags_sent)? {
+            return Ok(seen);
+        }
+    }
+    Err(Stop::Late)
+}
+
+/// The verdict on packets from the entries that have this tag, in which the colour of a pass stands for it.
+fn tagged_as(policy: &mut Policy, verdict: Diagram, class: Marked) -> Result<Diagram, Stop> {
+    let mut table = Vec::new(policy.alloc);
+    table.push(policy.space.only(DROP)?)?;
+    table.push(policy.space.only(ACCEPT.saturating_add(class.mark))?)?;
+    let tagged = policy.translated(verdict, &table)?;
+    let region = policy.everything().with(ENTRY, class.entries);
+    policy.space.keep(tagged, &region)
+}
+
+/// Where packets come in from entries that have tags: the colour of a pass is one that stands for the tag.
+pub(crate) fn by_tags(
+    policy: &mut Policy,
+    verdict: Diagram,
+    marks: &[Marked],
+) -> Result<Diagram, Stop> {
+    let mut whole = policy.space.anything()?;
+    for class in marks {
+        let kept = tagged_as(policy, verdict, *class)?;
+        whole = policy.space.meet(whole, kept)?;
+    }
+    Ok(whole)
+}

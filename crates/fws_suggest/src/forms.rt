@@ -1,0 +1,47 @@
+//! What a target can write, and what that costs.
+
+use crate::fields::FIELDS;
+use crate::region::Region;
+use crate::sides::Side;
+use crate::space::Space;
+use crate::stop::Stop;
+use crate::style::Style;
+
+/// What writing a side takes.
+#[derive(Clone, Copy)]
+pub struct Measure {
+    /// How many lines.
+    pub lines: u64,
+    /// What each of them has, in thousandths of a line.
+    pub words: u64,
+}
+
+/// What side is sought for a rule.
+#[derive(Clone, Copy)]
+pub struct Sought {
+    /// The field.
+    pub field: usize,
+    /// What it has at least.
+    pub least: Side,
+    /// What it may have.
+    pub most: Side,
+    /// What is worth having.
+    pub wanted: Side,
+    /// Whether it is to be as wide as all but a little.
+    pub wide: bool,
+}
+
+/// What the rule costs that decides in a region, in thousandths of a line.
+pub(crate) fn cost_of(style: &mut Style, space: &mut Space, region: &Region) -> Result<u64, Stop> {
+    let mut lines: u64 = 1;
+    let mut words: u64 = 0;
+    for field in 0..FIELDS {
+        let side = region.side(field);
+        if side != space.full(field) {
+            let measure = style.measure(space, field, side)?;
+            lines = lines.saturating_mul(measure.lines);
+            words = words.saturating_add(measure.words);
+        }
+    }
+    Ok(lines.saturating_mul(1000).saturating_add(words))
+}

@@ -1,0 +1,104 @@
+//! The shortest list that was found for a diagram.
+
+use crate::best::Offers;
+use crate::large::{fewest_paths, solve_large};
+use crate::region::{List, Region, Rule};
+use crate::small::{penalty, solve_small};
+use crate::space::{Diagram, Space};
+use crate::stop::Stop;
+use crate::style::Style;
+use fws_num::Memory;
+use std::alloc::Global;
+
+/// A colour that rules may have.
+#[derive(Clone, Copy)]
+pub struct Colour {
+    /// The colour.
+    pub number: u32,
+    /// What a rule of this colour costs besides, in thousandths of a line.
+    pub penalty: u64,
+    /// Whether a rule of this colour has to be within the protocols that have ports.
+    pub writes_ports: bool,
+}
+
+/// What a list is sought for.
+#[derive(Drop)]
+pub struct Task {
+    /// What is right at each point.
+    pub diagram: Diagram,
+    /// The colours that rules may have.
+    pub colours: Vec<Colour>,
+    /// The colours that may be the default, the one that is wanted most first.
+    pub defaults: Vec<u32>,
+    /// Rules of the source, in its order: each counts only where it is right.
+    pub hints: Vec<Rule>,
+    /// Regions of which the hints don't speak, to be decided first.
+    pub unhinted: Vec<Region>,
+    /// How many steps may be taken.
+    pub budget: u64,
+}
+
+/// The shortest list that was found in so many steps: what it decides is right at each point of the diagram. None where the
+/// search gave up. The space's limit of steps is then as it was before.
+pub fn solve(
+    alloc: Global,
+    space: &mut Space,
+    style: &mut Style,
+    task: &Task,
+) -> Result<Option<List>, Memory> {
+    let before = space.limit;
+    let limit = space.steps.saturating_add(task.budget).min(before);
+    space.limit = limit;
+    let found = search(alloc, space, style, task);
+    space.limit = before;
+    found
+}
+
+/// The most paths of a diagram for which several ways are tried.
+const FEW_PATHS: u32 = 150;
+
+/// Offers lists, until the steps come to an end.
+fn offer_lists(
+    space: &mut Space,
+    style: &mut Style,
+    task: &Task,
+    offers: &mut Offers,
+) -> Result<(), Stop> {
+    let allowed = space.least_mask(task.diagram);
+    for default in &task.defaults {
+        if space.has(allowed, *default) {
+            let cost = penalty(style, task, *default);
+            offers.begin();
+            offers.offer(*default, cost);
+            return Ok(());
+        }
+    }
+    let paths = fewest_paths(space, task)?;
+    if paths <= FEW_PATHS {
+        solve_small(space, style, task, offers)
+    } else {
+        solve_large(space, style, task, offers)
+    }
+}
+
+fn search(
+    alloc: Global,
+    space: &mut Space,
+    style: &mut Style,
+    task: &Task,
+) -> Result<Option<List>, Memory> {
+    let mut offers = Offers::none(alloc);
+    let ended = offer_lists(space, style, task, &mut offers);
+    if lacks_memory(&ended) {
+        return Err(Memory);
+    }
+    Ok(offers.cheapest())
+}
+
+/// Whether a search ended for want of memory.
+fn lacks_memory(ended: &Result<(), Stop>) -> bool {
+    match ended {
+        Ok(()) => false,
+        Err(stop) => *stop == Stop::Memory,
+    }
+}
