@@ -328,6 +328,9 @@ def wrong_answer(answer, words, files):
         return 'it had not ended after %d seconds' % LONGEST
     if answer.told:
         return 'standard error has %r' % answer.told[:80]
+    absent = [word for word in words if b'cannot read %s\n' % word.encode() == answer.text and word not in files]
+    if answer.status == 4 and absent:
+        return None
     if answer.status not in STATUSES.get(words[0], (0, 3)) + ((2,) if words[0] == 'query' else ()):
         return shown(answer)
     if answer.status == 0 and not is_answer(answer.text, words, files):
