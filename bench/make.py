@@ -311,7 +311,8 @@ def crossing(rng, count):
     return table('mangle', ['PREROUTING ACCEPT'], before) + filtering('DROP', [], behind)
 
 
-def dropped(rng, count):
+def drawn_fields(rng, count):
+    """Rules of which each tests some of four fields, whatever the others test."""
     def ports():
         first = rng.randrange(65536)
         return '%d:%d' % (first, min(65535, first + rng.randrange(4000)))
@@ -322,7 +323,15 @@ def dropped(rng, count):
         of_tcp = ['-p tcp -m tcp'] if any('port' in test for test in chosen) else []
         return 'FORWARD %s -j %s' % (' '.join(of_tcp + chosen), accept_or_drop(rng))
 
-    return table('mangle', ['FORWARD ACCEPT'], [rule() for _ in range(count)]) + table('filter', ['FORWARD DROP'], [])
+    return [rule() for _ in range(count)]
+
+
+def independent(rng, count):
+    return filtering('DROP', [], drawn_fields(rng, count))
+
+
+def dropped(rng, count):
+    return table('mangle', ['FORWARD ACCEPT'], drawn_fields(rng, count)) + table('filter', ['FORWARD DROP'], [])
 
 
 # Files with the same rules in iptables and ipfw
@@ -641,8 +650,8 @@ def held_openbsd(rng, count):
 
 FILES = {
     'iptables': {family.__name__: family for family in (
-        called, shared, loaded, rewritten, services, unfolded, marked, sourced, mapped, mapped_by_way, balanced, published, crossing, dropped,
-        skipping, sources, decided, applied, bordered)},
+        called, shared, loaded, rewritten, services, unfolded, marked, sourced, mapped, mapped_by_way, balanced, published, crossing, independent,
+        dropped, skipping, sources, decided, applied, bordered)},
     'ipfw': {'skipping': skipping_ipfw, 'sources': sources_ipfw, 'redirected': redirected_ipfw, 'addressed': addressed_ipfw,
              'instanced': instanced_ipfw, 'tagged': tagged_ipfw, 'counted': counted_ipfw, 'kept': kept_ipfw, 'own': own_ipfw,
              'webbed': webbed_ipfw},

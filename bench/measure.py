@@ -1,8 +1,8 @@
 """python3 measure.py FAMILY COUNT SECONDS MEGABYTES COMMAND WORDS..
 
-Runs the command, which is to end with status 0 within these bounds. Its first line is to be `table new N`,
-`table est N`, `dead N`, `execute N..`, `load COUNT N..` or `COUNT N..`; prints a line `FAMILY COUNT seconds megabytes N..`. Exit status 1
-past the bounds, or where the command ends otherwise.
+Runs the command, which is to end with status 0 within these bounds. Its first line is to be `table new N`, `table est N`,
+`query new N`, `query est N`, `dead N`, `execute N..`, `load COUNT N..` or `COUNT N..`; prints a line
+`FAMILY COUNT seconds megabytes N..`. Exit status 1 past the bounds, or where the command ends otherwise.
 """
 
 import resource
@@ -14,7 +14,7 @@ import time
 def counted(first, count):
     """What the first line counts; None where it is another line."""
     words = first.split()
-    for head in (['table', 'new'], ['table', 'est'], ['dead'], ['execute'], ['load', count], [count]):
+    for head in (['table', 'new'], ['table', 'est'], ['query', 'new'], ['query', 'est'], ['dead'], ['execute'], ['load', count], [count]):
         if words[:len(head)] == head and len(words) > len(head):
             return words[len(head):]
     return None

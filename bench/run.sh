@@ -58,6 +58,11 @@ rules published 2.6 500 1000
 rules rewritten 12 4000
 rules blocked 2.3 106000
 rules dropped 3 1280
+asked() { # family rules seconds megabytes words..: what is asked of a table that is far larger
+    python3 "$top/bench/make.py" "$2" "$1" >"$work/file" || exit 1
+    measure "$1" "$2" "$3" "$4" "$program" query iptables "$site" "$work/file" new "${@:5}"
+}
+asked independent 640 0.3 50 dport=80
 python3 "$top/bench/growth.py" listed 15 "$program" "$site" || status=1
 python3 "$top/bench/growth.py" partial 15 "$program" "$site" || status=1
 

@@ -1,5 +1,6 @@
 pub mod Alike
 pub mod Bounding
+pub mod Closing
 pub mod Coursing
 pub mod Dividing
 pub mod Entering

@@ -375,6 +375,38 @@ whole_kept e place ins number c d old mid new sheet tops stays roll used spot go
               ∙ ap (λ cs. future (course e aim p) aim.next cs (class_at old p) p) roll
         ]
 
+-- what becomes of each packet stays, if a class without points is put in the place of another, since no uses of an instruction by them were found
+pub pointless_kept : (e : Errand) (place number : ℕ) (d : Class) (old mid new : Sheet) → IsSheet old → tops_in old ≡ tops_of e.ground.site.now
+    → ((p : List ℕ) → class_at mid p ≡ class_at old p) → mid.roll.classes.items ≡ old.roll.classes.items
+    → IsPut number d mid.roll.classes.items new.roll.classes.items → new.canvas ≡ mid.canvas → new.reached.items ≡ mid.reached.items
+    → AreNoted (says_at place) (among (number ∷ [])) (λ g p. 1) old mid → slice_get mid.reached.items place ≡ Some false → Keeps e old new
+pointless_kept e place number d old mid new sheet tops stays roll put canvas same noted unfound = record {
+  kept = kept;
+  tells = tells_by old.reached.items new.reached.items (IsSaid (says_at place) (among (number ∷ [])) (λ g p. 1) old) (Meets e old)
+      (λ k got m. absurd (pointless m.0 m.2 (one_number (class_at old m.0) m.4)))
+      (tells_equal old.reached.items old.reached.items mid.reached.items new.reached.items (IsSaid (says_at place) (among (number ∷ [])) (λ g p. 1) old) refl same noted.tells);
+}
+  where
+    one_number : (n : ℕ) → among (number ∷ []) n ≡ true → n ≡ number
+    one_number n a = eqb-true n number (or_nothing (nat_eq n number) a)
+      where
+        or_nothing : (b : Bool) → (b || false) ≡ true → b ≡ true
+        or_nothing true h = refl
+        or_nothing false h = h
+
+    pointless : (p : List ℕ) → IsWithin (tops_in old) p → class_at old p ≢ number
+    pointless p inside here =
+        noted.noted place (p, (sheet.used p inside).0, inside, (sheet.used p inside).1, ap (λ b. b || false) (eq-eqb (class_at old p) number here), eq-eqb place place refl) unfound
+
+    kept : (aim : Aim) (p : List ℕ) → IsOpen new.reached.items aim → IsWithin (tops_of e.ground.site.now) p
+        → future (course e aim p) aim.next new.roll.classes.items (class_at new p) p ≡ future (course e aim p) aim.next old.roll.classes.items (class_at old p) p
+    kept aim p free w =
+        let inside : IsWithin (tops_in old) p = subst (λ ts. IsWithin ts p) (sym tops) w in
+        ap (λ k. future (course e aim p) aim.next new.roll.classes.items (painted.value_at k p) p) canvas
+        ∙ ap (λ n. future (course e aim p) aim.next new.roll.classes.items n p) (stays p)
+        ∙ future_same (course e aim p) aim.next mid.roll.classes.items new.roll.classes.items (class_at old p) p (put.1 (class_at old p) (pointless p inside))
+        ∙ ap (λ cs. future (course e aim p) aim.next cs (class_at old p) p) roll
+
 -- what becomes of each packet stays, if a class goes to where its packets come as they are
 pub gone_kept : (e : Errand) (place to number : ℕ) (c : Class) (old new : Sheet) → tops_in old ≡ tops_of e.ground.site.now
     → IsUsed old.roll.classes.items number c → c.spot ≡ At place → IsPut number (record c { spot = At to }) old.roll.classes.items new.roll.classes.items

@@ -1,10 +1,11 @@
 -- How classes are routed, and where packets come in.
-use Rattle.std.proofs.Common.{◌≡◌, ◌≢◌, ℕ, Bool, true, false, cond, ◌||◌, nat_eq, Option, Some, None, option_map, List, [], ◌∷◌, slice_get, inl, inr, refl, sym, ◌∙◌, ap, subst, arith}
+use Rattle.std.proofs.Common.{◌≡◌, ◌≢◌, ℕ, Bool, true, false, cond, nat_eq, Option, Some, None, option_map, List, [], ◌∷◌, slice_get, inl, inr, refl, sym, ◌∙◌, ap, subst, arith}
 use Rattle.std.specs.Option.{option_map_or}
-use Rattle.std.proofs.lemmas.Bool.{cases_Bool, eqb-true, false≢true}
+use Rattle.std.proofs.lemmas.Bool.{cases_Bool, false≢true}
 use Rattle.std.proofs.lemmas.Option.{same_Some}
-use Rattle.fws_box.specs.Sides.{IsWithin}
+use Rattle.fws_box.specs.Sides.{IsWithin, sides_have}
 use Rattle.fws_flat.specs.declared.code.Part.{Part}
+use Rattle.fws_iv.specs.declared.iv.Iv.{Iv}
 use Rattle.fws_net.specs.declared.condition.Lit.{Lit}
 use Rattle.fws_net.specs.declared.outcome.Outcome.{Outcome}
 use Rattle.fws_net.specs.declared.outcome.Outcome.TheVariants as outcomes
@@ -16,8 +17,11 @@ use Rattle.fws_net.specs.Conditions.{holds}
 use Rattle.fws_net.specs.Points.{packet_of, tops_of}
 use Rattle.fws_net.specs.Routes.{is_local}
 use Rattle.fws_net.specs.Transits.{entered}
+use Rattle.fws_tree.specs.declared.mark.Mark.{Mark}
+use Rattle.fws_tree.specs.Marks.{mark_at, sides_of}
 use Rattle.fws_tree.specs.Painted as painted
 use Rattle.fws_exec.specs.declared.going.Going.TheVariants as goings
+use Rattle.fws_exec.specs.declared.progress.Progress.{Progress}
 use Rattle.fws_exec.specs.declared.sheet.Sheet.{Sheet}
 use Rattle.fws_exec.specs.declared.spot.Class.{Class}
 use Rattle.fws_exec.specs.declared.spot.Spot.{Spot}
@@ -28,8 +32,8 @@ use Rattle.fws_exec.specs.Courses.{Aim, IsOpen}
 use Rattle.fws_exec.specs.Classes.{transit_of, meant, future, is_inside, is_at_stage, is_unused}
 use Rattle.fws_exec.specs.Divided.{held, says_of, seen_at, AreMoved, AreNoted, IsSaid}
 use Rattle.fws_exec.specs.Moving.{IsGrown}
-use Rattle.fws_exec.specs.Sheets.{among, tops_in, class_at, stands, IsUsed, Grows, IsSheet, StandsAt, AllAt, AreSent}
-use Rattle.fws_exec.specs.Stages.{nowhere, Becomes, IsWhole, MeetsBefore, through_routing, onward_spot}
+use Rattle.fws_exec.specs.Sheets.{tops_in, class_at, stands, IsUsed, Grows, IsSheet, StandsAt, AllAt, AreSent}
+use Rattle.fws_exec.specs.Stages.{nowhere, coming_in, Becomes, IsWhole, MeetsBefore, through_routing, onward_spot}
 use Rattle.fws_exec.proofs.Moved.{at_grows, away}
 use Rattle.fws_exec.proofs.Passed.{sent_at, sent_away}
 use Rattle.fws_exec.proofs.Putting.{future_of}
@@ -75,14 +79,6 @@ deliver_apart e = false≢true (ap (is_at_stage Arrive) e)
 
 pub send_apart : Before Send ≢ Before Arrive
 send_apart e = false≢true (ap (is_at_stage Arrive) e)
-
--- the only class stands before routing
-pub whole_at : (cs : List Class) → IsWhole cs → (n : ℕ) → among (0 ∷ []) n ≡ true → StandsAt (Before Arrive) cs n
-whole_at cs whole n a = (whole.0, ap (λ k. slice_get cs k) (eqb-true n 0 (or_nothing (nat_eq n 0) a)) ∙ ap (λ ds. slice_get ds 0) whole.1)
-  where
-    or_nothing : (b : Bool) → (b || false) ≡ true → b ≡ true
-    or_nothing true h = refl
-    or_nothing false h = h
 
 -- all classes before routing are routed
 pub routed : (site : Site) (state : State) (part : Part) (lits : List Lit) (A : ℕ → Bool) (old mid new : Sheet) → IsSheet old → tops_in old ≡ tops_of site
@@ -138,21 +134,62 @@ routed_outside f A old mid new outside grown sent n = elim (cases_Bool (A n)) [
     there None = refl
     there (Some c) = onward_outside f
 
--- the packets of the host are sent, and all others arrive
-pub entered_meant : (site : Site) (state : State) (part : Part) (lits : List Lit) (A : ℕ → Bool) (old new : Sheet) (p : List ℕ) (next : Stage → Transit → Outcome) → IsWithin (tops_in old) p → A 0 ≡ true → class_at old p ≡ 0
-    → (whole : IsWhole old.roll.classes.items) → holds lits (seen_at site state part whole.0 p) ≡ nat_eq (packet_of p).entry 0
+-- a class that stands elsewhere than before arrival doesn't come in
+not_coming : (next : Stage → Transit → Outcome) (p : List ℕ) (s : Spot) (t : Transit) → (s ≡ Before Arrive → ⊥) → meant nowhere next s t ≡ meant nowhere (coming_in next p) s t
+not_coming next p Unused t h = refl
+not_coming next p Dropped t h = refl
+not_coming next p (At place) t h = refl
+not_coming next p (Before Arrive) t h = absurd (h refl)
+not_coming next p (Before Deliver) t h = refl
+not_coming next p (Before Forward) t h = refl
+not_coming next p (Before Send) t h = refl
+
+-- packets before arrival come in: those of the host are sent, and all others arrive
+pub came_in : (site : Site) (state : State) (part : Part) (lits : List Lit) (A : ℕ → Bool) (old new : Sheet) (p : List ℕ) (next : Stage → Transit → Outcome) → IsSheet old → IsWithin (tops_in old) p
+    → ((g : Progress) → holds lits (seen_at site state part g p) ≡ nat_eq (packet_of p).entry 0)
+    → AllAt (Before Arrive) old.roll.classes.items A → ((n : ℕ) → StandsAt (Before Arrive) old.roll.classes.items n → A n ≡ true)
     → Grows old.roll.classes.items new.roll.classes.items → AreMoved (goings.To (Before Send)) A (held site state part lits) old new
-    → future nowhere next new.roll.classes.items (class_at new p) p ≡ cond (nat_eq (packet_of p).entry 0) (next Send (entered (packet_of p))) (next Arrive (entered (packet_of p)))
-entered_meant site state part lits A old new p next w called first whole test grows moved =
-    let c : Class = record { spot = Before Arrive; progress = whole.0 } in
+    → future nowhere next new.roll.classes.items (class_at new p) p ≡ future nowhere (coming_in next p) old.roll.classes.items (class_at old p) p
+came_in site state part lits A old new p next sheet w test stand all grows moved =
+    let c = (sheet.used p w).0 in
+    let used = (sheet.used p w).1 in
+    elim (moved p c w used) [
+      | inl h ↦ (
+          let spot : c.spot ≡ Before Arrive = ap (λ k. k.spot) (same_Some c (record { spot = Before Arrive; progress = (stand (class_at old p) h.0).0 }) (sym used.0 ∙ (stand (class_at old p) h.0).1)) in
+          future_of nowhere next new.roll.classes.items (class_at new p) h.2.0 p h.2.1.0
+          ∙ h.2.2.1 nowhere next p
+          ∙ ap (λ b. cond b (next Send (transit_of c.progress p)) (next Arrive (transit_of c.progress p))) (sym (sym (test c.progress) ∙ some_held (holds lits (seen_at site state part c.progress p)) h.1))
+          ∙ sym (future_of nowhere (coming_in next p) old.roll.classes.items (class_at old p) c p used.0 ∙ ap (λ s. meant nowhere (coming_in next p) s (transit_of c.progress p)) spot))
+      | inr h ↦ elim (cases_Bool (A (class_at old p))) [
+        | inl a ↦ (
+            let spot : c.spot ≡ Before Arrive = ap (λ k. k.spot) (same_Some c (record { spot = Before Arrive; progress = (stand (class_at old p) a).0 }) (sym used.0 ∙ (stand (class_at old p) a).1)) in
+            ap (λ n. future nowhere next new.roll.classes.items n p) h.1
+            ∙ future_of nowhere next new.roll.classes.items (class_at old p) c p (grows (class_at old p) c used).0
+            ∙ ap (λ s. meant nowhere next s (transit_of c.progress p)) spot
+            ∙ ap (λ b. cond b (next Send (transit_of c.progress p)) (next Arrive (transit_of c.progress p))) (sym (sym (test c.progress) ∙ none_held (holds lits (seen_at site state part c.progress p)) (h.0 a)))
+            ∙ sym (future_of nowhere (coming_in next p) old.roll.classes.items (class_at old p) c p used.0 ∙ ap (λ s. meant nowhere (coming_in next p) s (transit_of c.progress p)) spot))
+        | inr a ↦ ap (λ n. future nowhere next new.roll.classes.items n p) h.1
+            ∙ future_of nowhere next new.roll.classes.items (class_at old p) c p (grows (class_at old p) c used).0
+            ∙ not_coming next p c.spot (transit_of c.progress p) (λ e. false≢true (sym a ∙ all (class_at old p) (c.progress, used.0 ∙ ap (λ (s : Spot). Some (record { spot = s; progress = c.progress })) e)))
+            ∙ sym (future_of nowhere (coming_in next p) old.roll.classes.items (class_at old p) c p used.0)
+      ]
+    ]
+
+-- the points on the sides stand before arrival, and all others are dropped
+pub admitted : (sides : List (List Iv)) (m : Mark) (A : ℕ → Bool) (old new : Sheet) (p : List ℕ) (next : Stage → Transit → Outcome) → IsWithin (tops_in old) p → A 0 ≡ true → class_at old p ≡ 0
+    → (whole : IsWhole Dropped old.roll.classes.items) → sides_of m ≡ sides → m.label ≡ 1
+    → Grows old.roll.classes.items new.roll.classes.items → AreMoved (goings.To (Before Arrive)) A (λ g q. mark_at (m ∷ []) 0 q) old new
+    → future nowhere next new.roll.classes.items (class_at new p) p ≡ cond (sides_have sides p) (next Arrive (entered (packet_of p))) outcomes.Drop
+admitted sides m A old new p next w called first whole same one grows moved =
+    let c : Class = record { spot = Dropped; progress = whole.0 } in
     let used : IsUsed old.roll.classes.items 0 c = (ap (λ cs. slice_get cs 0) whole.1, refl) in
+    let made : mark_at (m ∷ []) 0 p ≡ cond (sides_have sides p) 1 0 = ap (λ ss. cond (sides_have ss p) m.label 0) same ∙ ap (λ (l : ℕ). cond (sides_have sides p) l 0) one in
     elim (moved p c w (subst (λ n. IsUsed old.roll.classes.items n c) (sym first) used)) [
       | inl h ↦ future_of nowhere next new.roll.classes.items (class_at new p) h.2.0 p h.2.1.0
           ∙ h.2.2.1 nowhere next p
-          ∙ ap (λ t. next Send t) (whole.2 p)
-          ∙ ap (λ b. cond b (next Send (entered (packet_of p))) (next Arrive (entered (packet_of p)))) (sym (sym test ∙ some_held (holds lits (seen_at site state part whole.0 p)) h.1))
+          ∙ ap (λ t. next Arrive t) (whole.2 p)
+          ∙ ap (λ b. cond b (next Arrive (entered (packet_of p))) outcomes.Drop) (sym (some_held (sides_have sides p) (λ e. h.1 (made ∙ e))))
       | inr h ↦ ap (λ n. future nowhere next new.roll.classes.items n p) (h.1 ∙ first)
           ∙ future_of nowhere next new.roll.classes.items 0 c p (grows 0 c used).0
-          ∙ ap (λ t. next Arrive t) (whole.2 p)
-          ∙ ap (λ b. cond b (next Send (entered (packet_of p))) (next Arrive (entered (packet_of p)))) (sym (sym test ∙ none_held (holds lits (seen_at site state part whole.0 p)) (h.0 (ap A first ∙ called))))
+          ∙ ap (λ b. cond b (next Arrive (entered (packet_of p))) outcomes.Drop) (sym (none_held (sides_have sides p) (sym made ∙ h.0 (ap A first ∙ called))))
     ]

@@ -15,7 +15,7 @@ use Rattle.fws_exec.specs.declared.spot.Stage.TheVariants.{Arrive, Deliver, Forw
 use Rattle.fws_exec.specs.declared.turn.Turn.{Turn}
 use Rattle.fws_exec.specs.declared.turn.Turn.TheVariants.{Enter, Leave}
 use Rattle.fws_flat.specs.declared.code.Part.{Part}
-use Rattle.fws_exec.specs.Classes.{kind_of, meant, transit_of, future, same_stage, is_inside, is_before, is_unused}
+use Rattle.fws_exec.specs.Classes.{kind_of, meant, transit_of, untouched, future, same_stage, is_inside, is_before, is_unused}
 use Rattle.fws_exec.specs.Courses.{fate, left, course, Aim}
 use Rattle.fws_box.specs.Sides.{IsWithin}
 use Rattle.fws_tree.specs.declared.canvas.Canvas.{Canvas}
@@ -58,6 +58,10 @@ enter_meant e aim p (Before other) g h = by (same_stage e.stage other) (same_sta
     by true same = ap (λ k. part_fate e.code.now e.ground.site.now (packet_of p) (kind_of e.ground.state p) aim.sought e.part (aim.next k) (transit_of g p)) (sym (same refl))
     by false same = refl
 
+-- the class behind a part, by the verdict
+abbrev behind : Stage → Progress → Bool → Class
+behind stage g verdict = cond {A = Class} verdict (record { spot = Before stage; progress = g }) (record { spot = Dropped; progress = untouched })
+
 -- what becomes of a class that leaves
 leave_meant : (e : Errand) (aim : Aim) (p : List ℕ) (s : Spot) (g : Progress) → is_before e.part.past s ≡ false
     → meant nowhere aim.next (turned (Leave e.stage) (record { spot = s; progress = g })).spot (transit_of (turned (Leave e.stage) (record { spot = s; progress = g })).progress p)
@@ -72,7 +76,7 @@ leave_meant e aim p (At place) g h =
     none_left : (past place : ℕ) → nat_lt place past ≡ false → past - place ≡ 0
     none_left past place h = let le : past ≤ place = grind (arith, nat_tests) in omega arith
 
-    by : (b : Bool) → meant nowhere aim.next (cond b (Before e.stage) Dropped) (transit_of g p) ≡ left (aim.next e.stage) (cond b (Some (transit_of g p)) None)
+    by : (b : Bool) → meant nowhere aim.next (behind e.stage g b).spot (transit_of (behind e.stage g b).progress p) ≡ left (aim.next e.stage) (cond b (Some (transit_of g p)) None)
     by true = refl
     by false = refl
 
@@ -95,7 +99,7 @@ leave_inside stage Dropped g = refl
 leave_inside stage (Before other) g = refl
 leave_inside stage (At place) g = by g.verdict
   where
-    by : (b : Bool) → is_inside (cond b (Before stage) Dropped) ≡ false
+    by : (b : Bool) → is_inside (behind stage g b).spot ≡ false
     by true = refl
     by false = refl
 
@@ -153,7 +157,7 @@ leave_unused stage Dropped g = refl
 leave_unused stage (Before other) g = refl
 leave_unused stage (At place) g = by g.verdict
   where
-    by : (b : Bool) → is_unused (cond b (Before stage) Dropped) ≡ false
+    by : (b : Bool) → is_unused (behind stage g b).spot ≡ false
     by true = refl
     by false = refl
 

@@ -1,5 +1,5 @@
 -- Classes of packets: what they have in common, and what becomes of a packet of a class.
-use Rattle.std.specs.Prelude.{ℕ, ◌+◌, Bool, true, false, nat_eq, nat_lt, Option, Some, None, List, slice_index, slice_get, if◌then◌else◌}
+use Rattle.std.specs.Prelude.{ℕ, ◌+◌, Bool, true, false, nat_eq, nat_lt, Option, Some, None, List, [], slice_index, slice_get, if◌then◌else◌}
 use Rattle.std.specs.Option.{option_map_or}
 use Rattle.fws_net.specs.declared.packet.State.{State}
 use Rattle.fws_net.specs.declared.packet.State.TheVariants as states
@@ -10,6 +10,7 @@ use Rattle.fws_net.specs.declared.outcome.End.{End}
 use Rattle.fws_net.specs.declared.outcome.Outcome.{Outcome}
 use Rattle.fws_net.specs.declared.outcome.Outcome.TheVariants as outcomes
 use Rattle.fws_net.specs.declared.transit.Transit.{Transit}
+use Rattle.fws_net.specs.Transits.{nothing_written}
 use Rattle.fws_flat.specs.declared.step.Step.{Step}
 use Rattle.fws_flat.specs.declared.step.Step.TheVariants.{Leave, Onwards}
 use Rattle.fws_scene.specs.declared.scene.Standing.{Standing}
@@ -57,6 +58,10 @@ bare_scene g = record {
 -- the packet of a point on its way, if it is of a class that came so far
 abbrev pub transit_of : Progress → List ℕ → Transit
 transit_of g p = record { packet = standing_packet (bare_scene g) p; tags = g.tags; verdict = g.verdict; wrote = g.wrote }
+
+-- packets to which no rule did anything
+abbrev pub untouched : Progress
+untouched = record { wrote = nothing_written; src_tracked = false; dst_tracked = false; tags = []; verdict = true }
 
 -- What becomes of a class
 

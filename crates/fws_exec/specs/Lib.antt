@@ -1,4 +1,5 @@
 pub mod Classes
+pub mod Closed
 pub mod Courses
 pub mod Divided
 pub mod Goings

@@ -1,12 +1,17 @@
 -- Which instructions some packet uses.
 use Rattle.std.specs.Prelude.{◌≡◌, ℕ, Bool, true, false, Some, List, length, slice_get}
-use Rattle.fws_box.specs.Sides.{IsWithin}
+use Rattle.fws_box.specs.Sides.{IsWithin, sides_have}
+use Rattle.fws_iv.specs.declared.iv.Iv.{Iv}
 use Rattle.fws_flat.specs.declared.code.Flat.{Flat}
 use Rattle.fws_flat.specs.Uses.{uses}
 use Rattle.fws_net.specs.declared.packet.State.{State}
 use Rattle.fws_net.specs.declared.site.Site.{Site}
 use Rattle.fws_net.specs.Points.{packet_of, tops_of}
 use Rattle.fws_exec.specs.Classes.{kind_of}
+
+-- the sides have each point of the site
+abbrev pub HaveAll : Site → List (List Iv) → Type 0
+HaveAll site sides = (p : List ℕ) → IsWithin (tops_of site) p → sides_have sides p ≡ true
 
 -- the packet of some point of the site uses the instruction with this number
 abbrev pub IsReached : Flat → Site → State → ℕ → Type 0

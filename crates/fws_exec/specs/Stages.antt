@@ -1,5 +1,5 @@
 -- What becomes of packets between the parts.
-use Rattle.std.specs.Prelude.{◌≡◌, ℕ, Bool, true, false, Some, List, [], ◌∷◌, if◌then◌else◌}
+use Rattle.std.specs.Prelude.{◌≡◌, ℕ, Bool, true, false, nat_eq, Some, List, [], ◌∷◌, if◌then◌else◌}
 use Rattle.fws_box.specs.Sides.{IsWithin}
 use Rattle.fws_net.specs.declared.outcome.Outcome.{Outcome}
 use Rattle.fws_net.specs.declared.outcome.Outcome.TheVariants as outcomes
@@ -22,16 +22,16 @@ use Rattle.fws_exec.specs.declared.spot.Class.{Class}
 use Rattle.fws_exec.specs.declared.spot.Spot.{Spot}
 use Rattle.fws_exec.specs.declared.spot.Spot.TheVariants.{Dropped, At, Before}
 use Rattle.fws_exec.specs.declared.spot.Stage.{Stage}
-use Rattle.fws_exec.specs.declared.spot.Stage.TheVariants.{Arrive, Deliver, Forward}
+use Rattle.fws_exec.specs.declared.spot.Stage.TheVariants.{Arrive, Deliver, Forward, Send}
 use Rattle.fws_exec.specs.declared.turn.Turn.{Turn}
 use Rattle.fws_exec.specs.declared.turn.Turn.TheVariants.{Enter, Leave}
-use Rattle.fws_exec.specs.Classes.{kind_of, transit_of, future, same_stage, is_at_stage}
+use Rattle.fws_exec.specs.Classes.{kind_of, transit_of, untouched, future, same_stage, is_at_stage}
 use Rattle.fws_exec.specs.Courses.{aim_at, caught, fate, Aim, IsOpen, Tells}
 use Rattle.fws_exec.specs.Sheets.{class_at}
 
--- a class that leaves a part by its end: the verdict so far decides
+-- a class that leaves a part by its end: the verdict so far decides, and of what rules did to packets that are dropped nothing is kept
 abbrev pub class_behind : Stage → Class → Spot → Class
-class_behind stage c (At place) = record c { spot = if c.progress.verdict then Before stage else Dropped }
+class_behind stage c (At place) = if c.progress.verdict then record c { spot = Before stage } else record { spot = Dropped; progress = untouched }
 class_behind stage c _ = c
 
 -- a class that enters a part of a stage with the verdict with which it begins, or leaves it
@@ -39,9 +39,9 @@ abbrev pub turned : Turn → Class → Class
 turned (Enter part stage) c = if is_at_stage stage c.spot then record { spot = At part.first; progress = record c.progress { verdict = part.end } } else c
 turned (Leave stage) c = class_behind stage c c.spot
 
--- the only class is that of all packets, before they arrive, to which no rule did anything
-abbrev pub IsWhole : List Class → Type 0
-IsWhole classes = (g : Progress) × (classes ≡ record { spot = Before Arrive; progress = g } ∷ []) × ((p : List ℕ) → transit_of g p ≡ entered (packet_of p))
+-- the only class is that of all packets, at this spot, to which no rule did anything
+abbrev pub IsWhole : Spot → List Class → Type 0
+IsWhole spot classes = (g : Progress) × (classes ≡ record { spot = spot; progress = g } ∷ []) × ((p : List ℕ) → transit_of g p ≡ entered (packet_of p))
 
 -- between parts no packet stands at an instruction
 abbrev pub nowhere : ℕ → Transit → Outcome
@@ -82,6 +82,11 @@ through_parts code site state stage parts a p other t =
 abbrev pub through_routing : Site → Aim → List ℕ → Stage → Transit → Outcome
 through_routing site a p Arrive t = if is_local site t.packet.dst then a.next Deliver t else if site.forwarding then a.next Forward t else outcomes.Drop
 through_routing site a p other t = a.next other t
+
+-- what becomes of a packet that stands before arrival until it comes in: the host's own is sent, any other arrives
+abbrev pub coming_in : (Stage → Transit → Outcome) → List ℕ → Stage → Transit → Outcome
+coming_in next p Arrive t = if nat_eq (packet_of p).entry 0 then next Send t else next Arrive t
+coming_in next p other t = next other t
 
 -- where a packet goes on that isn't delivered
 abbrev pub onward_spot : Bool → Spot

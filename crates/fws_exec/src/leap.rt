@@ -81,6 +81,10 @@ impl Errand<'_, '_> {
         ensures { IfSome result (λ to. (place < to) × (to ≤ self.now.part.past) × GoesOn self.now reached.now look.now progress.now place to) }
     {
         let ins = &self.code[place as usize];
+        // Tags and ends that rules wrote cost least to ask for, and tell the most.
+        if progress.fails(&ins.cond) {
+            return Some(place + 1);
+        }
         match look.holds(progress, &ins.cond) {
             Truth::Fails => Some(place + 1),
             Truth::Holds => free_jump(reached, ins.act, place),
@@ -142,7 +146,7 @@ impl Errand<'_, '_> {
         let limit = run_limit(place, self.part.past);
         let end = self.onward(reached, progress, look, place, limit);
         let start = self.run_start(place, end);
-        if start == place && end >= limit {
+        if start == end || start == place && end >= limit {
             return end;
         }
         self.onward(reached, progress, look, place, start)

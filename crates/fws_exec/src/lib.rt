@@ -3,6 +3,7 @@
 
 mod behind;
 mod called;
+mod closed;
 mod divide;
 mod errand;
 mod execution;
@@ -37,6 +38,6 @@ mod turn;
 mod views;
 mod walk;
 
-pub use execution::execute_tree;
+pub use execution::{execute_tree, execute_within};
 pub use reaching::reach;
 pub use rows::execute;

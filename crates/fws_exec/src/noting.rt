@@ -27,7 +27,8 @@ pub(crate) fn none_reached(alloc: Global, places: usize) -> Result<Vec<bool>, Me
 
 /// Whether it is asked for uses of the instruction at the place, and none was found so far.
 pub(crate) fn is_sought(reached: &[bool], place: u32) -> bool
-    ensures { result ≡ false → slice_get reached.now place ≢ Some false }
+    ensures sought { result ≡ true → slice_get reached.now place ≡ Some false }
+    ensures found { result ≡ false → slice_get reached.now place ≢ Some false }
 {
     match reached.get(place as usize) {
         Some(reached) => !*reached,

@@ -16,6 +16,7 @@ ghost use Rattle.fws_exec.specs.Views.{is_tagless};
 use crate::errand::Errand;
 use crate::going::Going;
 use crate::noting::is_sought;
+use crate::progress::Progress;
 use crate::sheet::Sheet;
 use crate::spot::{Class, Spot};
 use fws_flat::Ins;
@@ -173,7 +174,8 @@ impl Sheet {
         Ok(())
     }
 
-    /// The class with this number, if it stands at the place, passes the instruction there as a whole.
+    /// The class with this number, if it stands at the place, passes the instruction there as a whole. If it is asked for uses of the
+    /// instruction and none is found, the class has no points: it is dropped, so that it isn't asked for its points again.
     fn pass_whole(
         &mut self,
         alloc: Global,
@@ -195,13 +197,19 @@ impl Sheet {
             return Ok(());
         }
         self.note_whole(alloc, number, place)?;
+        if is_sought(self.reached.as_slice(), place) {
+            // None of its points uses the instruction, so it has none.
+            self.put(number, Progress::entered(alloc).standing(Spot::Dropped))?;
+            return Ok(());
+        }
         let ins = &errand.code[place as usize];
         let class = self.roll.gone(alloc, errand.going(place, ins), number, 1)?;
         self.put(number, class)?;
         Ok(())
     }
 
-    /// The classes with these numbers, which stand at the place, pass the instruction there as a whole.
+    /// The classes with these numbers, which stand at the place, pass the instruction there as a whole. The latest go first: they
+    /// are likely to have points, and once one with a point has passed, nobody asks whether the others use the instruction.
     fn pass_always(
         &mut self,
         alloc: Global,
@@ -219,7 +227,7 @@ impl Sheet {
         ensures kept { OnOk result (Keeps errand.now self.old self.new) }
         ensures tops { tops_in self.new ≡ tops_in self.old }
     {
-        for number in numbers {
+        for number in numbers.iter().rev() {
             self.pass_whole(alloc, errand, *number, place)?;
         }
         Ok(())

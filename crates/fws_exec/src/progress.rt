@@ -7,7 +7,7 @@ ghost use Rattle.fws_net.specs.Points.{packet_of};
 ghost use Rattle.fws_net.specs.Transits.{entered, with_verdict, with_wrote, with_src, with_dst, with_tracked_src, with_tracked_dst, with_tag, with_only_tag, without_tag, outcome_of};
 ghost use Rattle.fws_flat.specs.Walk.{sees};
 ghost use Rattle.fws_scene.specs.Scenes.{view_of};
-ghost use Rattle.fws_exec.specs.Classes.{kind_of, standing_by, transit_of};
+ghost use Rattle.fws_exec.specs.Classes.{kind_of, standing_by, transit_of, untouched};
 
 use fws_flat::Part;
 use fws_net::{End, Outcome, Rewrite, State};
@@ -74,7 +74,8 @@ fn tags_without(alloc: Global, tags: &[u32], tag: u32) -> Result<Items<u32>, Mem
 impl Progress {
     /// Packets enter without tags, accepted so far, and with nothing written.
     pub(crate) fn entered(alloc: Global) -> Progress
-        ensures { (p : List ℕ) → transit_of result p ≡ entered (packet_of p) }
+        ensures is { result ≡ untouched }
+        ensures transit { (p : List ℕ) → transit_of result p ≡ entered (packet_of p) }
     {
         Progress {
             wrote: Rewrite::nothing(),

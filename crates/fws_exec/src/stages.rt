@@ -48,10 +48,11 @@ impl Sheet {
         ensures between { OnOk result ((n : ℕ) → stands is_inside self.new.roll.classes.items n ≡ false) }
         ensures meant { OnOk result (Becomes errand.now.ground.site.now self.old self.new (through_part errand.now.code.now errand.now.ground.site.now errand.now.ground.state errand.now.stage errand.now.part)) }
     {
-        self.turn(Turn::Enter(errand.part, errand.stage));
+        self.turn(alloc, Turn::Enter(errand.part, errand.stage));
         self.walk(alloc, errand)?;
-        self.turn(Turn::Leave(errand.stage));
+        self.turn(alloc, Turn::Leave(errand.stage));
         self.merge(alloc, Spot::Before(errand.stage))?;
+        self.merge(alloc, Spot::Dropped)?;
         Ok(())
     }
 

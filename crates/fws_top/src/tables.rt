@@ -1,7 +1,7 @@
 //! The texts that show what code does.
 
 ghost use Rattle.std.specs.Prelude.{◌≡◌, ℕ, List, Some, All, true, IfOk};
-ghost use Rattle.fws_box.specs.Sides.{IsWithin};
+ghost use Rattle.fws_box.specs.Sides.{IsWithin, sides_have};
 ghost use Rattle.fws_events.specs.Runs.{IsEventOf};
 ghost use Rattle.fws_events.specs.RunText.{run_text};
 ghost use Rattle.fws_flat.specs.Soundness.{flat_ok};
@@ -11,7 +11,7 @@ ghost use Rattle.fws_net.specs.declared.packet.Packet.{Packet};
 ghost use Rattle.fws_net.specs.Points.{tops_of};
 ghost use Rattle.fws_net.specs.RegularWalks.{IsRegularWalk};
 ghost use Rattle.fws_net.specs.Routes.{IsSound};
-ghost use Rattle.fws_top.specs.Asks.{are_asks};
+ghost use Rattle.fws_top.specs.Asks.{are_asks, asked_verdict, asks_have};
 ghost use Rattle.fws_top.specs.Judged.{Policy};
 ghost use Rattle.fws_top.specs.Stops.{Does, DoesRegularly, IsToldBy};
 ghost use Rattle.fws_top.specs.Tables.{IsAskedTable, IsCompared, IsTable};
@@ -28,11 +28,11 @@ use crate::placed::PlacedCode;
 use crate::policy::PolicyCode;
 use fws_dead::{put_comparison, same};
 use fws_events::{Event, put_run};
-use fws_exec::execute_tree;
+use fws_exec::{execute_tree, execute_within};
 use fws_flat::Flat;
 use fws_net::{Conn, Outcome, Packet, Site, State};
 use fws_num::{Memory, Text};
-use fws_table::{put_table, query};
+use fws_table::{Ask, put_table, query};
 use fws_trace::trace;
 use fws_tree::{Tables, Tree};
 use fws_why::why;
@@ -62,23 +62,25 @@ pub(crate) fn table(alloc: Global, site: &Site, code: &Flat, state: State) -> Re
     Ok(text)
 }
 
-/// The part of the table of a tree for which the words ask.
-fn asked_part(
+/// The part of the table that is asked for. Packets that aren't asked for are left out before the code is executed, so that the work
+/// is that of the part.
+fn asked_text(
     alloc: Global,
     site: &Site,
+    code: &Flat,
     state: State,
-    tree: &Tree<Outcome>,
-    asks: &[Text],
+    ask: &Ask,
 ) -> Result<Text, Memory>
     requires sound { IsSound site.now }
-    requires tops { tree.now.0 ≡ tops_of site.now }
-    requires spelled { are_asks asks.now ≡ true }
-    ensures { (walk : Packet → Kind → Outcome)
-        → ((p : List ℕ) → IsWithin (tops_of site.now) p → value tree.now.1 p ≡ Some (walked_at walk state p))
-        → IfOk result (IsAskedTable site.now state asks.now walk) }
+    requires ok { flat_ok code.now ≡ true }
+    ensures { (asks : List (List ℕ)) (walk : Packet → Kind → Outcome)
+        → ((p : List ℕ) → IsWithin (tops_of site.now) p → sides_have ask.now.sides p ≡ asks_have site.now asks p)
+        → ask.now.verdict ≡ asked_verdict asks
+        → Does code.now site.now walk
+        → IfOk result (IsAskedTable site.now state asks walk) }
 {
-    let ask = read_ask(alloc, site, asks)?;
-    let text = query(alloc, site, state, tree, &ask)?;
+    let tree = execute_within(alloc, code, site, state, &ask.sides)?;
+    let text = query(alloc, site, state, &tree, ask)?;
     Ok(text)
 }
 
@@ -95,8 +97,8 @@ pub(crate) fn asked_table(
     requires spelled { are_asks asks.now ≡ true }
     ensures { (walk : Packet → Kind → Outcome) → Does code.now site.now walk → IfOk result (IsAskedTable site.now state asks.now walk) }
 {
-    let tree = tree_of(alloc, site, code, state)?;
-    asked_part(alloc, site, state, &tree, asks)
+    let ask = read_ask(alloc, site, asks)?;
+    asked_text(alloc, site, code, state, &ask)
 }
 
 /// The tables of what code makes of packets: of new ones, and of those of connections.

@@ -4,8 +4,8 @@ use Rattle.fws_exec.specs.Reaching.{IsReached, IsUnreached}
 use Rattle.fws_exec.proofs.Meaning.{same_flat}
 use Rattle.fws_exec.proofs.reaching.reach_code.Goals as goal
 
-pub executed-requires-clause-ok : goal.executed-requires-clause-ok
-executed-requires-clause-ok c =
+pub reached-requires-clause-ok : goal.reached-requires-clause-ok
+reached-requires-clause-ok c =
     subst (λ f. flat_ok f ≡ true) (sym (same_flat (record c.args.f.now { code = c.args.code.now }) c.args.code.now c.as_slice.result.now c.as_slice-2.result.now c.as_slice-3.result.now c.as_slice-4.result.now refl c.as_slice.ensures c.as_slice-2.ensures c.as_slice-3.ensures c.as_slice-4.ensures)) c.requires.ok
 
 pub returns : goal.returns

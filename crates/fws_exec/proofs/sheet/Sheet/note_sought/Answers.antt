@@ -10,4 +10,4 @@ pub returns-then-not-is_sought-clause-noted : goal.returns-then-not-is_sought-cl
 returns-then-not-is_sought-clause-noted c =
     noted_known (says_at c.args.place) (among c.args.numbers.now) (λ g p. mark_at c.args.marks.now 0 p) c.args.self.now
     (λ k g p said. subst (λ j. slice_get c.args.self.now.reached.items j ≢ Some false) (sym (eqb-true k c.args.place (and_parts (not (nat_eq (mark_at c.args.marks.now 0 p) 0)) (nat_eq k c.args.place) said).1))
-    (subst (λ xs. slice_get xs c.args.place ≢ Some false) c.as_slice.ensures.value (c.is_sought.ensures c.if-not-is_sought.true)))
+    (subst (λ xs. slice_get xs c.args.place ≢ Some false) c.as_slice.ensures.value (c.is_sought.ensures.found c.if-not-is_sought.true)))

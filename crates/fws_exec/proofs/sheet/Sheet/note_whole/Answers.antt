@@ -13,7 +13,7 @@ pub returns-then-not-is_sought-clause-noted : goal.returns-then-not-is_sought-cl
 returns-then-not-is_sought-clause-noted c =
     noted_known (says_at c.args.place) (among (c.args.number ∷ [])) (λ g p. 1) c.args.self.now
     (λ k g p said. subst (λ j. slice_get c.args.self.now.reached.items j ≢ Some false) (sym (eqb-true k c.args.place said))
-    (subst (λ xs. slice_get xs c.args.place ≢ Some false) c.as_slice.ensures.value (c.is_sought.ensures c.if-not-is_sought.true)))
+    (subst (λ xs. slice_get xs c.args.place ≢ Some false) c.as_slice.ensures.value (c.is_sought.ensures.found c.if-not-is_sought.true)))
 
 pub returns-clause-noted : goal.returns-clause-noted
 returns-clause-noted c =
