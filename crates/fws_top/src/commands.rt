@@ -18,11 +18,12 @@ ghost use Rattle.fws_top.specs.Stops.{Answered, Does, DoesRegularly, IsToldBy, S
 use crate::answer::{Answer, Stop};
 use crate::lang::{SourceLang, TargetLang};
 use crate::loading::loaded;
+use crate::noting::origin_of;
 use crate::placed::PlacedCode;
 use crate::policy::PolicyCode;
 use crate::steps::{
     generated_site, generated_source, know_entries, take_conns, take_events, take_packets,
-    take_placed_code, take_placed_diagram, take_site, take_source,
+    take_placed_code, take_placed_diagram, take_site, take_source, take_source_text,
 };
 use crate::tables::{asked_table, compared, explained, replayed, table, traced};
 use crate::translating::translated;
@@ -125,8 +126,9 @@ fn translate_at<S: Shelf>(
     ensures answered { IfOk result (λ answer. Answered (translation_part from to site.now file_name.now) (S.told shelf.old) (S.faults shelf.old) (S.faults shelf.new) answer.status answer.text) }
     ensures stopped { IfErr result (Stopped (translation_part from to site.now file_name.now) (S.told shelf.old) (S.faults shelf.old) (S.faults shelf.new)) }
 {
-    let code = take_source(alloc, shelf, from, site, file_name)?;
-    let answer = translated(alloc, to, site, &code.flat)?;
+    let (bytes, code) = take_source_text(alloc, shelf, from, site, file_name)?;
+    let origin = origin_of(alloc, from, site, bytes.as_slice(), &code.flat)?;
+    let answer = translated(alloc, to, site, &code.flat, &origin)?;
     Ok(answer)
 }
 

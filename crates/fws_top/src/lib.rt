@@ -15,6 +15,7 @@ mod language;
 mod laws;
 mod lines;
 mod loading;
+mod noting;
 mod openbsd;
 mod pf;
 mod placed;

@@ -129,6 +129,25 @@ pub(crate) fn take_source<S: Shelf>(
     Ok(code)
 }
 
+/// The same, with the bytes of the file.
+pub(crate) fn take_source_text<S: Shelf>(
+    alloc: Global,
+    shelf: &mut S,
+    lang: SourceLang,
+    site: &Site,
+    name: &[u8],
+) -> Result<(Text, PolicyCode), Stop>
+    requires { IsSound site.now }
+    ensures same { S.told shelf.new ≡ S.told shelf.old }
+    ensures quiet { OnOk result (S.faults shelf.new ≡ S.faults shelf.old) }
+    ensures code { IfOk result (λ x. IsTakenCode (source_plan lang site.now name.now) (S.told shelf.old) site.now x.1) }
+    ensures stopped { IfErr result (StopsAt (source_plan lang site.now name.now) (S.told shelf.old) (S.faults shelf.old) (S.faults shelf.new)) }
+{
+    let bytes = take(alloc, shelf, name)?;
+    let code = judge_source(alloc, lang, site, name, bytes.as_slice())?;
+    Ok((bytes, code))
+}
+
 /// The diagram of the configuration that the bytes spell in a language, in which its rules have places, or its refusal for a line.
 fn judge_placed(
     alloc: Global,
@@ -170,7 +189,7 @@ pub(crate) fn take_placed_diagram<S: Shelf>(
 }
 
 /// The code of the configuration that the bytes spell in a language, which tells of its rules, or its refusal.
-fn judge_placed_code(
+pub(crate) fn judge_placed_code(
     alloc: Global,
     lang: SourceLang,
     site: &Site,

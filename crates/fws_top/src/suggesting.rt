@@ -13,7 +13,9 @@ ghost use Rattle.fws_top.specs.Stops.{Does, DoesRegularly, IsUnfolded};
 ghost use Rattle.fws_top.specs.Translations.{EmitsBy, GivesFates};
 ghost use Rattle.fws_tree.specs.Regular.{AreRegular};
 
+use crate::lang::TargetLang;
 use crate::language::Language;
+use crate::noting::{Origin, evidence_of, with_notes};
 use crate::source::Source;
 use crate::tables::tables;
 use fws_dead::{Compare, same};
@@ -138,7 +140,7 @@ fn spells_it<L: Source>(
 
 /// The text, if it is right: it spells a configuration that keeps state where it accepts, can be unfolded, and gives every packet,
 /// new or established, the fate that the tables of a policy give it.
-fn checked<L: Source>(
+pub(crate) fn checked<L: Source>(
     alloc: Global,
     site: &Site,
     policy: &Tables,
@@ -152,12 +154,14 @@ fn checked<L: Source>(
     if is_right { Ok(Some(text)) } else { Ok(None) }
 }
 
-/// The first suggestion that is right, if there is one.
+/// The first suggestion that is right, if there is one, with notes of what its rules come from.
 pub(crate) fn suggested<L: Language>(
     alloc: Global,
     site: &Site,
     policy: &Tables,
     hints: &Flat,
+    target: TargetLang,
+    origin: &Origin,
 ) -> Result<Option<Text>, Memory>
     requires orderly { IsOrderly site.now }
     requires sound { IsSound site.now }
@@ -165,8 +169,13 @@ pub(crate) fn suggested<L: Language>(
     ensures { IfOk result (λ found. IfSome found (EmitsBy (L.spelled site.now) (L.tracks site.now) (λ config. L.walk config site.now) site.now policy.now)) }
 {
     let texts = L::suggest(alloc, policy, site, hints)?;
+    if texts.is_empty() {
+        return Ok(None);
+    }
+    let evidence = evidence_of(alloc, site, policy, origin)?;
     for text in texts {
-        let found = checked::<L>(alloc, site, policy, text)?;
+        let longer = with_notes::<L>(alloc, site, target, origin, &evidence, text)?;
+        let found = checked::<L>(alloc, site, policy, longer)?;
         if let Some(right) = found {
             return Ok(Some(right));
         }

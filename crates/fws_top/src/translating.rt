@@ -18,24 +18,56 @@ use crate::iptables::Iptables;
 use crate::lang::TargetLang;
 use crate::language::Language;
 use crate::lines::breach_line;
+use crate::noting::{Origin, target_lang};
 use crate::pf::Pf;
 use crate::status::Status;
-use crate::suggesting::suggested;
+use crate::suggesting::{checked, suggested};
 use crate::tables::tables;
 use fws_flat::Flat;
 use fws_net::Site;
+use fws_notes::headed;
 use fws_num::{Memory, Text};
 use fws_place::PlaceAnswer;
 use fws_tree::Tables;
 use std::alloc::Global;
 
-/// The text that is emitted where tables have a configuration: the first suggestion that is right, else that of the configuration.
-fn emitted<L: Language>(
+/// The longest text that is checked once more with what doesn't carry over in its head.
+const MOST_HEADED: usize = 1 << 16;
+
+/// The text with what doesn't carry over in its head, where it is short and is right with it, and else the text itself.
+fn with_losses<L: Language>(
+    alloc: Global,
+    site: &Site,
+    tables: &Tables,
+    target: TargetLang,
+    origin: &Origin,
+    text: Text,
+) -> Result<Text, Memory>
+    requires sound { IsSound site.now }
+    requires regular { AreRegular site.now tables.now }
+    requires right { EmitsBy (L.spelled site.now) (L.tracks site.now) (λ config. L.walk config site.now) site.now tables.now text }
+    ensures { IfOk result (EmitsBy (L.spelled site.now) (L.tracks site.now) (λ config. L.walk config site.now) site.now tables.now) }
+{
+    if text.as_slice().len() > MOST_HEADED {
+        return Ok(text);
+    }
+    let Some(longer) = headed(alloc, target_lang(target), text.as_slice(), &origin.losses)? else {
+        return Ok(text);
+    };
+    match checked::<L>(alloc, site, tables, longer)? {
+        Some(right) => Ok(right),
+        None => Ok(text),
+    }
+}
+
+/// The text of a configuration that tables have.
+fn printed<L: Language>(
     alloc: Global,
     site: &Site,
     tables: &Tables,
     config: &L::Config,
-    hints: &Flat,
+    target: TargetLang,
+    origin: &Origin,
 ) -> Result<Text, Memory>
     requires orderly { IsOrderly site.now }
     requires sound { IsSound site.now }
@@ -45,10 +77,33 @@ fn emitted<L: Language>(
     requires fates { GivesFates site.now tables.now (L.walk config.now site.now) }
     ensures { IfOk result (EmitsBy (L.spelled site.now) (L.tracks site.now) (λ config. L.walk config site.now) site.now tables.now) }
 {
-    let found = suggested::<L>(alloc, site, tables, hints)?;
+    let text = L::print(alloc, config, site)?;
+    let longer = with_losses::<L>(alloc, site, tables, target, origin, text)?;
+    Ok(longer)
+}
+
+/// The text that is emitted where tables have a configuration: the first suggestion that is right, else that of the configuration.
+fn emitted<L: Language>(
+    alloc: Global,
+    site: &Site,
+    tables: &Tables,
+    config: &L::Config,
+    hints: &Flat,
+    target: TargetLang,
+    origin: &Origin,
+) -> Result<Text, Memory>
+    requires orderly { IsOrderly site.now }
+    requires sound { IsSound site.now }
+    requires regular { AreRegular site.now tables.now }
+    requires printable { L.printable site.now config.now ≡ true }
+    requires tracks { L.tracks site.now config.now ≡ true }
+    requires fates { GivesFates site.now tables.now (L.walk config.now site.now) }
+    ensures { IfOk result (EmitsBy (L.spelled site.now) (L.tracks site.now) (λ config. L.walk config site.now) site.now tables.now) }
+{
+    let found = suggested::<L>(alloc, site, tables, hints, target, origin)?;
     match found {
         Some(text) => Ok(text),
-        None => L::print(alloc, config, site),
+        None => printed::<L>(alloc, site, tables, config, target, origin),
     }
 }
 
@@ -60,6 +115,7 @@ fn placed<L: Language>(
     site: &Site,
     tables: &Tables,
     hints: &Flat,
+    origin: &Origin,
 ) -> Result<Answer, Memory>
     requires orderly { IsOrderly site.now }
     requires sound { IsSound site.now }
@@ -69,7 +125,7 @@ fn placed<L: Language>(
     match L::place(alloc, tables, site) {
         Ok(config) => Ok(Answer {
             status: Status::Ok,
-            text: emitted::<L>(alloc, site, tables, &config, hints)?,
+            text: emitted::<L>(alloc, site, tables, &config, hints, target, origin)?,
         }),
         Err(PlaceAnswer::Unfit(breach)) => Ok(Answer {
             status: Status::NotPlaceable,
@@ -86,6 +142,7 @@ fn placed_in(
     site: &Site,
     tables: &Tables,
     hints: &Flat,
+    origin: &Origin,
 ) -> Result<Answer, Memory>
     requires orderly { IsOrderly site.now }
     requires sound { IsSound site.now }
@@ -93,10 +150,10 @@ fn placed_in(
     ensures { IfOk result (λ a. IsPlacement target site.now tables.now a.status a.text) }
 {
     match target {
-        TargetLang::Iptables => placed::<Iptables>(alloc, target, site, tables, hints),
-        TargetLang::Ipfw => placed::<Ipfw>(alloc, target, site, tables, hints),
-        TargetLang::Pf => placed::<Pf>(alloc, target, site, tables, hints),
-        TargetLang::Ios => placed::<Ios>(alloc, target, site, tables, hints),
+        TargetLang::Iptables => placed::<Iptables>(alloc, target, site, tables, hints, origin),
+        TargetLang::Ipfw => placed::<Ipfw>(alloc, target, site, tables, hints, origin),
+        TargetLang::Pf => placed::<Pf>(alloc, target, site, tables, hints, origin),
+        TargetLang::Ios => placed::<Ios>(alloc, target, site, tables, hints, origin),
     }
 }
 
@@ -106,6 +163,7 @@ pub(crate) fn translated(
     target: TargetLang,
     site: &Site,
     code: &Flat,
+    origin: &Origin,
 ) -> Result<Answer, Memory>
     requires orderly { IsOrderly site.now }
     requires sound { IsSound site.now }
@@ -114,6 +172,6 @@ pub(crate) fn translated(
     ensures { (walk : Packet → Kind → Outcome) → Does code.now site.now walk → IfOk result (λ a. IsTranslation target site.now walk a.status a.text) }
 {
     let tables = tables(alloc, site, code)?;
-    let answer = placed_in(alloc, target, site, &tables, code)?;
+    let answer = placed_in(alloc, target, site, &tables, code, origin)?;
     Ok(answer)
 }
