@@ -8,7 +8,7 @@ sys.dont_write_bytecode = True  # of the parts, into the checkout
 sys.path.insert(0, os.path.join(os.path.dirname(os.path.abspath(__file__)), 'surroundings'))
 
 Tally = importlib.import_module('common').Tally
-PARTS = {name: importlib.import_module(name) for name in ('starting', 'installing', 'manual', 'shells', 'hosts', 'viewing')}
+PARTS = {name: importlib.import_module(name) for name in ('starting', 'installing', 'packaging', 'manual', 'shells', 'hosts', 'viewing', 'asking')}
 
 
 def main():

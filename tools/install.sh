@@ -7,12 +7,25 @@ set -u
 # What goes where: mode, file of the checkout, place below PREFIX.
 places=(
     '755 crates/fws/out/fws bin/fws'
+    '755 tools/ask bin/fws-ask'
     '755 tools/site-of-host bin/fws-site-of-host'
     '755 tools/view bin/fws-view'
+    '644 tools/configurations.py share/fws/configurations.py'
+    '644 tools/fields.py share/fws/fields.py'
+    '644 tools/questions.py share/fws/questions.py'
+    '644 docs/PROFILES.md share/doc/fws/PROFILES.md'
     '644 share/man/man1/fws.1 share/man/man1/fws.1'
+    '644 share/man/man1/fws-ask.1 share/man/man1/fws-ask.1'
+    '644 share/man/man1/fws-site-of-host.1 share/man/man1/fws-site-of-host.1'
+    '644 share/man/man1/fws-view.1 share/man/man1/fws-view.1'
     '644 share/bash-completion/completions/fws share/bash-completion/completions/fws'
+    '644 share/bash-completion/completions/fws-ask share/bash-completion/completions/fws-ask'
+    '644 share/bash-completion/completions/fws-site-of-host share/bash-completion/completions/fws-site-of-host'
+    '644 share/bash-completion/completions/fws-view share/bash-completion/completions/fws-view'
     '644 share/zsh/site-functions/_fws share/zsh/site-functions/_fws'
+    '644 share/zsh/site-functions/_fws_tools share/zsh/site-functions/_fws_tools'
 )
+own_folders=('share/fws' 'share/doc/fws') # that are taken away with them, where nothing else is there
 
 say() { printf 'fws: %s\n' "$*" >&2; }
 
@@ -118,6 +131,8 @@ take() {
     done
     rm -f -- "${saved[@]}"
     for to in "${there[@]}"; do say "took $to away"; done
+    for to in "${own_folders[@]}"; do rmdir -- "$prefix/$to" 2>/dev/null; done
+    return 0
 }
 
 check() {

@@ -76,6 +76,10 @@ class Browser:
         self.value('new Promise(done => requestAnimationFrame(() => requestAnimationFrame(() => done(1))))')
         return time.monotonic() - begin
 
+    def size(self, width, height):
+        """Gives the page this size in pixels."""
+        self.ask('Emulation.setDeviceMetricsOverride', width=width, height=height, deviceScaleFactor=1, mobile=False)
+
     def value(self, expression):
         """The value of an expression in the page."""
         answer = self.ask('Runtime.evaluate', expression=expression, returnByValue=True, awaitPromise=True)

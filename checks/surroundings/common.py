@@ -9,6 +9,7 @@ PROGRAM = os.path.abspath(os.environ.get('FWS_PROGRAM', os.path.join(TOP, 'crate
 EXAMPLES = os.path.join(TOP, 'examples')
 SITE_OF_HOST = os.path.join(TOP, 'tools/site-of-host')
 VIEW = os.path.join(TOP, 'tools/view')
+ASK = os.path.join(TOP, 'tools/ask')
 HERE = os.path.dirname(os.path.abspath(__file__))
 
 
@@ -25,7 +26,7 @@ class Tally:
             self.right += 1
         else:
             self.wrong += 1
-            print('%s%s' % (what, ': %s' % said if said else ''))
+            print('%s%s' % (what, ': %s' % (said,) if said else ''))
         return condition
 
     def check(self, what, wanted, got):
@@ -53,7 +54,8 @@ def run(*words, told='', seconds=300, **further):
 
 def copy_checkout(folder):
     """A checkout of three crates, with what ./fws needs and with a program that is newer than the sources."""
-    for name in ('fws', 'tools', 'share'):
+    os.makedirs(os.path.join(folder, 'docs'))
+    for name in ('fws', 'tools', 'share', 'docs/PROFILES.md', 'CHANGELOG.md'):
         source = os.path.join(TOP, name)
         (shutil.copytree if os.path.isdir(source) else shutil.copy2)(source, os.path.join(folder, name))
     for crate in ('fws', 'fws_high', 'fws_low', 'fws_answers/data'):
@@ -63,7 +65,7 @@ def copy_checkout(folder):
     write(os.path.join(folder, 'crates.txt'), 'fws: fws_high std\nfws_high: fws_low # the one above\nfws_low:\n')
     os.makedirs(os.path.join(folder, 'crates/fws/out'))
     shutil.copy(PROGRAM, os.path.join(folder, 'crates/fws/out/fws'))
-    for name in ('fws', 'tools/install.sh', 'tools/view', 'tools/site-of-host', 'crates/fws/out/fws'):
+    for name in ('fws', 'tools/install.sh', 'tools/ask', 'tools/view', 'tools/site-of-host', 'crates/fws/out/fws'):
         os.chmod(os.path.join(folder, name), 0o755)
     os.utime(os.path.join(folder, 'crates.txt'), (0, 0))
 

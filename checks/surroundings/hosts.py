@@ -1,6 +1,6 @@
-"""Tries tools/site-of-host on network namespaces and on saved outputs: those of Linux are made here, and those of FreeBSD
-and OpenBSD in hosts/ are written from their manuals. What is expected was worked out by hand from the same. Each site file
-is read by `fws site2`, which has to give its lines without the comments.
+"""Tries tools/site-of-host on network namespaces, on saved outputs and on running configurations: those of Linux are made here, and
+those of FreeBSD, OpenBSD and Cisco IOS in hosts/ are written from their manuals. What is expected was worked out by hand from the
+same. Each site file is read by `fws site2`, which has to give its lines without the comments.
 """
 
 import json
@@ -14,6 +14,7 @@ from common import EXAMPLES, HERE, PROGRAM, SITE_OF_HOST, read, run, write
 # Namespaces: how each is set up, the lines of its site file, and comment lines that are among the others.
 NAMESPACES = {
     'addresses, a bridge and a gateway': ('''
+echo 1 >/proc/sys/net/ipv6/conf/default/addr_gen_mode # no addresses but those below
 for face in lan0 wan0 p1 off0; do ip link add name $face type veth peer name $face-end; done
 ip link add name br0 type bridge
 ip link set p1 master br0
@@ -52,7 +53,7 @@ forwarding yes
 one_pass 1
 ''', ('# guessed: the names behind ipfw= and pf= and ios=, by the order of the interfaces',
       '# guessed: one_pass 1, with which ipfw begins',
-      '# left out: the IPv6 address 2001:db8::1/64 of lan0',
+      '# left out: 2 addresses of IPv6',
       '# left out: the interface p1: it has no IPv4 address, and is a port of br0',
       '# left out: the interface off0: it is down',
       '# left out: the interface wan0-end: it has no IPv4 address',
@@ -192,6 +193,11 @@ def check_saved(tally):
         tally.check('%s: status and errors' % system, (0, ''), (status, said))
         tally.check('%s: the site file' % system, read(place + '.site'), text.partition('\n')[2])
         is_read(tally, system, text)
+    place = os.path.join(HERE, 'hosts/edge')
+    for words, told in (((place + '.ios',), ''), (('-',), read(place + '.ios'))):
+        status, text, said = run(SITE_OF_HOST, '--ios', *words, told=told)
+        tally.check('a running configuration', (0, read(place + '.site'), ''), (status, text.partition('\n')[2], said))
+    is_read(tally, 'a running configuration', text)
     place = os.path.join(EXAMPLES, 'router')
     status, text, said = run(SITE_OF_HOST, '--addr', place + '.addr', '--route', place + '.route')
     tally.check('the router of the examples', (0, read(place + '.site'), ''), (status, text, said))
@@ -288,6 +294,50 @@ def check_bsd_lines(tally):
         is_read(tally, what, text)
 
 
+INTERFACE = 'interface FastEthernet0/0\n ip address 10.0.0.1 255.255.255.0\n'
+
+# Running configurations: options, and lines that have to be among those of the answer.
+IOS_LINES = (
+    ('a router that does not route', INTERFACE + 'no ip routing\nip default-gateway 10.0.0.254\n', (),
+     ('interface FastEthernet0/0 ipt=eth0 ipfw=em0 pf=em0 ios=FastEthernet0/0 nat=outside', 'default FastEthernet0/0', 'forwarding no')),
+    ('a forwarding that is told', INTERFACE, ('--forwarding', 'no', '--one-pass', '0'), ('forwarding no', 'one_pass 0')),
+    ('two routes of one kind', INTERFACE + 'interface FastEthernet0/1\n ip address 10.0.1.1 255.255.255.0\n'
+     'ip route 172.16.0.0 255.240.0.0 10.0.0.2\nip route 172.16.0.0 255.240.0.0 10.0.1.2\n', (),
+     ('# left out: the route to 172.16.0.0/12: it leads to several interfaces, FastEthernet0/0 and FastEthernet0/1; a shorter one '
+      'counts in its place',)),
+    ('a next hop that nothing leads to', INTERFACE + 'ip route 172.16.0.0 255.240.0.0 192.0.2.9\n', (),
+     ('# left out: the route to 172.16.0.0/12: it names no interface that is up; a shorter one counts in its place',)),
+    ('a default that comes with the address', INTERFACE + 'interface FastEthernet0/1\n ip address dhcp\nip route 0.0.0.0 0.0.0.0 dhcp\n', (),
+     ('default FastEthernet0/1', 'address FastEthernet0/1 192.0.2.1/32',
+      '# guessed: that the route to 0.0.0.0/0 by dhcp leads to FastEthernet0/1, which gets its address from elsewhere')),
+    ('line ends of another kind, and comments', INTERFACE.replace('\n', '\r\n! a comment\r\n'), (), ('address FastEthernet0/0 10.0.0.1/24',)),
+)
+
+
+def made_of_ios(text, *options):
+    return run(SITE_OF_HOST, '--ios', '-', *options, told=text)
+
+
+def check_ios_lines(tally):
+    for what, text, options, wanted in IOS_LINES:
+        status, text, said = made_of_ios(text, *options)
+        tally.check('%s: status and errors' % what, (0, ''), (status, said))
+        for line in wanted:
+            tally.holds(what, line in text.splitlines(), 'no line %r in %r' % (line, text))
+        is_read(tally, what, text)
+
+
+IOS_FAULTS = (
+    ('no interface', 'hostname branch\n', 'the text is no running configuration: it has no interface'),
+    ('no address', 'interface FastEthernet0/0\n no ip address\n',
+     'the host has no interface that is up and has an IPv4 address, apart from loopback'),
+    ('a bad mask of an address', 'interface FastEthernet0/0\n ip address 10.0.0.1 255.0.255.0\n',
+     "the line 'ip address 10.0.0.1 255.0.255.0' of FastEthernet0/0 has no address that can be read"),
+    ('a bad mask of a route', INTERFACE + 'ip route 10.1.0.0 255.0.255.0 10.0.0.2\n',
+     "the line 'ip route 10.1.0.0 255.0.255.0 10.0.0.2' has no network that can be read"),
+)
+
+
 def check_limits(tally):
     many = [face('a', '10.0.0.1/24'), face('b', '203.0.113.2/30')]
     own = [route('default', 'b'), route('10.0.0.0/24', 'a'), route('203.0.113.0/30', 'b')]
@@ -326,7 +376,10 @@ def check_faults(tally):
         tally.check(what, (1, '', 'site-of-host: %s\n' % why), made(addresses, routes))
     tally.check('an absent file', (1, '', 'site-of-host: cannot read /nowhere: No such file or directory\n'),
                 run(SITE_OF_HOST, '--addr', '/nowhere', '--route', '/nowhere'))
-    for words in (('--addr', '/dev/null'), ('--route', '/dev/null'), ('file',), ('--forwarding', 'maybe')):
+    for what, text, why in IOS_FAULTS:
+        tally.check(what, (1, '', 'site-of-host: %s\n' % why), made_of_ios(text))
+    for words in (('--addr', '/dev/null'), ('--route', '/dev/null'), ('file',), ('--forwarding', 'maybe'),
+                  ('--ios', '-', '--addr', '/dev/null', '--route', '/dev/null')):
         status, text, said = run(SITE_OF_HOST, *words)
         tally.check('words %r' % (words,), (2, ''), (status, text))
         tally.holds('words %r' % (words,), said.startswith('usage: site-of-host') and 'Traceback' not in said, said)
@@ -339,6 +392,7 @@ def check(tally):
     check_saved(tally)
     check_lines(tally)
     check_bsd_lines(tally)
+    check_ios_lines(tally)
     check_limits(tally)
     check_faults(tally)
 

@@ -5,14 +5,20 @@ import re
 import stat
 import tempfile
 
-from common import PROGRAM, TOP, copy_checkout, read, run, write
+from common import EXAMPLES, PROGRAM, TOP, copy_checkout, read, run, write
 
 NOBODY = 65534
 
 # What is put, and which of it can be run.
 PLACES = {
-    'bin/fws': 0o755, 'bin/fws-site-of-host': 0o755, 'bin/fws-view': 0o755, 'share/man/man1/fws.1': 0o644,
-    'share/bash-completion/completions/fws': 0o644, 'share/zsh/site-functions/_fws': 0o644,
+    'bin/fws': 0o755, 'bin/fws-ask': 0o755, 'bin/fws-site-of-host': 0o755, 'bin/fws-view': 0o755,
+    'share/fws/configurations.py': 0o644, 'share/fws/fields.py': 0o644, 'share/fws/questions.py': 0o644,
+    'share/doc/fws/PROFILES.md': 0o644,
+    'share/man/man1/fws.1': 0o644, 'share/man/man1/fws-ask.1': 0o644,
+    'share/man/man1/fws-site-of-host.1': 0o644, 'share/man/man1/fws-view.1': 0o644, 'share/bash-completion/completions/fws': 0o644,
+    'share/bash-completion/completions/fws-ask': 0o644, 'share/bash-completion/completions/fws-site-of-host': 0o644,
+    'share/bash-completion/completions/fws-view': 0o644, 'share/zsh/site-functions/_fws': 0o644,
+    'share/zsh/site-functions/_fws_tools': 0o644,
 }
 
 
@@ -40,6 +46,10 @@ def check_put_and_take(tally, script, folder):
             tally.holds('install: %s' % name, one.read() == other.read(), 'differs')
     tally.check('the installed program', (0, 'fws 0.1.0\n'), run(os.path.join(prefix, 'bin/fws'), '--version')[:2])
     tally.holds('the installed view', run(os.path.join(prefix, 'bin/fws-view'), '--help')[1].startswith('usage: fws-view'))
+    asked = run(os.path.join(prefix, 'bin/fws-ask'), '--site', os.path.join(EXAMPLES, 'site.txt'), os.path.join(EXAMPLES, 'router.saved'),
+                'tcp from wan to 203.0.113.2 port http', env={**os.environ, 'FWS_PROGRAM': ''})
+    tally.holds('the installed ask', asked[0] == 0 and asked[1].startswith('Accepted: '), asked)
+    tally.holds('the installed tools leave no file', files_below(prefix) == PLACES, sorted(set(files_below(prefix)) - set(PLACES)))
     tally.holds('the installed site-of-host',
                 run(os.path.join(prefix, 'bin/fws-site-of-host'), '--help')[1].startswith('usage: fws-site-of-host'))
     write(os.path.join(prefix, 'bin/other'), 'another file\n')
@@ -47,6 +57,8 @@ def check_put_and_take(tally, script, folder):
     status, _, said = run(script, '--uninstall', prefix)
     tally.check('uninstall: status and lines', (0, said_lines('took %s away', prefix)), (status, said))
     tally.check('uninstall: files', ['bin/other'], list(files_below(prefix)))
+    tally.check('uninstall: folders of fws alone', [False, False], [os.path.exists(os.path.join(prefix, name)) for name in (
+        'share/fws', 'share/doc/fws')])
     tally.check('uninstall once more', (0, 'fws: nothing of fws is in %s\n' % prefix), run(script, '--uninstall', prefix)[::2])
     tally.check('a relative prefix', (0, said_lines('put %s', folder + '/near')), run(script, '--install', 'near', cwd=folder)[::2])
     tally.check('a relative prefix: files', PLACES, files_below(folder + '/near'))
@@ -97,12 +109,12 @@ def check_undone(tally, script, checkout, folder):
     write(prefix + '/bin/fws-view', 'what stood there\n')
     os.unlink(prefix + '/share/man/man1/fws.1')
     before = files_below(prefix)
-    # a command mv that fails at the last of six files
-    write(checkout + '/mv', '#!/bin/sh\ncase "$*" in *site-functions*) exit 1 ;; esac\nexec /bin/mv "$@"\n')
+    # a command mv that fails at the last of the files
+    write(checkout + '/mv', '#!/bin/sh\ncase "$*" in *_fws_tools*) exit 1 ;; esac\nexec /bin/mv "$@"\n')
     os.chmod(checkout + '/mv', 0o755)
     surroundings = dict(os.environ, PATH=checkout + ':' + os.environ['PATH'])
     status, _, said = run(script, '--install', prefix, env=surroundings)
-    tally.check('a failure at the end', (5, 'fws: cannot write %s/share/zsh/site-functions/_fws\n' % prefix), (status, said))
+    tally.check('a failure at the end', (5, 'fws: cannot write %s/share/zsh/site-functions/_fws_tools\n' % prefix), (status, said))
     after = files_below(prefix)
     tally.check('a failure at the end: files', before, after)
     with open(prefix + '/bin/fws-view', encoding='utf-8') as file:

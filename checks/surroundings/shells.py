@@ -76,6 +76,24 @@ COMMON_TRIES = (
     ('./checkout/fws --te', './checkout/fws --test ', (), ()),
     ('./checkout/fws --install su', './checkout/fws --install sub/', (), ()),
     ('./checkout/fws sy', './checkout/fws synth ', (), ()),
+    ('./checkout/fws --pa', './checkout/fws --package ', (), ()),
+    ('./checkout/fws --package su', './checkout/fws --package sub/', (), ()),
+    ('fws-ask --si', 'fws-ask --site ', (), ()),
+    ('fws-ask --site si', 'fws-ask --site site.txt ', (), ()),
+    ('fws-ask --site site.txt rul', 'fws-ask --site site.txt rules.pf ', (), ()),
+    ('fws-ask --assert d', 'fws-ask --assert drop ', (), ()),
+    ('fws-ask --lang op', 'fws-ask --lang openbsd ', (), ()),
+    ('fws-ask --site site.txt rules.pf from w', 'fws-ask --site site.txt rules.pf from wan ', (), ()),
+    ('fws-ask --site site.txt rules.pf from ', None, ('host', 'lo', 'lan', 'wan', 'any'), ('comment', 'site')),
+    ('fws-ask rules.pf w', 'fws-ask rules.pf who ', (), ()),
+    ('fws-ask rules.pf who ca', 'fws-ask rules.pf who can ', (), ()),
+    ('fws-ask rules.pf tcp to 10.0.0.5 port ss', 'fws-ask rules.pf tcp to 10.0.0.5 port ssh ', (), ()),
+    ('fws-view --nu', 'fws-view --numeric ', (), ()),
+    ('fws-view --', None, ('--html', '--json', '--wide', '--numeric', '--title'), ('--site',)),
+    ('fws-view sub/fi', 'fws-view sub/file ', (), ()),
+    ('fws-site-of-host --io', 'fws-site-of-host --ios ', (), ()),
+    ('fws-site-of-host --ios sub/fi', 'fws-site-of-host --ios sub/file ', (), ()),
+    ('fws-site-of-host --forwarding y', 'fws-site-of-host --forwarding yes ', (), ()),
 )
 
 
@@ -157,6 +175,8 @@ def make_folder(folder):
     write(os.path.join(folder, 'site.txt'), SITE)
     write(os.path.join(folder, 'a site'), SITE.replace('lan', 'dmz'))
     write(os.path.join(folder, 'rules.pf'), 'pass all\n')
+    for name in ('openrules', 'dropped', 'yes.txt'):  # that begin as words do which stand in place of files
+        write(os.path.join(folder, name), '')
     os.makedirs(os.path.join(folder, 'sub'))
     write(os.path.join(folder, 'sub/file'), '')
     os.makedirs(os.path.join(folder, 'checkout'))
@@ -192,7 +212,7 @@ def try_shell(tally, name, words, settings):
 
 
 def check(tally):
-    quoted = "'%s/share/bash-completion/completions/fws'" % TOP.replace("'", "'\\''")
+    quoted = '{0} && source {0}-ask'.format("'%s/share/bash-completion/completions/fws'" % TOP.replace("'", "'\\''"))
     if shutil.which('bash'):
         try_shell(tally, 'bash alone', ['bash', '--norc', '--noprofile', '-i'], BASH_SETTINGS + ['source ' + quoted])
         try_shell(tally, 'bash that divides no words at =', ['bash', '--norc', '--noprofile', '-i'],
