@@ -5,6 +5,7 @@ completions and the page of the commands. It is a part of checks/documents.py.
   verdicts and the exit statuses.
 - The manual page has each of these forms in its synopsis and below "The commands are", names just these languages, targets,
   fields and statuses, and the options of ./fws and of the tools.
+- The manual page of each tool has just the options of its own help.
 - The completions have just these words, and the options.
 - The rows of `synth` and `translate` in the page of the commands name just these languages and targets.
 - Each command that a document shows is one of these, and documents name the options of ./fws and of the tools.
@@ -15,7 +16,9 @@ import subprocess
 
 MANUAL = 'share/man/man1/fws.1'
 COMPLETIONS = ('share/bash-completion/completions/fws', 'share/zsh/site-functions/_fws')
-TOOLS = ('tools/site-of-host', 'tools/view')
+TOOLS = ('tools/ask', 'tools/site-of-host', 'tools/view')
+TOOL_MANUAL = 'share/man/man1/fws-%s.1'
+TOOL_COMPLETIONS = ('share/bash-completion/completions/fws-ask', 'share/zsh/site-functions/_fws_tools')
 
 
 class Spoken:
@@ -122,7 +125,25 @@ def check_manual(tally, spoken):
         tally.check(named == tool_options(tool), MANUAL, 1, '%s has the options %s, and it names %s' % (tool, tool_options(tool), named))
 
 
+def check_tool_manuals(tally):
+    for tool in TOOLS:
+        page = TOOL_MANUAL % tool.partition('/')[2]
+        items = [line for line in read(page).split('\n') if line.startswith('.It Fl ')]
+        named = sorted('-' + word for line in items for word in re.findall(r'Fl (-[a-z-]+)', line))
+        tally.check(named == tool_options(tool), page, 1, '%s has the options %s, and it names %s' % (tool, tool_options(tool), named))
+
+
 # The completions
+
+
+def check_tool_completion(tally, name, spoken):
+    known = dict(re.findall(r"^_fws_(\w+)='([^']*)'", read(name), re.M))
+    for tool in TOOLS:
+        found = sorted(known.get(tool.partition('/')[2].replace('-', '_') + '_options', '').split())
+        wanted = sorted(tool_options(tool) + ['--help'])
+        tally.check(found == wanted, name, 1, '%s has the options %s, and it has %s' % (tool, wanted, found))
+    found = known.get('ask_languages', '').split()
+    tally.check(sorted(found) == sorted(spoken.languages), name, 1, 'its languages are %s, and --help has %s' % (found, spoken.languages))
 
 
 def check_completion(tally, name, spoken):
@@ -187,6 +208,9 @@ def check_spoken(tally, documents, page, help_lines):
     check_manual(tally, spoken)
     for name in COMPLETIONS:
         check_completion(tally, name, spoken)
+    check_tool_manuals(tally)
+    for name in TOOL_COMPLETIONS:
+        check_tool_completion(tally, name, spoken)
     check_shown(tally, documents, spoken)
     check_rows(tally, page, documents, spoken)
     check_options_named(tally, page, documents)

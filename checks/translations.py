@@ -162,11 +162,13 @@ def ipfw_faults(text):
 PF_ITEM = r'(?:any|self|(?:\d+(?:\.\d+){3}|\$\w+|\w+)(?:/\d+)?(?::network|:0)?(?: - \d+(?:\.\d+){3})?|\((?:\$\w+|\w+)(?::network|:0)?\)|<\w+>)'
 PF_HOST = r'(?:(?:! )?%s|\{ %s(?:, %s)* \})' % ((PF_ITEM,) * 3)
 PF_PORT = r'(?: port (?:(?:= )?\w+(?::\w+)?|\{ \w+(?::\w+)?(?:, \w+(?::\w+)?)* \}))?'
-PF_HEAD = r'(?: on (?:! )?(?:"[^"]+"|\S+))?(?: inet)?(?: proto (?:\w+|\{ \w+(?:, \w+)* \}))?(?: all| from %s%s to %s%s| from %s%s| to %s%s)?' % (
+PF_INTERFACE = r'(?:"[^"]+"|[^\s{},]+)'
+PF_ON = r'(?: on (?:(?:! )?%s|\{ %s(?:, %s)* \}))?' % ((PF_INTERFACE,) * 3)
+PF_HEAD = PF_ON + r'(?: inet)?(?: proto (?:\w+|\{ \w+(?:, \w+)* \}))?(?: all| from %s%s to %s%s| from %s%s| to %s%s)?' % (
     (PF_HOST, PF_PORT) * 4)
 PF_TAG = r'(?:"[^"]+"|[A-Za-z_]\w{0,62})'
 PF_FLAGS = r'flags (?:any|[FSRPAU]*/[FSRPAU]+)'
-PF_OPTIONS = r'(?: %s| icmp-type (?:\w+|\{ \w+(?:, \w+)* \})| keep state| tagged %s| tag %s)*' % (PF_FLAGS, PF_TAG, PF_TAG)
+PF_OPTIONS = r'(?: %s| icmp-type (?:\w+|\{ \w+(?:, \w+)* \})| keep state| (?:! )?tagged %s| tag %s)*' % (PF_FLAGS, PF_TAG, PF_TAG)
 PF_FORMS = [
     ('macro', r'[a-z_]\w* = "[^"]+"'),
     ('table', r'table <\w+> const \{ %s(?:, %s)* \}' % (PF_ITEM, PF_ITEM)),
@@ -196,8 +198,9 @@ def pf_faults(text):
 # The forms of the manuals of Cisco IOS: of entries of extended lists, and of the lines of sections.
 IOS_HOST = r'(?:any|host \d+(?:\.\d+){3}|\d+(?:\.\d+){3} \d+(?:\.\d+){3})'
 IOS_PORT = r'(?: (?:eq|neq|lt|gt) \d+| range \d+ \d+)?'
-IOS_ENTRY = r' (?:permit|deny) (?:(?:ip|\d+) %s %s|(?:tcp|udp) %s%s %s%s(?: established)?|icmp %s %s(?: \d+)?)(?: reflect [A-Z]\S*)?' % (
-    IOS_HOST, IOS_HOST, IOS_HOST, IOS_PORT, IOS_HOST, IOS_PORT, IOS_HOST, IOS_HOST)
+IOS_PROTOCOL = r'(?:ip|\d+|ahp|eigrp|esp|gre|igmp|ipinip|ospf|pim)'
+IOS_ENTRY = r' (?:permit|deny) (?:%s %s %s|(?:tcp|udp) %s%s %s%s(?: established)?|icmp %s %s(?: \d+)?)(?: reflect [A-Z]\S*)?' % (
+    IOS_PROTOCOL, IOS_HOST, IOS_HOST, IOS_HOST, IOS_PORT, IOS_HOST, IOS_PORT, IOS_HOST, IOS_HOST)
 IOS_FORMS = [
     ('interface', r'interface \S+'),
     ('interface', r' ip nat (?:inside|outside)'),
