@@ -95,7 +95,7 @@ Accepted: TCP connections from wan 198.51.100.9 to 203.0.113.2 port 80 (http).
     ('office.site', 'office.ipfw', 'tcp from wan 198.51.100.9 to host port ssh', '''
 Dropped: TCP connections from wan 198.51.100.9 to 10.0.0.1, 203.0.113.2 port 22 (ssh).
   For example TCP from wan, 198.51.100.9 port 50000, to 10.0.0.1 port 22, by this rule:
-    7 rule 700: ipfw -q add 700 deny log ip from any to 10.0.0.0/8,172.16.0.0/12,192.168.0.0/16 in recv em1
+    7 rule 700: ipfw -q add 700 deny log ip from any to 10.0.0.0/8,172.16.0.0/12,192.168.0.0/16 via em1
 '''),
     ('branch.site', 'branch.ios', 'can guest reach 10.0.0.0/24 tcp port http', '''
 None are let through: TCP connections from guest to 10.0.0.0/24 port 80 (http).
