@@ -6,20 +6,10 @@ Prints a line `FAMILY COUNT OTHER seconds times answer`: the best time of a comp
 tables, and its first word. Exit status 1 where that isn't ANSWER, or where it takes more than TIMES times as long.
 """
 
-import os
-import subprocess
 import sys
 import tempfile
-import time
 
-MAKE = os.path.join(os.path.dirname(os.path.abspath(__file__)), 'make.py')
-
-
-def run(*command):
-    """What the command writes, and the seconds that it takes."""
-    begun = time.monotonic()
-    ended = subprocess.run(command, stdout=subprocess.PIPE, check=True, timeout=300)
-    return ended.stdout.decode(), time.monotonic() - begun
+from timing import Best, made, right, tables, written
 
 
 def without_last_rule(text):
@@ -29,30 +19,22 @@ def without_last_rule(text):
     return ''.join(lines)
 
 
-def write(name, text):
-    with open(name, 'w') as file:
-        file.write(text)
-
-
 def main(family, count, other, wanted, most, program, site):
-    best = {}
+    best = Best()
     with tempfile.TemporaryDirectory() as work:
-        first, second = ('iptables', os.path.join(work, 'first')), ('iptables', os.path.join(work, 'second'))
-        text = run(sys.executable, MAKE, count, family)[0]
-        write(first[1], text)
+        name = made(work, count, family)
         if other == 'shorter':
-            write(second[1], without_last_rule(text))
+            with open(name, encoding='utf-8') as file:
+                second = 'iptables', written(work, 'second', without_last_rule(file.read()))
         else:
-            second = (other, second[1])
-            write(second[1], run(program, 'translate', 'iptables', other, site, first[1])[0])
+            second = other, written(work, 'second', right(program, 'translate', 'iptables', other, site, name).text)
         for _ in range(3):
-            answer, taken = run(program, 'same', first[0], site, first[1], *second)
-            best['same'] = min(taken, best.get('same', taken))
-            made = sum(run(program, 'synth', lang, site, name, state)[1] for lang, name in (first, second) for state in ('new', 'est'))
-            best['tables'] = min(made, best.get('tables', made))
-    times = best['same'] / best['tables']
-    print(family, count, other, '%.2f' % best['same'], '%.1f' % times, answer.split()[0])
-    return 0 if answer.split()[0] == wanted and times <= float(most) else 1
+            ended = right(program, 'same', 'iptables', site, name, *second)
+            best.take('same', ended.seconds)
+            best.take('tables', sum(tables(program, lang, site, path)[1] for lang, path in (('iptables', name), second)))
+    times, answer = best['same'] / best['tables'], ended.text.split()[0]
+    print(family, count, other, '%.2f' % best['same'], '%.1f' % times, answer)
+    return 0 if answer == wanted and times <= float(most) else 1
 
 
 sys.exit(main(*sys.argv[1:]))

@@ -6,37 +6,23 @@ of execution. Prints a line `FAMILY COUNT STATE seconds instructions nodes`. Exi
 ends otherwise.
 """
 
-import os
-import subprocess
 import sys
 import tempfile
-import time
 
-MAKE = os.path.join(os.path.dirname(os.path.abspath(__file__)), 'make.py')
-
-
-def timed(command):
-    begun = time.monotonic()
-    out = subprocess.run(command, stdout=subprocess.PIPE, check=True, timeout=120).stdout
-    return time.monotonic() - begun, out.decode().split()
+from timing import Best, made
 
 
 def main(family, count, state, seconds, program, site):
-    best = {}
+    best = Best()
     with tempfile.TemporaryDirectory() as work:
-        name = os.path.join(work, 'rules')
-        with open(name, 'w') as f:
-            subprocess.run([sys.executable, MAKE, count, family], stdout=f, check=True)
-        for _ in range(3):
-            for asked in (state, 'none'):
-                run = timed([program, 'execute', site, name, asked])
-                best[asked] = min(run, best.get(asked, run))
-    taken = best[state][0] - best['none'][0]
-    print(family, count, state, '%.2f' % taken, *best[state][1][1:])
+        name = made(work, count, family)
+        texts = best.turns(3, {asked: (program, 'execute', site, name, asked) for asked in (state, 'none')})
+    taken = best[state] - best['none']
+    print(family, count, state, '%.2f' % taken, *texts[state].split()[1:])
     if taken <= seconds:
         return 0
     print(family, count, state, 'is past %g seconds' % seconds)
     return 1
 
 
-sys.exit(main(sys.argv[1], sys.argv[2], sys.argv[3], float(sys.argv[4]), sys.argv[5], sys.argv[6]))
+sys.exit(main(*sys.argv[1:4], float(sys.argv[4]), *sys.argv[5:]))

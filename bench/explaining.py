@@ -7,16 +7,13 @@ past the bounds, or where the answer has another number of lines for packets.
 """
 
 import ipaddress
-import os
 import random
 import re
-import resource
-import subprocess
 import sys
 import tempfile
-import time
 
-MAKE = os.path.join(os.path.dirname(os.path.abspath(__file__)), 'make.py')
+from timing import judged, made, run, wrong, written
+
 CONNECTIONS = 1000
 
 
@@ -52,40 +49,26 @@ def connected(number):
     return '6 %s 10.0.0.7 %d 198.51.100.9 443' % (ends, 20000 + number), 'lan 6 %s 16 0' % ends
 
 
-def written(work, name, lines):
-    path = os.path.join(work, name)
-    with open(path, 'w') as file:
-        file.writelines(line + '\n' for line in lines)
-    return path
+def lined(lines):
+    return ''.join(line + '\n' for line in lines)
 
 
 def main(family, count, packets, seconds, megabytes, program, site):
     rng = random.Random(4711)
-    text = subprocess.run([sys.executable, MAKE, count, family], stdout=subprocess.PIPE, check=True).stdout.decode()
-    rules = [line for line in text.splitlines() if line.startswith('-A ')]
+    head, timeout = (family, count, packets), 2 * seconds + 10
     connections = [connected(number) for number in range(CONNECTIONS)]
-    sent = [rng.choice(connections)[1] if rng.random() < 0.1 else packet(rng, rules) for _ in range(int(packets))]
     with tempfile.TemporaryDirectory() as work:
-        names = [written(work, 'rules', text.splitlines()), written(work, 'connections', [line for line, _ in connections]),
-                 written(work, 'packets', sent)]
-        begun = time.monotonic()
-        try:
-            ended = subprocess.run([program, 'why', 'iptables', site, *names], stdout=subprocess.PIPE, timeout=2 * seconds + 10)
-        except subprocess.TimeoutExpired:
-            print(family, count, packets, 'more than %g seconds' % (2 * seconds + 10))
-            return 1
-    taken = time.monotonic() - begun
-    held = resource.getrusage(resource.RUSAGE_CHILDREN).ru_maxrss / 1024
-    lines = ended.stdout.decode().splitlines()
+        name = made(work, count, family)
+        with open(name, encoding='utf-8') as file:
+            rules = [line.rstrip('\n') for line in file if line.startswith('-A ')]
+        sent = [rng.choice(connections)[1] if rng.random() < 0.1 else packet(rng, rules) for _ in range(int(packets))]
+        names = [name, written(work, 'connections', lined(line for line, _ in connections)), written(work, 'packets', lined(sent))]
+        ended = run(program, 'why', 'iptables', site, *names, timeout=timeout)
+    lines = ended.text.splitlines() if ended else []
     told = sum(line.startswith('  ') for line in lines)
-    if ended.returncode != 0 or len(lines) - told != len(sent):
-        print(family, count, packets, 'ended with status', ended.returncode, *lines[:1])
-        return 1
-    print(family, count, packets, '%.2f' % taken, '%.0f' % held, told)
-    if taken <= seconds and held <= megabytes:
-        return 0
-    print(family, count, packets, 'is past %g seconds or %g megabytes' % (seconds, megabytes))
-    return 1
+    if ended is None or ended.status != 0 or len(lines) - told != len(sent):
+        return wrong(head, ended, timeout)
+    return judged(head, ended.seconds, seconds, megabytes, told)
 
 
 sys.exit(main(*sys.argv[1:4], *map(float, sys.argv[4:6]), *sys.argv[6:]))

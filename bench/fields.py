@@ -6,24 +6,22 @@ or where twice the rows take more than three times as long: work is to grow with
 never with the product of all fields' pieces.
 """
 
-import subprocess
 import sys
-import time
+
+from timing import right
 
 
 def main(program):
     last = None
     for rows in (500, 1000, 2000, 4000):
-        begun = time.monotonic()
-        out = subprocess.run([program, 'fields', str(rows)], stdout=subprocess.PIPE, check=True, timeout=120).stdout.split()
-        taken = time.monotonic() - begun
-        paths = int(out[1])
-        print('fields', rows, '%.2f' % taken, paths)
-        if int(out[0]) != rows or paths > 5 * rows + 1:
+        ended = right(program, 'fields', str(rows))
+        made, paths = (int(word) for word in ended.text.split()[:2])
+        print('fields', rows, '%.2f' % ended.seconds, paths)
+        if made != rows or paths > 5 * rows + 1:
             return 1
-        if last is not None and taken > 3 * last + 0.1:
+        if last is not None and ended.seconds > 3 * last + 0.1:
             return 1
-        last = taken
+        last = ended.seconds
     return 0
 
 

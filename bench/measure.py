@@ -5,10 +5,9 @@ Runs the command, which is to end with status 0 within these bounds. Its first l
 `FAMILY COUNT seconds megabytes N..`. Exit status 1 past the bounds, or where the command ends otherwise.
 """
 
-import resource
-import subprocess
 import sys
-import time
+
+from timing import judged, run, wrong
 
 
 def counted(first, count):
@@ -21,24 +20,12 @@ def counted(first, count):
 
 
 def main(family, count, seconds, megabytes, command):
-    begun = time.monotonic()
-    try:
-        ended = subprocess.run(command, stdout=subprocess.PIPE, timeout=2 * seconds + 10)
-    except subprocess.TimeoutExpired:
-        print(family, count, 'more than %g seconds' % (2 * seconds + 10))
-        return 1
-    taken = time.monotonic() - begun
-    used = resource.getrusage(resource.RUSAGE_CHILDREN).ru_maxrss / 1024
-    first = ended.stdout.split(b'\n', 1)[0].decode()
-    counts = counted(first, count)
-    if ended.returncode != 0 or counts is None:
-        print(family, count, 'ended with status', ended.returncode, first)
-        return 1
-    print(family, count, '%.2f' % taken, '%.0f' % used, *counts)
-    if taken <= seconds and used <= megabytes:
-        return 0
-    print(family, count, 'is past %g seconds or %g megabytes' % (seconds, megabytes))
-    return 1
+    head, timeout = (family, count), 2 * seconds + 10
+    ended = run(*command, timeout=timeout)
+    counts = ended and counted(ended.text.split('\n', 1)[0], count)
+    if ended is None or ended.status != 0 or counts is None:
+        return wrong(head, ended, timeout)
+    return judged(head, ended.seconds, seconds, megabytes, *counts)
 
 
 sys.exit(main(sys.argv[1], sys.argv[2], float(sys.argv[3]), float(sys.argv[4]), sys.argv[5:]))

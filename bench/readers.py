@@ -7,12 +7,11 @@ more than so many times the mean of the other three for a line or for a byte, or
 """
 
 import os
-import resource
-import subprocess
 import sys
 import tempfile
 
 import reading
+from timing import processor, run, table, wrong, written
 
 RUNS = 5
 # bytes that are left for the last rule and the line behind it
@@ -63,27 +62,19 @@ def lines_of(lang, size):
     return lines + [last]
 
 
-def processor():
-    used = resource.getrusage(resource.RUSAGE_CHILDREN)
-    return used.ru_utime + used.ru_stime
-
-
 def main(mebibytes, times, program, site):
     status, each_line, each_byte = 0, {}, {}
     with tempfile.TemporaryDirectory() as work:
-        name = os.path.join(work, 'rules')
         for lang in TEXTS:
             lines = lines_of(lang, mebibytes * 2**20)
-            with open(name, 'w') as f:
-                f.write('\n'.join(lines) + '\n')
+            name = written(work, 'rules', '\n'.join(lines) + '\n')
             taken = []
             for _ in range(RUNS):
                 begun = processor()
-                ended = subprocess.run([program, 'synth', lang, site, name, 'new'], stdout=subprocess.PIPE, timeout=300)
+                ended = run(*table(program, lang, site, name))
                 taken.append(processor() - begun)
-                if ended.stdout.decode() != 'refused %s line %d syntax\n' % (name, len(lines)):
-                    print(lang, 'ended with status', ended.returncode, ended.stdout[:200].decode())
-                    status = 1
+                if ended is None or ended.text != 'refused %s line %d syntax\n' % (name, len(lines)):
+                    status = wrong([lang], ended, 300)
             each_line[lang], each_byte[lang] = min(taken) / len(lines), min(taken) / os.path.getsize(name)
             print(lang, len(lines), '%.2f' % min(taken), '%.2f' % (each_line[lang] * 1e6), '%.1f' % (each_byte[lang] * 1e9))
     for each in each_line, each_byte:

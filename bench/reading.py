@@ -5,12 +5,10 @@ over them. No rule is unfolded or executed, so that the time is that of reading 
 `reading mebibytes seconds megabytes`. Exit status 1 past the bounds, or where the command ends otherwise.
 """
 
-import os
-import resource
-import subprocess
 import sys
 import tempfile
-import time
+
+from timing import judged, run, table, wrong, written
 
 RULES = (
     '-A USER -s 10.%d.%d.0/24 -d 172.16.%d.0/28 -p tcp -m tcp --dport %d -j ACCEPT',
@@ -43,19 +41,12 @@ def text(size):
 
 
 def main(mebibytes, seconds, megabytes, program, site):
+    head = 'reading', '%g' % mebibytes
     with tempfile.TemporaryDirectory() as work:
-        name = os.path.join(work, 'rules')
-        with open(name, 'w') as f:
-            f.write(text(int(mebibytes * 2**20)))
-        begun = time.monotonic()
-        ended = subprocess.run([program, 'synth', 'iptables', site, name, 'new'], stdout=subprocess.PIPE, timeout=300)
-        taken = time.monotonic() - begun
-    used = resource.getrusage(resource.RUSAGE_CHILDREN).ru_maxrss / 1024
-    if ended.returncode != 0 or not ended.stdout.startswith(b'table new '):
-        print('reading', mebibytes, 'ended with status', ended.returncode, ended.stdout[:200].decode())
-        return 1
-    print('reading', '%g' % mebibytes, '%.2f' % taken, '%.0f' % used)
-    return 0 if taken <= seconds and used <= megabytes else 1
+        ended = run(*table(program, 'iptables', site, written(work, 'rules', text(int(mebibytes * 2**20)))))
+    if ended is None or not ended.text.startswith('table new '):
+        return wrong(head, ended, 300)
+    return judged(head, ended.seconds, seconds, megabytes)
 
 
 if __name__ == '__main__':

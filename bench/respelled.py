@@ -5,41 +5,31 @@ interfaces, within these bounds; and over what was written, which is to write th
 `site2 routes seconds megabytes`. Exit status 1 past the bounds, or where a run ends otherwise.
 """
 
-import os
-import resource
-import subprocess
 import sys
 import tempfile
-import time
 
-
-def respelled(program, site):
-    return subprocess.run([program, 'site2', site], stdout=subprocess.PIPE, timeout=60)
+from timing import judged, run, wrong, written
 
 
 def main(routes, seconds, megabytes, program, site):
-    begun = time.monotonic()
-    first = respelled(program, site)
-    taken = time.monotonic() - begun
-    used = resource.getrusage(resource.RUSAGE_CHILDREN).ru_maxrss / 1024
+    head = 'site2', routes
+    first = run(program, 'site2', site)
+    if first is None or first.status != 0:
+        return wrong(head, first, 300)
+    status = judged(head, first.seconds, seconds, megabytes)
     with tempfile.TemporaryDirectory() as work:
-        name = os.path.join(work, 'site')
-        with open(name, 'wb') as f:
-            f.write(first.stdout)
-        second = respelled(program, name)
-    with open(site, 'rb') as f:
-        lines = f.read().splitlines()
-    if first.returncode != 0 or second.returncode != 0:
-        print('site2', routes, 'ended with status', first.returncode, first.stdout[:200].decode())
+        second = run(program, 'site2', written(work, 'site', first.text))
+    if second is None or second.status != 0:
+        return wrong(head, second, 300)
+    with open(site, encoding='utf-8') as file:
+        lines = file.read().splitlines()
+    if sorted(first.text.splitlines()) != sorted(lines):
+        print(*head, 'other lines than those of the site')
         return 1
-    if sorted(first.stdout.splitlines()) != sorted(lines):
-        print('site2', routes, 'other lines than those of the site')
+    if second.text != first.text:
+        print(*head, 'another text the second time')
         return 1
-    if second.stdout != first.stdout:
-        print('site2', routes, 'another text the second time')
-        return 1
-    print('site2', routes, '%.2f' % taken, '%.0f' % used)
-    return 0 if taken <= seconds and used <= megabytes else 1
+    return status
 
 
 sys.exit(main(int(sys.argv[1]), float(sys.argv[2]), float(sys.argv[3]), sys.argv[4], sys.argv[5]))

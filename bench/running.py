@@ -11,11 +11,10 @@ crossed: the same, but two of them come from different hosts and are sent on as 
 paired: the same, but half of them come from another host, and each of these is sent on as one of the others.
 """
 
-import resource
-import subprocess
 import sys
 import tempfile
-import time
+
+from timing import judged, run, wrong, written
 
 
 def packet(number, flags, host=7):
@@ -54,26 +53,13 @@ FAMILIES = {'answered': answered, 'renewed': renewed, 'expired': expired, 'cross
 
 def main(family, count, seconds, megabytes, program, site, rules):
     events, listed = FAMILIES[family](int(count))
-    with tempfile.NamedTemporaryFile('w') as file:
-        file.writelines(events)
-        file.flush()
-        begun = time.monotonic()
-        try:
-            ended = subprocess.run([program, 'run', 'iptables', site, rules, file.name], stdout=subprocess.PIPE, timeout=2 * seconds + 10)
-        except subprocess.TimeoutExpired:
-            print(family, count, 'more than %g seconds' % (2 * seconds + 10))
-            return 1
-    taken = time.monotonic() - begun
-    used = resource.getrusage(resource.RUSAGE_CHILDREN).ru_maxrss / 1024
-    lines = ended.stdout.decode().splitlines()
-    if ended.returncode != 0 or len(lines) != len(events) + 1 + listed or lines[len(events)] != 'conns %d' % listed:
-        print(family, count, 'ended with status', ended.returncode, *lines[:1])
-        return 1
-    print(family, count, '%.2f' % taken, '%.0f' % used, len(events), listed)
-    if taken <= seconds and used <= megabytes:
-        return 0
-    print(family, count, 'is past %g seconds or %g megabytes' % (seconds, megabytes))
-    return 1
+    head, timeout = (family, count), 2 * seconds + 10
+    with tempfile.TemporaryDirectory() as work:
+        ended = run(program, 'run', 'iptables', site, rules, written(work, 'events', ''.join(events)), timeout=timeout)
+    lines = ended.text.splitlines() if ended else []
+    if len(lines) != len(events) + 1 + listed or ended.status != 0 or lines[len(events)] != 'conns %d' % listed:
+        return wrong(head, ended, timeout)
+    return judged(head, ended.seconds, seconds, megabytes, len(events), listed)
 
 
 sys.exit(main(*sys.argv[1:3], *map(float, sys.argv[3:5]), *sys.argv[5:]))

@@ -7,20 +7,10 @@ ranges of each node's parts but the one with most ranges. BYTES is a bound on th
 the parts. Exit status 1 where it is passed, or where a translation takes more than TIMES times as long as both tables.
 """
 
-import os
-import subprocess
 import sys
 import tempfile
-import time
 
-MAKE = os.path.join(os.path.dirname(os.path.abspath(__file__)), 'make.py')
-
-
-def run(command):
-    """What the command writes, and the seconds that it takes."""
-    begun = time.monotonic()
-    ended = subprocess.run(command, stdout=subprocess.PIPE, check=True, timeout=300)
-    return ended.stdout.decode(), time.monotonic() - begun
+from timing import Best, made, right, tables
 
 
 def tree(rows, field, nodes):
@@ -52,24 +42,20 @@ def parts(table):
 
 def measure(program, lang, target, site, name):
     """The best seconds of a translation and of both tables, the text, and the tables."""
-    best = {}
+    best = Best()
     for _ in range(3):
-        text, taken = run([program, 'translate', lang, target, site, name])
-        best['text'] = min(taken, best.get('text', taken))
-        made = [run([program, 'synth', lang, site, name, state]) for state in ('new', 'est')]
-        both = sum(seconds for _, seconds in made)
-        best['tables'] = min(both, best.get('tables', both))
-    return best, text, [table for table, _ in made]
+        ended = right(program, 'translate', lang, target, site, name)
+        best.take('text', ended.seconds)
+        both, seconds = tables(program, lang, site, name)
+        best.take('tables', seconds)
+    return best, ended.text, both
 
 
 def main(family, count, lang, target, most, times, program, site, *given):
     with tempfile.TemporaryDirectory() as work:
-        name = given[0] if given else os.path.join(work, 'file')
-        if not given:
-            with open(name, 'w') as f:
-                subprocess.run([sys.executable, MAKE, count, family, lang], stdout=f, check=True)
-        best, text, tables = measure(program, lang, target, site, name)
-    counted = sum(parts(table) for table in tables)
+        name = given[0] if given else made(work, count, family, lang)
+        best, text, both = measure(program, lang, target, site, name)
+    counted = sum(parts(table) for table in both)
     ratio = best['text'] / best['tables']
     print(family, count, lang, target, '%.2f' % best['text'], '%.1f' % ratio, len(text), counted)
     bound = int(most[1:]) * counted if most.startswith('/') else int(most)
