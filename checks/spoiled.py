@@ -47,30 +47,34 @@ MOST_PACKETS = 6000
 
 PATCHES = (
     ('crates/fws_top/src/suggesting.rt', (
-        ('    hints: &Flat,\n', '    hints: &[u8],\n'),
         ('''    let texts = L::suggest(alloc, policy, site, hints)?;
+    if texts.is_empty() {
+        return Ok(None);
+    }
+    let evidence = evidence_of(alloc, site, policy, origin)?;
     for text in texts {
-        let found = checked::<L>(alloc, site, policy, text)?;
+        let longer = with_notes::<L>(alloc, site, target, origin, &evidence, text)?;
+        let found = checked::<L>(alloc, site, policy, longer)?;
         if let Some(right) = found {
             return Ok(Some(right));
         }
     }
     Ok(None)
 ''', '''    let mut text = Text::new(alloc);
-    text.put(hints)?;
+    text.put(origin.offered.as_slice())?;
     let found = checked::<L>(alloc, site, policy, text)?;
     Ok(found)
-'''))),
-    ('crates/fws_top/src/translating.rt', (
-        ('    hints: &Flat,\n', '    hints: &[u8],\n'),
-        ('    code: &Flat,\n) -> Result<Answer, Memory>', '    code: &Flat,\n    offered: &[u8],\n) -> Result<Answer, Memory>'),
-        ('placed_in(alloc, target, site, &tables, code)?', 'placed_in(alloc, target, site, &tables, offered)?'))),
+'''),)),
+    ('crates/fws_top/src/noting.rt', (
+        ('    pub(crate) losses: Losses,\n', '    pub(crate) losses: Losses,\n    pub(crate) offered: Text,\n'),
+        ('    code: &Flat,\n) -> Result<Origin, Memory>', '    code: &Flat,\n    offered: Text,\n) -> Result<Origin, Memory>'),
+        ('    Ok(Origin {\n        losses,\n', '    Ok(Origin {\n        losses,\n        offered,\n'))),
     ('crates/fws_top/src/steps.rt', (('\nfn take<S: Shelf>(', '\npub(crate) fn take<S: Shelf>('),)),
     ('crates/fws_top/src/commands.rt', (
         ('use crate::steps::{\n', 'use crate::steps::{\n    take, '),
-        ('    let answer = translated(alloc, to, site, &code.flat)?;\n',
+        ('    let origin = origin_of(alloc, from, site, bytes.as_slice(), &code.flat)?;\n',
          '    let offered = take(alloc, shelf, b"%s")?;\n' % OFFERED +
-         '    let answer = translated(alloc, to, site, &code.flat, offered.as_slice())?;\n'))),
+         '    let origin = origin_of(alloc, from, site, bytes.as_slice(), &code.flat, offered)?;\n'))),
 )
 
 
