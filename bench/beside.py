@@ -13,7 +13,7 @@ from timing import Best
 def main(peer, most, words):
     at = words.index('--')
     best = Best()
-    best.turns(5, {'own': words[:at], 'peer': words[at + 1:]})
+    best.turns(5, {'own': words[:at], 'peer': words[at + 1:]}, timeout=300)
     ratio = best['own'] / best['peer']
     print(peer, '%.2f' % best['own'], '%.2f' % best['peer'], '%.2f' % ratio)
     if ratio <= most:

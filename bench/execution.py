@@ -18,7 +18,7 @@ def main(family, count, state, seconds, program, site):
         name = made(work, count, family)
         texts = best.turns(3, {asked: (program, 'execute', site, name, asked) for asked in (state, 'none')})
     taken = best[state] - best['none']
-    print(family, count, state, '%.2f' % taken, *texts[state].split()[1:])
+    print(family, count, state, '%.2f' % taken, *min(texts[state]).split()[1:])
     if taken <= seconds:
         return 0
     print(family, count, state, 'is past %g seconds' % seconds)

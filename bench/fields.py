@@ -14,7 +14,7 @@ from timing import right
 def main(program):
     last = None
     for rows in (500, 1000, 2000, 4000):
-        ended = right(program, 'fields', str(rows))
+        ended = right(program, 'fields', str(rows), timeout=120)
         made, paths = (int(word) for word in ended.text.split()[:2])
         print('fields', rows, '%.2f' % ended.seconds, paths)
         if made != rows or paths > 5 * rows + 1:

@@ -13,7 +13,7 @@ from timing import made, right
 
 def main(language, family, count, most, program, site):
     with tempfile.TemporaryDirectory() as work:
-        ended = right(program, 'placed', language, site, made(work, count, family, language))
+        ended = right(program, 'placed', language, site, made(work, count, family, language), timeout=120)
     instructions, placed = (int(word) for word in ended.text.split()[1:])
     times = placed / instructions
     print(language, family, count, instructions, placed, '%.2f' % times)

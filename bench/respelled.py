@@ -13,14 +13,14 @@ from timing import judged, run, wrong, written
 
 def main(routes, seconds, megabytes, program, site):
     head = 'site2', routes
-    first = run(program, 'site2', site)
+    first = run(program, 'site2', site, timeout=60)
     if first is None or first.status != 0:
-        return wrong(head, first, 300)
+        return wrong(head, first, 60)
     status = judged(head, first.seconds, seconds, megabytes)
     with tempfile.TemporaryDirectory() as work:
-        second = run(program, 'site2', written(work, 'site', first.text))
+        second = run(program, 'site2', written(work, 'site', first.text), timeout=60)
     if second is None or second.status != 0:
-        return wrong(head, second, 300)
+        return wrong(head, second, 60)
     with open(site, encoding='utf-8') as file:
         lines = file.read().splitlines()
     if sorted(first.text.splitlines()) != sorted(lines):
