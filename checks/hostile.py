@@ -190,16 +190,28 @@ def unread(words):
     return [b'cannot read %s\n' % word.encode() for word in words if os.path.isfile(os.path.join(TOP, word))]
 
 
-def wrong_memory(answer, whole):
-    if answer == whole or answer == (6, b'', b''):
+def is_same(answer, other):
+    """Whether two answers are one, whatever stands beside them on standard error."""
+    return answer[:2] == other[:2]
+
+
+def wrong_beside(told):
+    """What is wrong with what was told on standard error, or None: whole lines without control bytes."""
+    if re.fullmatch(rb'([^\x00-\x1f\x7f]*\n)*', told):
         return None
+    return 'standard error has %r' % told[:80]
+
+
+def wrong_memory(answer, whole):
+    if is_same(answer, whole) or answer[:2] == (6, b''):
+        return wrong_beside(answer.told)
     return '%s, not its answer, and not 6 and nothing' % shown(answer)
 
 
 def wrong_device(answer, whole, words, call, interrupted):
-    if answer.told:
-        return 'standard error has %r' % answer.told[:80]
-    if answer == whole and interrupted:
+    if wrong_beside(answer.told):
+        return wrong_beside(answer.told)
+    if is_same(answer, whole) and interrupted:
         return None
     if call == 'write' and answer.status == 5 and whole.text.startswith(answer.text) and answer.text != whole.text:
         return None
@@ -236,7 +248,7 @@ def try_devices(faults, tally, short):
                         turns.append(unread(words).index(answer.text))
             tally.judge(None if turns == sorted(turns) else 'files come in the order %s as %s fails' % (turns, call), words)
         answer, _ = faults.run(words, piece=1)
-        tally.judge(None if answer == whole else '%s, by a byte at a time' % shown(answer), words)
+        tally.judge(None if is_same(answer, whole) else '%s, by a byte at a time' % shown(answer), words)
 
 
 # What is a whole answer
@@ -326,8 +338,8 @@ def wrong_answer(answer, words, files):
     """Why an answer to files that are there isn't a whole one, or None."""
     if answer.status is None:
         return 'it had not ended after %d seconds' % LONGEST
-    if answer.told:
-        return 'standard error has %r' % answer.told[:80]
+    if wrong_beside(answer.told):
+        return wrong_beside(answer.told)
     absent = [word for word in words if b'cannot read %s\n' % word.encode() == answer.text and word not in files]
     if answer.status == 4 and absent:
         return None

@@ -22,6 +22,7 @@ SECONDS = 300  # that a case may take
 BUILD_SECONDS = 600  # that the toolchain lets the program wait that is copied
 
 STANDARD_INPUT = 'standard input'
+STANDARD_ERROR = 'standard error'
 
 # The statuses of this command.
 DIFFERS, WRONG, NO_TOOLCHAIN = 1, 2, 7
@@ -90,17 +91,27 @@ class Case:
 
     def wanted_lines(self):
         """The lines of the answer as they are compared: text, or a regular expression, or None for any further lines."""
-        found = []
-        for line in self.wanted:
-            if line == '..':
-                found.append(None)
-            elif line.startswith('~ '):
-                found.append(re.compile(line[2:]))
-            elif line.startswith('< '):
-                found += contents(line[2:]).decode('utf-8').split('\n')[:-1]
-            else:
-                found.append(line)
-        return found
+        return compared(self.wanted)
+
+    def wanted_beside(self):
+        """The lines of standard error as they are compared, or None where the case doesn't say."""
+        text = self.files.get(STANDARD_ERROR)
+        return None if text is None else compared(text.split('\n')[:-1])
+
+
+def compared(lines):
+    """Wanted lines as they are compared: text, or a regular expression, or None for any further lines."""
+    found = []
+    for line in lines:
+        if line == '..':
+            found.append(None)
+        elif line.startswith('~ '):
+            found.append(re.compile(line[2:]))
+        elif line.startswith('< '):
+            found += contents(line[2:]).decode('utf-8').split('\n')[:-1]
+        else:
+            found.append(line)
+    return found
 
 
 def contents(path):
@@ -133,7 +144,7 @@ def check_names(cases):
     words = {word for case in cases for word in case.words}
     for case in cases:
         for name in [*case.files, *[case.keeps] * bool(case.keeps)]:
-            if name == STANDARD_INPUT:
+            if name in (STANDARD_INPUT, STANDARD_ERROR):
                 continue
             if name in places or os.path.exists(os.path.join(TOP, name)):
                 raise BadCase('%s: another file is named %s' % (case.path, name))
@@ -152,7 +163,7 @@ def check_names(cases):
 
 def files_of(cases, every):
     """The files that the words of the cases name, of those that stand in some case and of those of the repository."""
-    sections = {name: text for case in every for name, text in case.files.items() if name != STANDARD_INPUT}
+    sections = {name: text for case in every for name, text in case.files.items() if name not in (STANDARD_INPUT, STANDARD_ERROR)}
     files = {}
     for word in {word for case in cases for word in case.words}:
         if word in sections:
@@ -241,26 +252,31 @@ class Tally:
     def __init__(self):
         self.passed = self.failed = 0
 
-    def judge(self, case, status, text, told=()):
-        """Compares an answer. `told` are lines on why there is no status."""
-        why = self.difference(case, status, text)
+    def judge(self, case, status, text, told=b''):
+        """Compares an answer, and what was told on standard error, or why there is no status."""
+        why = self.difference(case, status, text, told)
         if why is None:
             self.passed += 1
             return
         self.failed += 1
         print('%s: %s' % (case.path, why))
-        for line in told:
+        for line in told.decode('utf-8', 'replace').splitlines()[:20]:
             print('    ' + line)
         sys.stdout.flush()
 
     @staticmethod
-    def difference(case, status, text):
+    def difference(case, status, text, told):
         if status is None:
             return 'no answer'
         text = text.decode('utf-8', 'backslashreplace')
         if status != case.status:
             return 'status %d, not %d; the answer begins %s' % (status, case.status, shortened(text.partition('\n')[0]))
-        return text_difference(text, case.wanted_lines())
+        why = text_difference(text, case.wanted_lines())
+        beside = case.wanted_beside()
+        if why is None and beside is not None:
+            why = text_difference(told.decode('utf-8', 'backslashreplace'), beside)
+            why = why and 'standard error: ' + why
+        return why
 
 
 # Running
@@ -273,8 +289,8 @@ def run_case(command, case, folder):
         ended = subprocess.run([*command, *case.words], cwd=folder, env={}, input=told, stdout=subprocess.PIPE,
                                stderr=subprocess.PIPE, timeout=SECONDS, check=False)
     except subprocess.TimeoutExpired:
-        return None, b'', ['it had not ended after %d seconds' % SECONDS]
-    return ended.returncode, ended.stdout, ended.stderr.decode('utf-8', 'replace').splitlines()[:20]
+        return None, b'', b'it had not ended after %d seconds' % SECONDS
+    return ended.returncode, ended.stdout, ended.stderr
 
 
 def run_cases(command, cases, files, tally):

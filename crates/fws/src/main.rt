@@ -1,6 +1,8 @@
-//! The program: it runs its arguments over the files and standard output, and ends with the status.
+//! The program: it runs its arguments over the files and standard output, says on standard error what there is to say beside the
+//! answer, and ends with the status.
 #![tactic(auto)]
 
+use fws_advice::{KeepingShelf, KeepingSink, Outcome, advise};
 use fws_io::{StdShelf, StdSink};
 use fws_num::{Items, Memory, Text};
 use fws_top::{Status, run};
@@ -8,6 +10,9 @@ use std::env;
 use std::io::ErrorKind;
 use std::process::ExitCode;
 use std::rt::Env;
+
+/// How many bytes of an answer are kept, to say something of it.
+const KEPT: usize = 4096;
 
 /// Adds an argument to the words.
 fn put_word(words: &mut Items<Text>, mut word: Text, argument: &str) -> Result<(), Memory> {
@@ -35,9 +40,22 @@ fn take_words<R: Env + AllocGlobal>(rt: &R) -> Result<Items<Text>, Status> {
 fn main(rt: HostRuntime) -> ExitCode {
     let status = match take_words(&rt) {
         Ok(words) => {
-            let mut shelf = StdShelf::new(&rt);
-            let mut sink = StdSink::new(&rt);
-            run(rt.alloc(), words.as_slice(), &mut shelf, &mut sink)
+            let mut shelf = KeepingShelf::new(rt.alloc(), StdShelf::new(&rt));
+            let mut sink = KeepingSink::new(rt.alloc(), StdSink::new(&rt), KEPT);
+            let status = run(rt.alloc(), words.as_slice(), &mut shelf, &mut sink);
+            let outcome = Outcome {
+                texts: shelf.texts(),
+                status,
+                answer: sink.text(),
+            };
+            let errors = rt.stderr();
+            advise(
+                rt.alloc(),
+                words.as_slice(),
+                &outcome,
+                &mut StdSink::new(&errors),
+            );
+            status
         }
         Err(status) => status,
     };
