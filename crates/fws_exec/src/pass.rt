@@ -208,8 +208,8 @@ impl Sheet {
         Ok(())
     }
 
-    /// The classes with these numbers, which stand at the place, pass the instruction there as a whole. The latest go first: they
-    /// are likely to have points, and once one with a point has passed, nobody asks whether the others use the instruction.
+    /// The classes with these numbers, which stand at the place, pass the instruction there as a whole. Each one without points is
+    /// dropped here as long as it is asked for uses, so that it isn't asked for its points again.
     fn pass_always(
         &mut self,
         alloc: Global,
@@ -227,7 +227,7 @@ impl Sheet {
         ensures kept { OnOk result (Keeps errand.now self.old self.new) }
         ensures tops { tops_in self.new ≡ tops_in self.old }
     {
-        for number in numbers.iter().rev() {
+        for number in numbers {
             self.pass_whole(alloc, errand, *number, place)?;
         }
         Ok(())
