@@ -2,12 +2,16 @@
 
 use crate::ground::Ground;
 use crate::kinds::{Kind, Why};
+use crate::lists::rules_of;
 use fws_events::read_events;
 use fws_net::{Cause, ReadAnswer, SiteAnswer, SiteCause, read_site};
 use fws_num::Memory;
 use fws_top::{Ios, Ipfw, Iptables, Openbsd, Pf, Source};
 use fws_trace::{LineAnswer, read_conns, read_packets};
 use std::alloc::Global;
+
+/// How many bytes are read in the time that a rule takes which a list of pf makes.
+const RULE: usize = 200;
 
 /// Where a text is refused.
 #[derive(Clone, Copy, Debug, PartialEq, Eq)]
@@ -22,7 +26,7 @@ pub(crate) struct Judge<'a> {
     pub(crate) alloc: Global,
     pub(crate) kind: Kind,
     pub(crate) ground: Option<&'a Ground>,
-    /// How many bytes may still be read.
+    /// How many bytes may still be read. A rule of pf that a list makes counts as many.
     pub(crate) left: usize,
 }
 
@@ -116,12 +120,23 @@ fn judged_at(alloc: Global, kind: Kind, text: &[u8], ground: &Ground) -> Result<
 }
 
 impl Judge<'_> {
-    /// Where a text is refused.
-    pub(crate) fn judge(&mut self, text: &[u8]) -> Result<Found, Memory> {
-        match self.left.checked_sub(text.len().saturating_add(1)) {
-            Some(left) => self.left = left,
-            None => return Ok(Found::Tired),
+    /// What reading a text takes, in bytes.
+    fn work(&self, text: &[u8]) -> Result<usize, Memory> {
+        let bytes = text.len().saturating_add(1);
+        if self.kind.is_pf() {
+            let rules = rules_of(self.alloc, text)?;
+            return Ok(bytes.saturating_add(rules.saturating_mul(RULE)));
         }
+        Ok(bytes)
+    }
+
+    /// Where a text is refused. The first text is read whatever it takes.
+    pub(crate) fn judge(&mut self, text: &[u8]) -> Result<Found, Memory> {
+        if self.left == 0 {
+            return Ok(Found::Tired);
+        }
+        let work = self.work(text)?;
+        self.left = self.left.saturating_sub(work);
         match self.ground {
             Some(ground) => judged_at(self.alloc, self.kind, text, ground),
             None => judged_site(self.alloc, text),

@@ -17,6 +17,7 @@ mod ground;
 mod judging;
 mod keeping;
 mod kinds;
+mod lists;
 mod losses;
 mod marking;
 mod near;
