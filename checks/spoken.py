@@ -5,6 +5,8 @@ completions and the page of the commands. It is a part of checks/documents.py.
   verdicts and the exit statuses.
 - The manual page has each of these forms in its synopsis and below "The commands are", names just these languages, targets,
   fields and statuses, and the options of ./fws and of the tools.
+- Each command has a page, which begins with its form, names just the languages, targets, fields and statuses that it takes, and fits a
+  terminal of 80 columns.
 - The manual page of each tool has just the options of its own help.
 - The completions have just these words, and the options.
 - The rows of `synth` and `translate` in the page of the commands name just these languages and targets.
@@ -14,6 +16,8 @@ completions and the page of the commands. It is a part of checks/documents.py.
 import re
 import subprocess
 
+PAGE = 'crates/fws_answers/data/%s.page'  # what `fws COMMAND --help` writes
+COLUMNS = 80
 MANUAL = 'share/man/man1/fws.1'
 COMPLETIONS = ('share/bash-completion/completions/fws', 'share/zsh/site-functions/_fws')
 TOOLS = ('tools/ask', 'tools/site-of-host', 'tools/view')
@@ -57,6 +61,46 @@ def tool_options(tool):
     """The options that a tool's own help names."""
     said = subprocess.run([tool, '--help'], stdout=subprocess.PIPE, check=False).stdout.decode()
     return sorted(set(re.findall(r'--[a-z][a-z-]*', said.partition('options:')[2])) - {'--help'})
+
+
+# The pages of the commands
+
+
+def told_words(text, first, name):
+    """The words that a page lists for one of its words: those behind the colon, up to the next word of the form."""
+    found = re.search(r'^  %s +%s((?:.|\n {5,})*)' % (name, first), text, re.M)
+    return [word for word in re.findall(r'[a-z]\w*', found[1]) if word != 'or'] if found else []
+
+
+def check_words(tally, spoken, form, name, text):
+    """The languages, targets, fields and verdicts of a page."""
+    known = spoken.targets if form[1] in ('why', 'dead') else spoken.languages
+    for word in {'LANG', 'FROM'} & set(form):
+        found = told_words(text, 'the language of FILE: ', word)
+        tally.check(found == known, name, 1, '%s is %s, and --help has %s' % (word, found, known))
+    if 'TO' in form:
+        found = told_words(text, 'the language of the answer: ', 'TO')
+        tally.check(found == spoken.targets, name, 1, 'TO is %s, and --help has %s' % (found, spoken.targets))
+    if form[1] == 'query':
+        fields = told_words(text, '', 'FIELD')
+        tally.check(set(spoken.fields + spoken.est_fields) <= set(fields), name, 1, 'its fields are not all that --help has')
+        tally.check(re.findall(r'verdict=(\w+)', text) == spoken.verdicts, name, 1, 'its verdicts are not those of --help')
+
+
+def check_pages(tally, spoken):
+    for form in spoken.forms:
+        name = PAGE % form[1]
+        text = read(name)
+        lines = text.split('\n')
+        tally.check(lines[0] == ' '.join(form), name, 1, 'it begins with `%s`, and --help lists `%s`' % (lines[0], ' '.join(form)))
+        for number, line in enumerate(lines, 1):
+            tally.check(len(line) <= COLUMNS, name, number, 'a line of %d columns' % len(line))
+        check_words(tally, spoken, form, name, text)
+        example, _, statuses = text.partition('example: ')[2].partition('exit status: ')
+        tally.check(re.findall(r'fws (\w+)', example) == [form[1]], name, 1, 'its example is `%s`' % example)
+        others = {'translate': '', 'load': '134'}.get(form[1], '1')
+        wanted = [status for status in spoken.statuses if status not in others]
+        tally.check(re.findall(r'(?<!\w)(\d) ', statuses) == wanted, name, 1, 'its statuses are not %s' % wanted)
 
 
 # The manual page
@@ -107,7 +151,8 @@ def check_manual(tally, spoken):
         tally.check(form in told, MANUAL, 1, 'the synopsis has not `%s`, which --help lists; it has %s' % (form, told))
     options = [form for form in told if form.startswith('--')]
     tally.check(sorted(options) == ['--help', '--version'], MANUAL, 1, 'the synopsis has the options %s' % options)
-    tally.check(len(told) == len(wanted) + 2, MANUAL, 1, 'the synopsis has %d forms, of which %d are known' % (len(told), len(wanted) + 2))
+    tally.check('COMMAND --help' in told, MANUAL, 1, 'the synopsis has no `COMMAND --help`')
+    tally.check(len(told) == len(wanted) + 3, MANUAL, 1, 'the synopsis has %d forms, of which %d are known' % (len(told), len(wanted) + 3))
     lines = section(text, 'DESCRIPTION')
     items = [line.split()[2] for line in lines if line.startswith('.It Cm ')]
     tally.check(items == spoken.commands(), MANUAL, 1, 'its commands are %s, and --help lists %s' % (items, spoken.commands()))
@@ -170,6 +215,8 @@ def check_shown(tally, documents, spoken):
                 for words in re.findall(r'(?<![\w./])\./fws((?: [\w.=|/-]+)+)', line if line.startswith('$ ') else ''):
                     command, *rest = words.split()
                     tally.check(command in spoken.commands() + options, document.name, number, '`%s` is no command' % command)
+                    if rest == ['--help']:
+                        continue
                     if command == 'translate':
                         tally.check(rest[1] in spoken.targets, document.name, number, '`%s` is no target' % rest[1])
                     if command in ('synth', 'query', 'trace', 'why', 'run', 'same', 'dead', 'translate'):
@@ -205,6 +252,7 @@ def check_spoken(tally, documents, page, help_lines):
                         ('fields', spoken.fields), ('further fields', spoken.est_fields), ('verdicts', spoken.verdicts),
                         ('statuses', spoken.statuses)):
         tally.check(words, 'crates/fws_top/src/texts.rt', 1, '--help has no %s that are told in the known form' % name)
+    check_pages(tally, spoken)
     check_manual(tally, spoken)
     for name in COMPLETIONS:
         check_completion(tally, name, spoken)

@@ -38,6 +38,8 @@ COMMON_TRIES = (
     ('fws ', None, ('synth', 'query', 'translate', 'trace', 'why', 'run', 'same', 'dead', 'load', 'site2', '--help', '--version'), ('--install',)),
     ('fws --v', 'fws --version ', (), ()),
     ('fws synth ', None, ('iptables', 'ipfw', 'pf', 'ios'), ('new',)),
+    ('fws synth --h', 'fws synth --help ', (), ()),
+    ('fws site2 --h', 'fws site2 --help ', (), ()),
     ('fws trace io', 'fws trace ios ', (), ()),
     ('fws why io', 'fws why ios ', (), ()),
     ('fws run io', 'fws run ios ', (), ()),

@@ -141,7 +141,8 @@ def is_gone(process):
 def check_at_once(tally, checkout):
     """What is answered without rt."""
     settings = checkout.without_toolchain()
-    for words in (('--help',), ('--version',), (), ('',), ('synthesize', 'iptables'), ('synth|query',), ('--help', '--help')):
+    for words in (('--help',), ('--version',), (), ('',), ('synthesize', 'iptables'), ('synth|query',), ('--help', '--help'),
+                  ('synth', '--help'), ('why', '--help'), ('site2', '--help'), ('synthesize', '--help')):
         wanted = run(PROGRAM, *words)
         tally.check('at once: %s' % (words,), wanted[:2], checkout.run(*words, env=settings)[:2])
     with open('/dev/full', 'wb') as full:

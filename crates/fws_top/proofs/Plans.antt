@@ -30,7 +30,7 @@ wanted_ends (comparison site walk other) s t w = w.0
 wanted_ends (unused site used labels) s t w = w.0
 wanted_ends (loaded n site walk) s t w = w.0
 
--- and never with a fault of the outside or want of memory
+-- and never with a fault of the outside or out of memory
 shown_fine : (wanted : Wanted) (s : Status) → CanBeShown wanted s → IsFaultless s
 shown_fine (table site state walk) s e = subst IsFaultless (sym e) tt
 shown_fine (asked_table site state asks walk) s e = subst IsFaultless (sym e) tt
@@ -98,7 +98,7 @@ answered_fault (reads name next) told old new t (inr a) =
       says_so = later.says_so;
     }
 
--- no plan says a fault of the outside or want of memory
+-- no plan says a fault of the outside or that memory ran out
 answered_fine : (plan : Plan) (told : Option (List ℕ → List ℕ)) (old new : List ℕ → ℕ) (s : Status) (t : List ℕ)
     → Answered plan told old new s t → (s ≡ status.ReadFault → ⊥) → IsFaultless s
 answered_fine (says u v) told old new s t a other = subst IsFaultless (sym a.2) a.0

@@ -66,7 +66,7 @@ IsAnswered plan told old new status.NotPlaceable t = IsDue plan told old new sta
 IsAnswered plan told old new status.Usage t = IsDue plan told old new status.Usage t
 IsAnswered plan told old new status.Refused t = IsDue plan told old new status.Refused t
 
--- no fault of the outside, and no want of memory
+-- no fault of the outside, and not out of memory
 abbrev pub IsFaultless : Status → Type 0
 IsFaultless status.ReadFault = ⊥
 IsFaultless status.WriteFault = ⊥

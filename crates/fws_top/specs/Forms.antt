@@ -6,16 +6,18 @@ use Rattle.fws_num.specs.Numbers.{dec_of}
 use Rattle.fws_net.specs.declared.packet.State.{State}
 use Rattle.fws_net.specs.declared.packet.State.TheVariants.{Fresh, Est}
 use Rattle.fws_top.specs.Asks.{are_asks, are_shown}
+use Rattle.fws_top.specs.declared.command_name.CommandName.{CommandName}
 use Rattle.fws_top.specs.declared.form.Form.{Form}
-use Rattle.fws_top.specs.declared.form.Form.TheVariants.{Unknown, Help, Version, Synth, Query, Translate, Trace, Why, Run, Same, Dead, Load, SecondForm}
+use Rattle.fws_top.specs.declared.form.Form.TheVariants.{Unknown, Help, Page, Version, Synth, Query, Translate, Trace, Why, Run, Same, Dead, Load, SecondForm}
 use Rattle.fws_top.specs.declared.lang.SourceLang.{SourceLang}
 use Rattle.fws_top.specs.declared.lang.SourceLang.TheVariants.{Iptables, Ipfw, Pf, Ios, Openbsd}
 use Rattle.fws_top.specs.declared.lang.TargetLang.{TargetLang}
 use Rattle.fws_top.specs.declared.lang.TargetLang.TheVariants as targets
+use Rattle.fws_top.specs.Pages.{named_command}
 
 -- What the words ask for, each file by its name
 
--- nothing that is known, the list of commands or the version; of a configuration at a site, for the packets of a state,
+-- nothing that is known, the list of commands, the page of one or the version; of a configuration at a site, for the packets of a state,
 -- the table, whole or for what further words ask; the same policy in another language; what becomes of listed packets
 -- against listed connections, alone or with the rules that decide it, or of listed events one after the other; whether two
 -- configurations do the same at a site; which rules no packet uses; what a generated policy of so many rules comes to; or a site in
@@ -23,6 +25,7 @@ use Rattle.fws_top.specs.declared.lang.TargetLang.TheVariants as targets
 pub data Command : Type 0 where
   unknown : Command
   help : Command
+  page : CommandName → Command
   version : Command
   synth : SourceLang → List ℕ → List ℕ → State → Command
   query : SourceLang → List ℕ → List ℕ → State → List (List ℕ) → Command
@@ -74,10 +77,15 @@ single_command word = if bytes_eq word (codes "--help") then help else if bytes_
 abbrev pub load_command : List ℕ → Command
 load_command number = option_map_or (λ n. if nat_eq n 0 then unknown else load n) (dec_of number 4000) unknown
 
--- `load N`, or `site2 SITE`
+-- `COMMAND --help`
+abbrev pub page_command : List ℕ → Command
+page_command command = option_map_or page (named_command command) unknown
+
+-- `COMMAND --help`, or else `load N` or `site2 SITE`
 abbrev pub short_command : List ℕ → List ℕ → Command
 short_command command word =
-    if bytes_eq command (codes "load") then load_command word
+    if bytes_eq word (codes "--help") then page_command command
+    else if bytes_eq command (codes "load") then load_command word
     else if bytes_eq command (codes "site2") then site2 word
     else unknown
 
@@ -160,6 +168,7 @@ command_of _ = unknown
 abbrev pub asked : Form → Command
 asked Unknown = unknown
 asked Help = help
+asked (Page name) = page name
 asked Version = version
 asked (Synth lang site file state) = synth lang site.now file.now state
 asked (Query lang site file state asks) = query lang site.now file.now state asks.now

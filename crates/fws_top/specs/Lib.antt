@@ -6,6 +6,7 @@ pub mod KeepStep
 pub mod Lines
 pub mod LoadPlans
 pub mod Loads
+pub mod Pages
 pub mod Parts
 pub mod Plan
 pub mod RegularTables

@@ -16,9 +16,10 @@ use Rattle.fws_top.specs.declared.lang.SourceLang.{SourceLang}
 use Rattle.fws_top.specs.declared.lang.SourceLang.TheVariants.{Iptables}
 use Rattle.fws_top.specs.declared.status.Status.{Status}
 use Rattle.fws_top.specs.declared.status.Status.TheVariants as status
-use Rattle.fws_top.specs.Forms.{Command, unknown, help, version, synth, query, translate, trace, why, run, same, dead, load, site2}
+use Rattle.fws_top.specs.Forms.{Command, unknown, help, page, version, synth, query, translate, trace, why, run, same, dead, load, site2}
 use Rattle.fws_top.specs.Judged.{Judged, Policy, refused, accepted, judge}
 use Rattle.fws_top.specs.Lines.{refused_line, too_long_words, line_words, syntax_words, site_cause_text}
+use Rattle.fws_top.specs.Pages.{page_of}
 use Rattle.fws_top.specs.Tables.{Wanted, table, asked_table, translation, comparison, unused, loaded}
 use Rattle.fws_top.specs.Texts.{file_limit, help_text, usage_text, version_text}
 use Rattle.fws_trace.specs.ConnectionText.{conns_of}
@@ -90,6 +91,7 @@ load_text_plan n site next = judged (codes "load text") (judge Iptables site (fi
 abbrev pub plan_of : Command → Plan
 plan_of unknown = says status.Usage usage_text
 plan_of help = says status.Ok help_text
+plan_of (page name) = says status.Ok (page_of name)
 plan_of version = says status.Ok version_text
 plan_of (site2 site) = site_plan site (λ value. says status.Ok (site2_text value))
 plan_of (synth lang site file state) = site_plan site (λ value. source_plan lang value file (λ policy. shows (table value state policy.walk)))

@@ -15,7 +15,7 @@ pub(crate) struct Answer {
     pub(crate) text: Text,
 }
 
-/// Why a step gives no value: an answer that is due in place of it, or want of memory.
+/// Why a step gives no value: an answer in place of it, or out of memory.
 #[derive(Drop)]
 pub(crate) enum Stop {
     Due(Answer),

@@ -9,6 +9,7 @@ ghost use Rattle.fws_top.specs.Stops.{Answered, Stopped};
 use crate::answer::{Answer, Stop, said};
 use crate::commands::{dead, load, query, run, same, second_form, synth, trace, translate, why};
 use crate::form::{Form, read_form};
+use crate::pages::page;
 use crate::status::Status;
 use crate::texts::{HELP, USAGE, VERSION};
 use fws_io::Shelf;
@@ -52,6 +53,7 @@ fn follow<S: Shelf>(alloc: Global, form: &Form<'_>, shelf: &mut S) -> Result<Ans
     match *form {
         Form::Unknown => said(alloc, Status::Usage, USAGE),
         Form::Help => said(alloc, Status::Ok, HELP),
+        Form::Page(name) => said(alloc, Status::Ok, page(name)),
         Form::Version => said(alloc, Status::Ok, VERSION),
         Form::Synth(lang, site, file, state) => ended(synth(alloc, shelf, lang, site, file, state)),
         Form::Query(lang, site, file, state, asks) => {

@@ -156,7 +156,7 @@ fn asked_verdict(words: &[Text]) -> Option<bool>
 }
 
 /// What the words ask for, of which each is well spelled: on the sides the points of the site that every word asks for,
-/// and the verdict. An error is want of memory.
+/// and the verdict. An error is out of memory.
 pub(crate) fn read_ask(alloc: Global, site: &Site, words: &[Text]) -> Result<Ask, Memory>
     requires sound { IsSound site.now }
     requires spelled { are_asks words.now ≡ true }

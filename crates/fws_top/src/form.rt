@@ -2,9 +2,11 @@
 
 ghost use Rattle.std.specs.Prelude.{◌≡◌};
 ghost use Rattle.std.specs.Str.{bytes_eq};
-ghost use Rattle.fws_top.specs.Forms.{lang_of, tells_of_rules, target_of, state_of, command_of, single_command, short_command, load_command, synth_command, query_command, state_command, table_command, translate_command, trace_command, why_command, run_command, same_command, unused_command, dead_command, source_command, asked, IsSpelled};
+ghost use Rattle.fws_top.specs.Forms.{lang_of, tells_of_rules, target_of, state_of, command_of, single_command, short_command, page_command, load_command, synth_command, query_command, state_command, table_command, translate_command, trace_command, why_command, run_command, same_command, unused_command, dead_command, source_command, asked, IsSpelled};
+ghost use Rattle.fws_top.specs.Pages.{named_command};
 
 use crate::ask::{are_asks, are_shown};
+use crate::command_name::CommandName;
 use crate::lang::{SourceLang, TargetLang};
 use fws_net::State;
 use fws_num::{Text, read_dec};
@@ -16,6 +18,8 @@ pub(crate) enum Form<'a> {
     Unknown,
     /// The list of commands.
     Help,
+    /// The page of a command.
+    Page(CommandName),
     /// The version.
     Version,
     /// The table of a configuration at a site, for the packets of a state.
@@ -139,12 +143,54 @@ fn read_load(number: &[u8]) -> Form<'_>
     }
 }
 
+/// The command that a word names.
+fn read_name(word: &Text) -> Option<CommandName>
+    ensures { result ≡ named_command word.now }
+{
+    if is(word, b"synth") {
+        Some(CommandName::Synth)
+    } else if is(word, b"query") {
+        Some(CommandName::Query)
+    } else if is(word, b"translate") {
+        Some(CommandName::Translate)
+    } else if is(word, b"trace") {
+        Some(CommandName::Trace)
+    } else if is(word, b"why") {
+        Some(CommandName::Why)
+    } else if is(word, b"run") {
+        Some(CommandName::Run)
+    } else if is(word, b"same") {
+        Some(CommandName::Same)
+    } else if is(word, b"dead") {
+        Some(CommandName::Dead)
+    } else if is(word, b"load") {
+        Some(CommandName::Load)
+    } else if is(word, b"site2") {
+        Some(CommandName::SecondForm)
+    } else {
+        None
+    }
+}
+
+/// What `COMMAND --help` asks for.
+fn read_page(command: &Text) -> Form<'static>
+    ensures asked { asked result ≡ page_command command.now }
+    ensures spelled { IsSpelled result }
+{
+    match read_name(command) {
+        Some(name) => Form::Page(name),
+        None => Form::Unknown,
+    }
+}
+
 /// What a command asks that takes one further word.
 fn read_short_command<'a>(command: &Text, word: &'a [u8]) -> Form<'a>
     ensures asked { asked result ≡ short_command command.now word.now }
     ensures spelled { IsSpelled result }
 {
-    if is(command, b"load") {
+    if are(word, b"--help") {
+        read_page(command)
+    } else if is(command, b"load") {
         read_load(word)
     } else if is(command, b"site2") {
         Form::SecondForm(word)

@@ -30,7 +30,7 @@ pub fn run<S: Shelf, K: Sink>(alloc: Global, words: &[Text], shelf: &mut S, sink
     ensures write_fault { result ≡ Status.WriteFault → Rose (K.faults sink.old) (K.faults sink.new)
         × IsCutShort (plan_for words.now) (S.told shelf.old) (S.faults shelf.old) (S.faults shelf.new) (K.written sink.old) (K.written sink.new) }
 
-    // Want of memory: nothing was written.
+    // Out of memory: nothing was written.
     ensures memory { result ≡ Status.Memory → (K.written sink.new ≡ K.written sink.old) × (K.faults sink.new ≡ K.faults sink.old) }
 {
     match answer_to(alloc, words, shelf) {

@@ -15,6 +15,6 @@ pub enum Status {
     ReadFault,
     /// 5: the output couldn't be written.
     WriteFault,
-    /// 6: memory was wanting, and nothing was written.
+    /// 6: out of memory, and nothing was written.
     Memory,
 }
