@@ -136,11 +136,11 @@ MISREAD = (
     ('tcp 10.0.0.5', 'ahead of an address `from` or `to` is missing', '10.0.0.5'),
     ('tcp to 10.0.0.300', '10.0.0.300 is no address', '10.0.0.300'), ('tcp to 10.0.0.0/33', '10.0.0.0/33 is no network', '10.0.0.0/33'),
     ('to 10.0.0.5 port shh', 'shh is no port; did you mean ssh', 'shh'), ('to 10.0.0.5 port', 'behind `port` a value is missing', ''),
-    ('to 10.0.0.5 to 10.0.0.6', 'the address stands twice', '10.0.0.6'), ('tcp udp', 'the protocol stands twice', 'udp'),
+    ('to 10.0.0.5 to 10.0.0.6', 'the address is given twice', '10.0.0.6'), ('tcp udp', 'the protocol is given twice', 'udp'),
     ('icmp to 10.0.0.5 port 22', 'ports are those of tcp and udp, and the protocol is another one', 'icmp'),
     ('udp flags syn', 'flags are those of tcp, and the protocol is another one', 'udp'), ('tcp flags sun', 'sun is no flag', 'sun'),
     ('from lan to 10.0.0.5 22', 'ahead of a port `port` is missing', '22'),
-    ('lan to 10.0.0.5', 'ahead of an interface `from` or `to` is missing', 'lan'), ('tcp any', '`any` may stand behind', 'any'),
+    ('lan to 10.0.0.5', 'ahead of an interface `from` or `to` is missing', 'lan'), ('tcp any', '`any` goes behind', 'any'),
     ('who can reach', 'who is to be reached is missing', ''), ('can lan', 'who is to be reached is missing', ''),
     ('to 10.0.0.5 port !0-65535', 'no packet is asked for', '!0-65535'), ('tcp flags syn,!syn', 'syn,!syn asks for no packet', 'syn,!syn'),
 )
@@ -154,7 +154,10 @@ def check_answers(tally):
     for site, name, question, wanted in ANSWERS:
         words = ('--site', os.path.join(EXAMPLES, site)) if site else ()
         said = '' if site else 'the site is made of the configuration, with 2 guesses and things left out, which site-of-host --ios shows\n'
-        tally.check('ask %s %s' % (name, question), (0, wanted[1:], said), asked(*words, os.path.join(EXAMPLES, name), question))
+        path = os.path.join(EXAMPLES, name)
+        if name == 'branch.ios':
+            said += '%s:72: access-class filters logins to the router, and is no part of the answer\n' % path
+        tally.check('ask %s %s' % (name, question), (0, wanted[1:], said), asked(*words, path, question))
     words = ('--site', SITE, os.path.join(EXAMPLES, 'router.saved'))
     for first, *others in SAME:
         wanted = asked(*words, first)
@@ -212,7 +215,7 @@ def check_statuses(tally):
 TALKER = '''#!/bin/sh
 case "$1" in site2) ;; *) printf '%s:7: not read\\n    a line\\n' "$4" >&2 ;; esac
 echo 'fws: at work on something' >&2
-exec "$ANSWERS" "$@"
+exec "$ANSWERS" "$@" 2>/dev/null
 '''
 
 

@@ -259,7 +259,7 @@ fn whole_lines(text: &[u8]) -> &[u8] {
     part(text, 0, end)
 }
 
-/// Says into a sink what there is to say beside an answer. Where memory is wanting less is said, and faults of the sink are passed
+/// Says into a sink what there is to say beside an answer. Out of memory, less is said, and faults of the sink are passed
 /// over.
 pub fn advise<K: Sink>(alloc: Global, words: &[Text], outcome: &Outcome, sink: &mut K) {
     let mut out = Report::new(alloc);

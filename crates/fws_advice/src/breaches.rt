@@ -110,7 +110,7 @@ fn say_rules(
         return out.say(b".\n");
     }
     if lines.len() < 2 {
-        return out.say(b", and uses no rule: a policy decides, or what stands behind all rules.\n");
+        return out.say(b", and uses no rule: a policy decides, or the end of all rules.\n");
     }
     out.say(b". It uses these rules of ")?;
     out.show(source.name)?;

@@ -205,7 +205,7 @@ fn say_bad_set(out: &mut Report, word: &[u8], field: &[u8], set: &[u8]) -> Resul
 fn say_field(out: &mut Report, word: &[u8], field: &[u8]) -> Result<(), Memory> {
     out.say_with(b"fws: % is not understood", word)?;
     if let Some(other) = nearest(out.alloc, field, &FIELDS)? {
-        out.say_with(b": % may be meant", other)?;
+        out.say_with(b"; did you mean %?", other)?;
     }
     out.say(
         b"\n    Write FIELD=SET with a field of entry proto dst dport src sport flags icmp, with est also rdst rdport rsrc rsport; or verdict=accept, verdict=drop.\n",
@@ -240,7 +240,7 @@ fn say_word(out: &mut Report, state: State, words: &[Text], at: usize) -> Result
     }
     if is_repeated(words, at, field) {
         out.say_with(
-            b"fws: in % the field stands for the second time\n    Write all of its items in one word, with commas between.\n",
+            b"fws: % names a field for the second time\n    Write all of its items in one word, with commas between.\n",
             word,
         )?;
         return Ok(true);

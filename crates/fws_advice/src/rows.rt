@@ -39,7 +39,7 @@ const UNSOUND: &[u8] =
     b"syntax||||% has bytes that no word may have outside quotes|Quote the word, or write it with printed characters of ASCII.";
 
 /// What is said where no row fits.
-const OTHER: &[u8] = b"syntax||||this line isn't read|docs/PROFILES.md says what may stand there.";
+const OTHER: &[u8] = b"syntax||||this line isn't read|docs/PROFILES.md says what is read there.";
 
 /// A row of a table.
 fn row_in(text: &'static [u8]) -> Row {

@@ -18,6 +18,6 @@ pub(crate) const OF_OPENBSD: [&[u8]; 10] = [
     b"left-out|||quick|quick on a match rule|Leave it out, or write pass quick.",
     b"left-out|||!nat-to|nat-to needs a rule with out that names what it maps, and one address|Write match out on em1 from 10.0.0.0/24 to any nat-to (em1), without a port; not on block.",
     b"left-out|||!rdr-to|rdr-to needs a rule with in that names what it maps, and one address|Write match in on em1 proto tcp to (em1) port 80 rdr-to 10.0.0.5 port 8080; not on block.",
-    b"expand||||a macro of more than 65,536 bytes, or lists that make more than 200,000 rules up to this line, or more than 255 ends of pass rules|Write addresses into a table in place of a list, and ports as a range. Ends may stand in match rules, of which there may be any number.",
-    b"left-out|||match*|% in a match rule|Words of state and quick do not stand on match.",
+    b"expand||||a macro of more than 65,536 bytes, or lists that make more than 200,000 rules up to this line, or more than 255 ends of pass rules|Write addresses into a table in place of a list, and ports as a range. Or write the ends in match rules, of which there may be any number.",
+    b"left-out|||match*|% in a match rule|A match rule takes neither quick nor words of state.",
 ];

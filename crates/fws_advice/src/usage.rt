@@ -23,9 +23,9 @@ fn say_unknown(out: &mut Report, word: &[u8], what: &[u8], words: &[&[u8]]) -> R
     out.say_with(b"fws: % is ", word)?;
     out.say(what)?;
     if let Some(other) = nearest(out.alloc, word, words)? {
-        out.say_with(b": % may be meant", other)?;
+        out.say_with(b"; did you mean %?", other)?;
     }
-    out.say(b"\n    What may stand there:")?;
+    out.say(b"\n    One of:")?;
     say_words(out, words)?;
     out.say(b"\n")
 }
@@ -56,7 +56,7 @@ fn say_bad_word(out: &mut Report, place: Place, word: &[u8]) -> Result<bool, Mem
         Place::Lang => (&LANGS, b"no language"),
         Place::State => (&STATES, b"neither new nor est"),
         Place::Target => (&TARGETS, b"no language in which policies are written"),
-        Place::TellingLang => (&TARGETS, b"no language of whose rules something is told"),
+        Place::TellingLang => (&TARGETS, b"no language of this command"),
     };
     if is_one_of(words, word) {
         return Ok(false);
@@ -74,7 +74,7 @@ fn say_command(out: &mut Report, command: Command, words: &[Text]) -> Result<(),
     }
     let count = command.places.len();
     if words.len() < count {
-        out.say_with(b"fws: behind % words are missing\n", command.name)?;
+        out.say_with(b"fws: words are missing behind %\n", command.name)?;
         return say_form(out, command);
     }
     if is(command.name, b"query") {
@@ -98,16 +98,36 @@ fn say_forms(out: &mut Report) -> Result<(), Memory> {
         out.say(command.form)?;
         out.say(b"\n")?;
     }
-    out.say(b"fws --help says more\n")
+    out.say(b"fws --help says more, and fws COMMAND --help explains one command\n")
 }
 
-/// Says that words ask for help with a command.
+/// Says how to ask for the page of a command.
+fn say_page_of(out: &mut Report, command: Command) -> Result<(), Memory> {
+    out.say(b"    Its page: fws ")?;
+    out.say(command.name)?;
+    out.say(b" --help\n")
+}
+
+/// Says that a word asks for help which isn't alone behind a command.
 fn say_help(out: &mut Report, command: Command) -> Result<(), Memory> {
-    out.say(b"fws: ")?;
-    out.say(command.form)?;
-    out.say(
-        b"\n    fws --help says what each command answers, and which languages and fields there are.\n",
-    )
+    out.say_with(
+        b"fws: --help has to be the only word behind %\n",
+        command.name,
+    )?;
+    say_form(out, command)?;
+    say_page_of(out, command)
+}
+
+/// Says that a word takes no further ones, and how to ask for the page of a command.
+fn say_alone(out: &mut Report, name: &[u8], rest: &[Text]) -> Result<(), Memory> {
+    out.say_with(b"fws: % takes no further words\n", name)?;
+    let [word, ..] = rest else {
+        return Ok(());
+    };
+    match command_of(word.as_slice()) {
+        Some(command) if is(name, b"--help") => say_page_of(out, command),
+        _ => Ok(()),
+    }
 }
 
 /// Says what is wrong with the words of a command line.
@@ -124,7 +144,7 @@ pub(crate) fn say_usage(out: &mut Report, words: &[Text]) -> Result<(), Memory> 
         return say_command(out, command, rest);
     }
     if is(name, b"--help") || is(name, b"--version") {
-        return out.say_with(b"fws: % stands alone\n", name);
+        return say_alone(out, name, rest);
     }
     say_unknown(out, name, b"no command", &NAMES)
 }
