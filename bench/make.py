@@ -1,6 +1,6 @@
 """python3 make.py N FAMILY [LANG]
 
-Writes a file of a family in the language LANG, which is `iptables` where it lacks, `ipfw`, `pf`, `ios`, or `openbsd` for pf of
+Writes a file of a family in the language LANG, which is `iptables` if it is left out, `ipfw`, `pf`, `ios`, or `openbsd` for pf of
 OpenBSD; the same one each time. Of these, N is the number of rules of the chain FORWARD:
 
 overlapping: sources and destinations are drawn from 64 networks, so that rules overlap.

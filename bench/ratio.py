@@ -1,6 +1,6 @@
 """python3 ratio.py LANG FAMILY COUNT TIMES PROGRAM SITE [FIRST]
 
-Makes the tables of a family of make.py from its file in FIRST, iptables where it lacks, and from its file in LANG, three times each
+Makes the tables of a family of make.py from its file in FIRST, iptables if it is left out, and from its file in LANG, three times each
 in turn. Prints a line `FAMILY takes N times as long in LANG as in FIRST for COUNT` of the best times. Exit status 1 where that is more than
 TIMES, or where the two tables aren't the same.
 """

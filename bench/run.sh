@@ -1,7 +1,7 @@
 #!/usr/bin/env bash
 # Runs the built programs over growing inputs, and prints a line `family size seconds megabytes counts` for each:
-# filter files of growing length, files with chains of the user's and with rules of nat and mangle, an instance of ipfw with
-# many redirects, the same rules in ipfw, pf or Cisco IOS and in iptables, and in pf of OpenBSD and of FreeBSD, lists of pf that stand for
+# filter files of growing length, files with user-defined chains and with rules of nat and mangle, an instance of ipfw with
+# many redirects, the same rules in ipfw, pf or Cisco IOS and in iptables, and in pf of OpenBSD and of FreeBSD, lists of pf that make
 # many rules, 400 rules at sites of growing size, the writing of these sites by the command site2, translations, the command load, runs of events,
 # comparisons of two texts, rules that packets use and rules that none uses, texts of up to 4 MiB that are read and not executed,
 # in all four languages, execution alone and that of established packets, trees that are made of rows or recoloured, and diagrams

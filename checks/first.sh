@@ -1,7 +1,7 @@
 #!/usr/bin/env bash
-# Measures what who clones the repository does first, in a fresh clone of what is committed, on two processors where taskset is
-# there: `./fws --help` within 5 seconds, the first command of the README within two minutes, with the answer that stands
-# there, and `./fws --test` within three. It isn't part of the gate, since the time depends on what else the machine does.
+# Measures the first steps of someone who clones the repository, in a fresh clone of what is committed, on two processors if
+# taskset is there: `./fws --help` within 5 seconds, the first command of the README within two minutes and with the answer
+# that the README has, and `./fws --test` within three. It isn't part of the gate, since the time depends on what else the machine does.
 set -u
 top=$(cd "$(dirname "$0")/.." && pwd) || exit 1
 command -v rt >/dev/null || { echo 'skipped: the first commands: no rt'; exit 0; }

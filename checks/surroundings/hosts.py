@@ -60,7 +60,7 @@ one_pass 1
       '# left out: the address 192.0.2.1 of loopback, which has no address line: where packets to it count, write it with /32 as an '
       'address of another interface',
       '# left out: a route to 0.0.0.0/0 by lan0: another one to this network is preferred',
-      '# left out: the network of the address 10.0.0.9/24, which stands with /32: that network stands above, for lan0',
+      '# left out: the network of the address 10.0.0.9/24, which is written with /32: that network is above, for lan0',
       '# left out: the route to 10.50.0.0/16: it leads to several interfaces, lan0 and wan0; a shorter one counts in its place',
       '# left out: the route to 10.99.0.0/16: its packets are dropped (blackhole); a shorter one counts in its place')),
     'one interface and no default route': ('''
@@ -99,7 +99,7 @@ loopback ipt=lo ipfw=lo0 pf=lo0 ios=Loopback0
 default a0
 forwarding no
 one_pass 1
-''', ('# left out: the network of the address 192.168.1.3/24, which stands with /32: that network stands above, for a0',)),
+''', ('# left out: the network of the address 192.168.1.3/24, which is written with /32: that network is above, for a0',)),
 }
 VLAN = ('''
 ip link add name eth0 type veth peer name end
@@ -234,9 +234,9 @@ LINES = (
       'the tables, where the host drops or sends them otherwise')),
     ('an address of two interfaces', [face('a', '10.0.0.1/24'), face('b', '10.0.0.1/24', '10.0.1.1/24')],
      [route('10.0.0.0/24', 'a'), route('10.0.1.0/24', 'b')], (),
-     ('address a 10.0.0.1/24', 'address b 10.0.1.1/24', '# left out: the address 10.0.0.1 of b: it stands on another line')),
+     ('address a 10.0.0.1/24', 'address b 10.0.1.1/24', '# left out: the address 10.0.0.1 of b: another line has it')),
     ('a network without a route', [face('a', '10.0.0.1/24')], [], (),
-     ('address a 10.0.0.1/32', '# left out: the network of the address 10.0.0.1/24, which stands with /32: no route to that network '
+     ('address a 10.0.0.1/32', '# left out: the network of the address 10.0.0.1/24, which is written with /32: no route to that network '
       'leads to a alone')),
     ('an address of loopback', [face('lo', '127.0.0.1/8', '192.0.2.1/32', flags=('LOOPBACK', 'UP')), face('a', '10.0.0.1/24')],
      [route('10.0.0.0/24', 'a')], (),
@@ -364,7 +364,7 @@ FAULTS = (
     ('two systems', '[]', 'Routing tables\n', 'one of the two outputs is of ip -j and the other is not'),
     ('no table of routes', 'em0: flags=8843<UP> mtu 1500\n\tinet 10.0.0.1 netmask 0xffffff00\n', 'nothing\n',
      'what was said of routes is no output of netstat -rn: it has no table with the columns Destination, Flags and Netif or Iface'),
-    ('an interface that stands twice', json.dumps([face('a', '10.0.0.1/24'), face('a', '10.0.1.1/24')]), '[]',
+    ('an interface that is given twice', json.dumps([face('a', '10.0.0.1/24'), face('a', '10.0.1.1/24')]), '[]',
      'what was said of addresses names the interface a twice'),
     ('a bad mask', 'em0: flags=8843<UP> mtu 1500\n\tinet 10.0.0.1 netmask 0xff00ff00\n', '',
      "the line 'inet 10.0.0.1 netmask 0xff00ff00' of em0 has no address that can be read"),
