@@ -17,7 +17,7 @@ use crate::whole_statement::statement_read;
 use fws_net::{ReadFault, Site};
 use fws_num::{Line, Memory, Text, Word};
 use fws_pf_words::{
-    KnownTable, LongTable, Macros, Names, Setting, Tables, Tags, define, empty_table,
+    KnownTable, LongTable, Macros, Names, Setting, TableList, Tables, Tags, define, empty_table,
     is_definition, table_defined, with_members,
 };
 use std::alloc::Global;
@@ -119,7 +119,7 @@ fn note(
     alloc: Global,
     site: &Site,
     macros: &mut Macros,
-    tables: &mut Tables,
+    tables: &mut TableList,
     line: &Line,
 ) -> Result<(), Memory>
     requires { IsSound site.now }
@@ -144,7 +144,7 @@ fn note_all(
     alloc: Global,
     site: &Site,
     macros: &mut Macros,
-    tables: &mut Tables,
+    tables: &mut TableList,
     lines: &[Line],
 ) -> Result<(), Memory>
     requires { IsSound site.now }
@@ -166,9 +166,9 @@ fn tables_behind(
     requires { IsSound site.now }
     ensures { IfOk result (λ tables. tables ≡ tables_from site.now macros.old [] lines.now) }
 {
-    let mut tables = Tables::new(alloc);
+    let mut tables = TableList::new(alloc);
     note_all(alloc, site, macros, &mut tables, lines)?;
-    Ok(tables)
+    Tables::of(alloc, tables)
 }
 
 /// The tables that statements define, in their order, refused ones among them. An error is want of memory.

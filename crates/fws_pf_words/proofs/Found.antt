@@ -41,7 +41,7 @@ reaches_more tables v (suc m) (suc n) name le h = by (λ each. reaches_more tabl
     by more (Some t) h = has_more (reaches m tables v) (reaches n tables v) v more t h
 
 -- what the table of a name has, the name reaches
-named_reaches : (tables : List Table) (name : List ℕ) (p m v : ℕ) → table_position tables name ≡ Some p → table_has (reaches m tables v) v (table_at tables p) ≡ true →
+pub named_reaches : (tables : List Table) (name : List ℕ) (p m v : ℕ) → table_position tables name ≡ Some p → table_has (reaches m tables v) v (table_at tables p) ≡ true →
     reaches (suc m) tables v name ≡ true
 named_reaches tables name p m v is h =
     ap (λ t. option_map_or (table_has (reaches m tables v) v) t false) (named_at tables name ∙ ap (option_map (table_at tables)) is) ∙ h
@@ -59,7 +59,7 @@ in_last places p =
     list_any-append (nat_eq p) places (p ∷ [])
     ∙ or_right (list_any (nat_eq p) places) (list_any (nat_eq p) (p ∷ [])) (or_left (nat_eq p p) false (eq-eqb p p refl))
 
-in_longer : (P : ℕ → Type 0) (places : List ℕ) (p : ℕ) → ((q : ℕ) → IsPlace places q → P q) → P p → (q : ℕ) → IsPlace (places ++ p ∷ []) q → P q
+pub in_longer : (P : ℕ → Type 0) (places : List ℕ) (p : ℕ) → ((q : ℕ) → IsPlace places q → P q) → P p → (q : ℕ) → IsPlace (places ++ p ∷ []) q → P q
 in_longer P places p before last q on =
     ⊎_elim (before q) (λ end. ⊎_elim (λ same. subst P (sym (eqb-true q p same)) last) (λ none. absurd (false≢true none)) (or_cases (nat_eq q p) false end))
     (or_cases (list_any (nat_eq q) places) (list_any (nat_eq q) (p ∷ [])) (sym (list_any-append (nat_eq q) places (p ∷ [])) ∙ on))

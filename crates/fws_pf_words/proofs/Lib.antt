@@ -1,4 +1,5 @@
 pub mod Adding
+pub mod Circling
 pub mod Counts
 pub mod Crossing
 pub mod Finding

@@ -74,7 +74,7 @@ regular_at tables (q ∷ places) p regular on =
     (or_cases (nat_eq p q) (list_any (nat_eq p) places) on)
 
 -- where tables are closed, what definition and tests say of a name is one
-within_is : (reg : RangesAreRegular) (adds : RangesAddMembers) (tables : List Table) (places : List ℕ) →
+pub within_is : (reg : RangesAreRegular) (adds : RangesAddMembers) (tables : List Table) (places : List ℕ) →
     ((p : ℕ) → IsPlace places p → AreFound tables places (table_at tables p).named) → AreRegularAt tables places → (n : ℕ) (name : List ℕ) →
     IsFound tables places name → IsRegular (addresses_within n tables name) × ((v : ℕ) → has (addresses_within n tables name) v ≡ reaches n tables v name)
 within_is reg adds tables places closed regular zero name found = (tt, λ v. refl)
@@ -111,7 +111,7 @@ own_here tables v p (q ∷ places) on h =
     (λ more. or_right (has (table_at tables q).own v) (has (own_ranges tables places) v) (own_here tables v p places more h))
     (or_cases (nat_eq p q) (list_any (nat_eq p) places) on)
 
-own_cases : (tables : List Table) (v : ℕ) (places : List ℕ) → has (own_ranges tables places) v ≡ true → (p : ℕ) × IsPlace places p × (has (table_at tables p).own v ≡ true)
+pub own_cases : (tables : List Table) (v : ℕ) (places : List ℕ) → has (own_ranges tables places) v ≡ true → (p : ℕ) × IsPlace places p × (has (table_at tables p).own v ≡ true)
 own_cases tables v [] h = absurd (false≢true h)
 own_cases tables v (q ∷ places) h =
     ⊎_elim (λ here. (q, or_left (nat_eq q q) (list_any (nat_eq q) places) (eq-eqb q q refl), here))
@@ -125,7 +125,7 @@ any_of P tables places f each [] found h = absurd (false≢true h)
 any_of P tables places f each (name ∷ names) found h =
     ⊎_elim (each name found.0) (any_of P tables places f each names found.1) (or_cases (f name) (list_any f names) h)
 
-only_own : (tables : List Table) (places : List ℕ) → ((p : ℕ) → IsPlace places p → AreFound tables places (table_at tables p).named) →
+pub only_own : (tables : List Table) (places : List ℕ) → ((p : ℕ) → IsPlace places p → AreFound tables places (table_at tables p).named) →
     (n v : ℕ) (name : List ℕ) → IsFound tables places name → reaches n tables v name ≡ true → has (own_ranges tables places) v ≡ true
 only_own tables places closed zero v name found h = absurd (false≢true h)
 only_own tables places closed (suc n) v name found h =
@@ -144,7 +144,7 @@ only_own tables places closed (suc n) v name found h =
         (subst (λ (t : Table). AreFound tables places t.named) (sym is) (closed p on)))
         (or_cases (has x.own v) (list_any (reaches n tables v) x.named) h)
 
-same_truth : (a b : Bool) → (a ≡ true → b ≡ true) → (b ≡ true → a ≡ true) → a ≡ b
+pub same_truth : (a b : Bool) → (a ≡ true → b ≡ true) → (b ≡ true → a ≡ true) → a ≡ b
 same_truth true b f g = sym (f refl)
 same_truth false true f g = g refl
 same_truth false false f g = refl

@@ -1,5 +1,6 @@
 pub mod Additions
 pub mod Ahead
+pub mod Circles
 pub mod Defining
 pub mod Drawings
 pub mod Fronts

@@ -5,8 +5,8 @@ ghost use Rattle.std.specs.List.{list_all};
 ghost use Rattle.fws_iv.specs.Prefixes.{agree};
 ghost use Rattle.fws_pf.specs.Drawn.{are_one_block, is_one_block, maps_blocks};
 
+use crate::known::Tables;
 use crate::lists::ItemList;
-use crate::setting::Tables;
 use crate::tables::part_set;
 use fws_iv::Iv;
 use fws_num::Memory;

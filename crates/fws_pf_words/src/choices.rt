@@ -6,7 +6,7 @@ ghost use Rattle.fws_pf.specs.Drawn.{conditions, crossed, implied_flags};
 ghost use Rattle.fws_pf.specs.RuleText.{choice_of, item_literals, only};
 ghost use Rattle.fws_pf_words.specs.Tests.{test_at};
 
-use crate::setting::Tables;
+use crate::known::Tables;
 use crate::tables::part_set;
 use fws_iv::Ivs;
 use fws_net::{Cond, Lit, Test};

@@ -8,7 +8,7 @@ ghost use Rattle.fws_pf_words.specs.Drawings.{drawn};
 ghost use Rattle.fws_pf_words.specs.Tests.{test_at};
 
 use crate::choices::{choice_of, only, put_all, put_copies, put_item};
-use crate::setting::Tables;
+use crate::known::Tables;
 use fws_net::Cond;
 use fws_num::{Items, Memory};
 use fws_pf::{Choice, Item, Place};

@@ -1,7 +1,7 @@
 //! What stands in tables.
 
-ghost use Rattle.std.specs.Prelude.{◌≡◌, [], ◌++◌, List, ℕ, nat_le, true, IfOk, OnOk};
-ghost use Rattle.std.specs.List.{list_all};
+ghost use Rattle.std.specs.Prelude.{◌≡◌, [], ◌++◌, Bool, List, ℕ, nat_le, true, IfOk, OnOk};
+ghost use Rattle.std.specs.List.{list_all, list_any};
 ghost use Rattle.fws_iv.specs.Ivs.{with_ranges};
 ghost use Rattle.fws_pf.specs.declared.tables.Table.{Table};
 ghost use Rattle.fws_pf.specs.Tables.{empty_table, with_members};
@@ -64,6 +64,13 @@ impl KnownTable {
         ensures { (tables : List Table) (places : List ℕ) → with_places tables places (names_of result.now) ≡ with_places tables places self.now.named }
     {
         self.members.naming()
+    }
+
+    /// Members that name the tables that it names, and no others.
+    pub(crate) fn members(&self) -> &[Item]
+        ensures { (f : List ℕ → Bool) → list_any f (names_of result.now) ≡ list_any f self.now.named }
+    {
+        self.members.kept()
     }
 }
 

@@ -7,6 +7,7 @@ ghost use Rattle.std.specs.Str.{bytes_eq};
 ghost use Rattle.fws_pf.specs.Tables.{has_table};
 ghost use Rattle.fws_pf.specs.Values.{is_table, is_taken};
 
+use crate::known::Tables;
 use crate::members::KnownTable;
 use fws_net::Site;
 use fws_num::{Items, Memory, Text};
@@ -16,13 +17,13 @@ use std::marker::Model;
 
 /// Tables in the order in which a text defines them; the first of a name counts. Contracts see the list.
 #[derive(Drop)]
-pub struct Tables {
+pub struct TableList {
     tables: Items<KnownTable>,
     /// The place of the first table of each name.
     places: IndexMap<Text, usize>,
 }
 
-impl Model for Tables {
+impl Model for TableList {
     ghost use Rattle.std.specs.Prelude.{◌≡◌, ℕ, List, position};
     ghost use Rattle.std.specs.Map.{lookup};
     ghost use Rattle.std.specs.Str.{bytes_eq};
@@ -38,12 +39,12 @@ impl Model for Tables {
 /// Drops a table.
 fn dismiss(_table: KnownTable) {}
 
-impl Tables {
+impl TableList {
     /// No tables.
-    pub fn new(alloc: Global) -> Tables
+    pub fn new(alloc: Global) -> TableList
         ensures { result ≡ [] }
     {
-        Tables {
+        TableList {
             tables: Items::new(alloc),
             places: IndexMap::new(alloc),
         }

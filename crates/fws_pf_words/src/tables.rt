@@ -5,8 +5,9 @@ ghost use Rattle.fws_pf.specs.Tables.{part_set, table_set};
 ghost use Rattle.fws_pf_words.specs.Members.{names_of, with_name};
 ghost use Rattle.fws_pf_words.specs.Reached.{AreRegularAt, IsClosure, IsPlace, own_ranges, table_at, with_place, with_places};
 
+use crate::known::Tables;
 use crate::members::KnownTable;
-use crate::setting::Tables;
+use crate::setting::TableList;
 use fws_iv::{
     Iv, Ivs, many_ranges_add_members, ranges_add_members, ranges_are_regular,
     same_members_same_list,
@@ -17,7 +18,11 @@ use indexmap::IndexSet;
 use std::alloc::Global;
 
 /// Finds the table with this name, if there is one: its place is put behind the others, unless it is among them.
-fn find(tables: &Tables, name: &Text, places: &mut IndexSet<usize>) -> Result<(), Memory>
+pub(crate) fn find(
+    tables: &TableList,
+    name: &Text,
+    places: &mut IndexSet<usize>,
+) -> Result<(), Memory>
     ensures { OnOk result (places.new.keys ≡ with_place tables.now places.old.keys name.now) }
 {
     match tables.position(name) {
@@ -30,7 +35,7 @@ fn find(tables: &Tables, name: &Text, places: &mut IndexSet<usize>) -> Result<()
 }
 
 /// Finds the table that a member names, if it names one.
-fn find_named(tables: &Tables, part: &Part, places: &mut IndexSet<usize>) -> Result<(), Memory>
+fn find_named(tables: &TableList, part: &Part, places: &mut IndexSet<usize>) -> Result<(), Memory>
     ensures { OnOk result ((names : List (List ℕ)) → with_places tables.now places.new.keys names ≡ with_places tables.now places.old.keys (with_name part.now names)) }
 {
     match part {
@@ -44,7 +49,7 @@ fn find_named(tables: &Tables, part: &Part, places: &mut IndexSet<usize>) -> Res
 }
 
 /// Finds the tables that members name.
-fn find_all(tables: &Tables, items: &[Item], places: &mut IndexSet<usize>) -> Result<(), Memory>
+fn find_all(tables: &TableList, items: &[Item], places: &mut IndexSet<usize>) -> Result<(), Memory>
     ensures { OnOk result (places.new.keys ≡ with_places tables.now places.old.keys (names_of items.now)) }
 {
     for item in items {
@@ -54,7 +59,7 @@ fn find_all(tables: &Tables, items: &[Item], places: &mut IndexSet<usize>) -> Re
 }
 
 /// The table at a place.
-fn table_at(tables: &[KnownTable], place: usize) -> &KnownTable
+pub(crate) fn table_at(tables: &[KnownTable], place: usize) -> &KnownTable
     requires { place < length tables.now }
     ensures { result.now ≡ table_at tables.now place }
 {
@@ -63,7 +68,11 @@ fn table_at(tables: &[KnownTable], place: usize) -> &KnownTable
 
 /// The places of the tables that are reached from a name: its own, and of each table those of the tables that it names. Each is
 /// met once.
-fn reached(alloc: Global, tables: &Tables, name: &Text) -> Result<IndexSet<usize>, Memory>
+pub(crate) fn reached(
+    alloc: Global,
+    tables: &TableList,
+    name: &Text,
+) -> Result<IndexSet<usize>, Memory>
     ensures { IfOk result (λ places. IsClosure tables.now name.now places.keys) }
 {
     let mut places = IndexSet::new(alloc);
@@ -78,7 +87,11 @@ fn reached(alloc: Global, tables: &Tables, name: &Text) -> Result<IndexSet<usize
 }
 
 /// The addresses that stand in the tables at these places, as ranges in any order.
-fn own_ranges(alloc: Global, tables: &[KnownTable], places: &[usize]) -> Result<Vec<Iv>, Memory>
+pub(crate) fn own_ranges(
+    alloc: Global,
+    tables: &[KnownTable],
+    places: &[usize],
+) -> Result<Vec<Iv>, Memory>
     requires { (p : ℕ) → IsPlace places.now p → p < length tables.now }
     ensures ranges { IfOk result (λ ranges. ranges.items ≡ own_ranges tables.now places.now) }
     ensures regular { OnOk result (AreRegularAt tables.now places.now) }
@@ -92,7 +105,7 @@ fn own_ranges(alloc: Global, tables: &[KnownTable], places: &[usize]) -> Result<
 
 /// The addresses of the table with this name: those that stand in it and in the tables that it reaches, near-linear in what these
 /// hold. There are none where no table has the name.
-fn reached_set(alloc: Global, tables: &Tables, name: &Text) -> Result<Ivs, Memory>
+fn reached_set(alloc: Global, tables: &TableList, name: &Text) -> Result<Ivs, Memory>
     ensures { IfOk result (λ set. set ≡ table_set tables.now name.now) }
 {
     same_members_same_list();
@@ -105,7 +118,7 @@ fn reached_set(alloc: Global, tables: &Tables, name: &Text) -> Result<Ivs, Memor
 }
 
 /// The table with this name, if it is known to name no other.
-fn lone_table<'a>(tables: &'a Tables, name: &Text) -> Option<&'a KnownTable>
+fn lone_table<'a>(tables: &'a TableList, name: &Text) -> Option<&'a KnownTable>
     ensures { IfSome result (λ t. t.now.own ≡ table_set tables.now name.now) }
 {
     match tables.position(name) {
@@ -118,13 +131,22 @@ fn lone_table<'a>(tables: &'a Tables, name: &Text) -> Option<&'a KnownTable>
 }
 
 /// The addresses of the table with this name. Those of a table that names no other are the ones that stand in it, which all uses share.
-/// An error is want of memory.
-fn table_set(alloc: Global, tables: &Tables, name: &Text) -> Result<Ivs, Memory>
+fn found_set(alloc: Global, tables: &TableList, name: &Text) -> Result<Ivs, Memory>
     ensures { IfOk result (λ set. set ≡ table_set tables.now name.now) }
 {
     match lone_table(tables, name) {
         Some(table) => table.own().copy(alloc),
         None => reached_set(alloc, tables, name),
+    }
+}
+
+/// The addresses of the table with this name, which all uses share where they were gathered ahead. An error is want of memory.
+fn table_set(alloc: Global, tables: &Tables, name: &Text) -> Result<Ivs, Memory>
+    ensures { IfOk result (λ set. set ≡ table_set tables.now name.now) }
+{
+    match tables.gathered(name) {
+        Some(set) => set.copy(alloc),
+        None => found_set(alloc, tables.list(), name),
     }
 }
 

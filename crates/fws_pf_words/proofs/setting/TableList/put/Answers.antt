@@ -1,7 +1,7 @@
 use Rattle.std.proofs.Common.{◌∙◌, ap, sym, is_some, find}
 use Rattle.fws_pf.specs.Tables.{has_table}
 use Rattle.fws_pf_words.proofs.Placed.{bears, put_known}
-use Rattle.fws_pf_words.proofs.setting.Tables.put.Goals as goal
+use Rattle.fws_pf_words.proofs.setting.TableList.put.Goals as goal
 
 pub invariant_of-self-then-has : goal.invariant_of-self-then-has
 invariant_of-self-then-has c = λ name.

@@ -3,7 +3,7 @@ use Rattle.std.specs.Map.{lookup}
 use Rattle.std.specs.Str.{bytes_eq}
 use Rattle.fws_pf.specs.Tables.{has_table}
 use Rattle.fws_pf_words.proofs.Placed.{bears, put_new}
-use Rattle.fws_pf_words.proofs.setting.Tables.put_first.Goals as goal
+use Rattle.fws_pf_words.proofs.setting.TableList.put_first.Goals as goal
 
 pub invariant_of-self-in-Ok : goal.invariant_of-self-in-Ok
 invariant_of-self-in-Ok c = λ name.
