@@ -1,5 +1,5 @@
 -- The numbers beside the rules of the diagram in which filter rules stand in their order: how many there are, and that they are right.
-use Rattle.std.proofs.Common.{◌≡◌, ℕ, suc, ◌+◌, ◌<◌, ◌≤◌, Bool, true, false, ◌&&◌, nat_lt, List, [], ◌∷◌, ◌++◌, length, drop, arith, refl, sym, ap, ◌∙◌, append_assoc, append-nil, length-append}
+use Rattle.std.proofs.Common.{◌≡◌, ℕ, suc, ◌+◌, ◌<◌, ◌≤◌, Bool, true, false, None, ◌&&◌, nat_lt, List, [], ◌∷◌, ◌++◌, length, drop, arith, refl, sym, ap, ◌∙◌, append_assoc, append-nil, length-append}
 use Rattle.std.proofs.lemmas.Bool.{lt-ltb, and_from}
 use Rattle.std.proofs.lemmas.List.Folds.{list_all-append}
 use Rattle.std.proofs.Math.Seq.{drop-append_seam}
@@ -103,7 +103,7 @@ module _ (law : TellsOfUses) where
       let many : length (first ++ middle) ≡ length first + length middle = length-append first middle in
       omega (arith, few, wide, many)
 
-  pass_many : (outward : Bool) (c : PfConfig) → length (pass_told outward c) ≤ length (pass_rules true outward c)
+  pass_many : (outward : Bool) (c : PfConfig) → length (pass_told outward c) ≤ length (pass_rules None outward c)
   pass_many outward c =
       let filter = filter_place outward c in
       let nats = translations c outward in

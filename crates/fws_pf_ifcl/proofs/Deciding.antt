@@ -1,7 +1,8 @@
 -- The rules of the tail decide as its filter rules do.
-use Rattle.std.proofs.Common.{◌≡◌, ℕ, suc, ◌+◌, ◌-◌, ◌<◌, ◌≤◌, ◌⊎◌, inl, inr, Bool, true, false, not, cond, ◌&&◌, ◌||◌, nat_lt, Option, Some, None, is_some, List, [], ◌∷◌, ◌++◌, length, get_or, take, drop, take-suc, arith, refl, sym, ap, ◌∙◌, append_assoc, append-nil}
+use Rattle.std.proofs.Common.{◌≡◌, ℕ, zero, suc, ◌+◌, ◌-◌, ◌<◌, ◌≤◌, ◌⊎◌, inl, inr, Bool, true, false, not, cond, ◌&&◌, ◌||◌, nat_lt, Option, Some, None, is_some, List, [], ◌∷◌, ◌++◌, length, map, get_or, take, drop, take-suc, arith, refl, sym, ap, ◌∙◌, subst, append_assoc, append-nil}
 use Rattle.std.proofs.lemmas.Bool.{false≢true, le-ltb, cond-false, or_parts}
 use Rattle.std.specs.List.{list_any}
+use Rattle.std.proofs.Math.Seq.{take-length}
 use Rattle.fws_net.specs.declared.condition.Lit.{Lit}
 use Rattle.fws_net.specs.declared.connection.Kind.TheVariants.{New}
 use Rattle.fws_net.specs.declared.site.Site.{Site}
@@ -15,9 +16,11 @@ use Rattle.fws_ifcl.specs.declared.step.ChainEnd.TheVariants.{Accepted, Dropped}
 use Rattle.fws_ifcl.specs.Walk.{step_of, stepped, rules_walk as walk_rules}
 use Rattle.fws_draw.specs.Places.{sight, run}
 use Rattle.fws_draw.specs.Rules.{ruled}
+use Rattle.fws_join.specs.declared.decision.Decision.{Decision}
+use Rattle.fws_join.specs.Deciding.{StandsByParts, StandsFor, first_verdict}
 use Rattle.fws_pf.specs.declared.config.PfRule.{PfRule}
 use Rattle.fws_pf.specs.Walk.{view_on, tagged, is_met, rules_walk}
-use Rattle.fws_pf_ifcl.specs.Blocks.{puts_tag, behind_tags, tail_place, deciding, quick_rule, slow_rule, quick_rules, slow_rules, tail_rules}
+use Rattle.fws_pf_ifcl.specs.Blocks.{rule_of, puts_tag, behind_tags, tail_place, deciding, quick_rule, slow_rule, quick_rules, slow_rules, tail_rules}
 use Rattle.fws_pf_ifcl.specs.Diagram.{pass_stage}
 use Rattle.fws_pf_ifcl.proofs.Courses.{Course}
 use Rattle.fws_pf_ifcl.proofs.Settling.{settled, left, left_by}
@@ -63,15 +66,21 @@ pub tail_untagged : (outward : Bool) (rs : List PfRule) → Untagged outward (dr
 tail_untagged outward rs = untagged outward rs (tail_place outward rs) (found outward 0 0 rs)
 
 -- a further rule ahead of those that aren't quick
-pub slow_more : (outward : Bool) (rs : List PfRule) (r : PfRule) → slow_rules outward (rs ++ r ∷ []) ≡ slow_rule outward r ++ slow_rules outward rs
+slow_more : (outward : Bool) (rs : List PfRule) (r : PfRule) → slow_rules outward (rs ++ r ∷ []) ≡ slow_rule outward r ++ slow_rules outward rs
 slow_more outward [] r = sym (append-nil (slow_rule outward r))
 slow_more outward (first ∷ rs) r =
     ap (λ l. l ++ slow_rule outward first) (slow_more outward rs r) ∙ append_assoc (slow_rule outward r) (slow_rules outward rs) (slow_rule outward first)
 
+-- decisions stand for others, one part behind the other
+stands_on : StandsByParts → (a b one rest all o : List Decision) → all ≡ one ++ rest → StandsFor b (a ++ one) → StandsFor (a ++ all) o → StandsFor (b ++ rest) o
+stands_on law a b one rest all o are put inv =
+    law.through (b ++ rest) (a ++ all) o
+    (subst (StandsFor (b ++ rest)) (append_assoc a one rest ∙ ap (λ l. a ++ l) (sym are)) (law.longer b (a ++ one) rest put)) inv
+
 -- they are put from the last one on
-pub slow_put : (outward : Bool) (rs : List PfRule) (i : ℕ) (r d : PfRule) (a b o : List Rule) → 0 < i → i ≤ length rs → r ≡ get_or rs (i - 1) d
-    → b ≡ a ++ slow_rule outward r → a ++ slow_rules outward (take i rs) ≡ o → b ++ slow_rules outward (take (i - 1) rs) ≡ o
-slow_put outward rs i r d a b o lt le is put inv =
+pub slow_put : StandsByParts → (outward : Bool) (rs : List PfRule) (i : ℕ) (r d : PfRule) (a b o : List Decision) → 0 < i → i ≤ length rs → r ≡ get_or rs (i - 1) d
+    → StandsFor b (a ++ slow_rule outward r) → StandsFor (a ++ slow_rules outward (take i rs)) o → StandsFor (b ++ slow_rules outward (take (i - 1) rs)) o
+slow_put law outward rs i r d a b o lt le is put inv =
     let on : i ≡ suc (i - 1) = omega (arith, lt) in
     let less = slow_rules outward (take (i - 1) rs) in
     let more : slow_rules outward (take i rs) ≡ slow_rule outward r ++ less =
@@ -79,7 +88,42 @@ slow_put outward rs i r d a b o lt le is put inv =
     ∙ ap (slow_rules outward) (take-suc rs (i - 1) d (omega (arith, lt, le)))
     ∙ slow_more outward (take (i - 1) rs) (get_or rs (i - 1) d)
     ∙ ap (λ x. slow_rule outward x ++ less) (sym is) in
-    ap (λ l. l ++ less) put ∙ append_assoc a (slow_rule outward r) less ∙ ap (λ l. a ++ l) (sym more) ∙ inv
+    stands_on law a b (slow_rule outward r) less (slow_rules outward (take i rs)) o more put inv
+
+pub slow_begun : StandsByParts → (outward : Bool) (rs : List PfRule) (n : ℕ) (a : List Decision) → n ≡ length rs → StandsFor (a ++ slow_rules outward (take n rs)) (a ++ slow_rules outward rs)
+slow_begun law outward rs n a all =
+    subst (λ l. StandsFor (a ++ slow_rules outward l) (a ++ slow_rules outward rs)) (sym (ap (λ k. take k rs) all ∙ take-length rs)) (law.same (a ++ slow_rules outward rs))
+
+-- those that are quick are put from the first one on
+behind_at : (rs : List PfRule) (i : ℕ) (d : PfRule) → i < length rs → drop i rs ≡ get_or rs i d ∷ drop (i + 1) rs
+behind_at [] i d lt = absurd (omega arith)
+behind_at (x ∷ rs) zero d lt = refl
+behind_at (x ∷ rs) (suc i) d lt =
+    let up : suc (i + 1) ≡ suc i + 1 = omega arith in behind_at rs i d (omega arith) ∙ ap (λ k. get_or rs i d ∷ drop k (x ∷ rs)) up
+
+pub quick_put : StandsByParts → (outward : Bool) (rs : List PfRule) (i : ℕ) (r : PfRule) (a b o : List Decision) → i < length rs → r ≡ get_or rs i r
+    → StandsFor b (a ++ quick_rule outward r) → StandsFor (a ++ quick_rules outward (drop i rs)) o → StandsFor (b ++ quick_rules outward (drop (i + 1) rs)) o
+quick_put law outward rs i r a b o lt is put inv =
+    let more : quick_rules outward (drop i rs) ≡ quick_rule outward r ++ quick_rules outward (drop (i + 1) rs) =
+    ap (quick_rules outward) (behind_at rs i r lt ∙ ap (λ x. x ∷ drop (i + 1) rs) (sym is)) in
+    stands_on law a b (quick_rule outward r) (quick_rules outward (drop (i + 1) rs)) (quick_rules outward (drop i rs)) o more put inv
+
+-- nothing is left
+pub none_behind : (rs : List PfRule) (n : ℕ) → length rs ≤ n → drop n rs ≡ []
+none_behind [] zero le = refl
+none_behind [] (suc n) le = refl
+none_behind (r ∷ rs) zero le = absurd (omega arith)
+none_behind (r ∷ rs) (suc n) le = none_behind rs n (omega arith)
+
+pub none_left : (a b o : List Decision) → b ≡ [] → StandsFor (a ++ b) o → StandsFor a o
+none_left a b o none inv = subst (λ l. StandsFor l o) (ap (λ l. a ++ l) none ∙ append-nil a) inv
+
+-- both kinds, and what they become
+pub both_put : StandsByParts → (quick slow : List Decision) (a b c d : List Decision) → a ≡ [] → StandsFor b (a ++ quick) → StandsFor c (b ++ slow) → StandsFor d c
+    → StandsFor d (quick ++ slow)
+both_put law quick slow a b c d none first second last =
+    law.through d c (quick ++ slow) last
+    (law.through c (b ++ slow) (quick ++ slow) second (subst (λ l. StandsFor (b ++ slow) ((l ++ quick) ++ slow)) none (law.longer b (a ++ quick) slow first)))
 
 -- What the rules of the tail decide
 
@@ -157,36 +201,58 @@ act_walk outward w false test rest t o is at =
     ∙ left_by b Dropped (walk_rules w.enter w.site w.p New (pass_stage outward) (suc at) rest 0 t)
     ∙ ap (cond b (held false t)) (is (suc at))
 
-deciding_walk : (outward : Bool) (w : Course New outward) (decides : Bool) (r : PfRule) (rest : List Rule) (t : Transit) (o : Option Transit)
-    → ((at : ℕ) → through w at rest t ≡ o) → (at : ℕ) → through w at (deciding decides r ++ rest) t ≡ choosing decides (holds r.cond (sight w t)) r.pass t o
-deciding_walk outward w false r rest t o is at = is at
-deciding_walk outward w true r rest t o is at = act_walk outward w r.pass r.cond rest t o is at
+-- what the first decision that matches makes of a packet, or what is behind them
+abbrev decided_by : Transit → Option Transit → Option Bool → Option Transit
+decided_by t o None = o
+decided_by t o (Some passes) = held passes t
 
-quick_walk : (outward : Bool) (w : Course New outward) (rs : List PfRule) (rest : List Rule) (t : Transit) (o : Option Transit)
-    → ((at : ℕ) → through w at rest t ≡ o) → (at : ℕ) → through w at (quick_rules outward rs ++ rest) t ≡ quick_or outward (sight w t) rs t o
-quick_walk outward w [] rest t o is at = is at
-quick_walk outward w (r ∷ rs) rest t o is at =
-    ap (λ rules. through w at rules t) (append_assoc (quick_rule outward r) (quick_rules outward rs) rest)
-    ∙ deciding_walk outward w (is_met r.way outward && r.quick) r (quick_rules outward rs ++ rest) t (quick_or outward (sight w t) rs t o)
-    (quick_walk outward w rs rest t o is) at
+one_by : (b passes : Bool) (t : Transit) (o : Option Transit) (more : Option Bool) → cond b (held passes t) (decided_by t o more) ≡ decided_by t o (cond b (Some passes) more)
+one_by true passes t o more = refl
+one_by false passes t o more = refl
 
-slow_walk : (outward : Bool) (w : Course New outward) (rs : List PfRule) (rest : List Rule) (t : Transit) (o : Option Transit)
-    → ((at : ℕ) → through w at rest t ≡ o) → (at : ℕ) → through w at (slow_rules outward rs ++ rest) t ≡ slow_or outward (sight w t) rs t o
-slow_walk outward w [] rest t o is at = is at
-slow_walk outward w (r ∷ rs) rest t o is at =
+-- decisions, to the end of the pass
+decisions_walk : (outward : Bool) (w : Course New outward) (at : ℕ) (all : List Decision) (t : Transit)
+    → through w at (map rule_of all) t ≡ decided_by t (held t.verdict t) (first_verdict (sight w t) all)
+decisions_walk outward w at [] t = held_decided t.verdict t
+decisions_walk outward w at (one ∷ all) t =
+    act_walk outward w one.passes one.cond (map rule_of all) t (decided_by t (held t.verdict t) (first_verdict (sight w t) all))
+    (λ n. decisions_walk outward w n all t) at
+    ∙ one_by (holds one.cond (sight w t)) one.passes t (held t.verdict t) (first_verdict (sight w t) all)
+
+-- those of filter rules
+
+deciding_first : (v : View) (decides : Bool) (r : PfRule) (rest : List Decision) (t : Transit) (o : Option Transit)
+    → decided_by t o (first_verdict v (deciding decides r ++ rest)) ≡ choosing decides (holds r.cond v) r.pass t (decided_by t o (first_verdict v rest))
+deciding_first v false r rest t o = refl
+deciding_first v true r rest t o = sym (one_by (holds r.cond v) r.pass t o (first_verdict v rest))
+
+quick_first : (outward : Bool) (v : View) (rs : List PfRule) (rest : List Decision) (t : Transit) (o : Option Transit)
+    → decided_by t o (first_verdict v (quick_rules outward rs ++ rest)) ≡ quick_or outward v rs t (decided_by t o (first_verdict v rest))
+quick_first outward v [] rest t o = refl
+quick_first outward v (r ∷ rs) rest t o =
+    ap (λ l. decided_by t o (first_verdict v l)) (append_assoc (quick_rule outward r) (quick_rules outward rs) rest)
+    ∙ deciding_first v (is_met r.way outward && r.quick) r (quick_rules outward rs ++ rest) t o
+    ∙ ap (choosing (is_met r.way outward && r.quick) (holds r.cond v) r.pass t) (quick_first outward v rs rest t o)
+
+slow_first : (outward : Bool) (v : View) (rs : List PfRule) (rest : List Decision) (t : Transit) (o : Option Transit)
+    → decided_by t o (first_verdict v (slow_rules outward rs ++ rest)) ≡ slow_or outward v rs t (decided_by t o (first_verdict v rest))
+slow_first outward v [] rest t o = refl
+slow_first outward v (r ∷ rs) rest t o =
     let decides = is_met r.way outward && not r.quick in
-    ap (λ rules. through w at rules t) (append_assoc (slow_rules outward rs) (slow_rule outward r) rest)
-    ∙ slow_walk outward w rs (slow_rule outward r ++ rest) t (choosing decides (holds r.cond (sight w t)) r.pass t o)
-    (deciding_walk outward w decides r rest t o is) at
+    ap (λ l. decided_by t o (first_verdict v l)) (append_assoc (slow_rules outward rs) (slow_rule outward r) rest)
+    ∙ slow_first outward v rs (slow_rule outward r ++ rest) t o
+    ∙ ap (slow_or outward v rs t) (deciding_first v decides r rest t o)
 
 -- the tail, to the end of the pass
-pub tail_walk : (outward : Bool) (w : Course New outward) (at : ℕ) (rs : List PfRule) → Untagged outward rs → drop at w.full ≡ tail_rules outward rs → (t : Transit)
-    → left (run w at t) ≡ settled (rules_walk w.site outward rs t)
-tail_walk outward w at rs none are t =
+pub tail_walk : (outward : Bool) (w : Course New outward) (at : ℕ) (rs : List PfRule) (tail : List Decision) → Untagged outward rs → StandsFor tail (tail_rules outward rs)
+    → drop at w.full ≡ map rule_of tail → (t : Transit) → left (run w at t) ≡ settled (rules_walk w.site outward rs t)
+tail_walk outward w at rs tail none stands are t =
+    let v = sight w t in
+    let o = held t.verdict t in
     let slow = slow_rules outward rs in
-    let o = slow_or outward (sight w t) rs t (held t.verdict t) in
-    let others : (n : ℕ) → through w n slow t ≡ o =
-    λ n. ap (λ rules. through w n rules t) (sym (append-nil slow)) ∙ slow_walk outward w rs [] t (held t.verdict t) (λ m. held_decided t.verdict t) n in
     ap (λ rules. through w at rules t) are
-    ∙ quick_walk outward w rs slow t o others at
+    ∙ decisions_walk outward w at tail t
+    ∙ ap (decided_by t o) (stands v)
+    ∙ quick_first outward v rs slow t o
+    ∙ ap (quick_or outward v rs t) (ap (λ l. decided_by t o (first_verdict v l)) (sym (append-nil slow)) ∙ slow_first outward v rs [] t o)
     ∙ sym (filter_decides w.site outward rs t t.verdict none)

@@ -1,5 +1,5 @@
 -- The rules of filter rules walk as these do.
-use Rattle.std.proofs.Common.{◌≡◌, ℕ, ◌+◌, Bool, true, false, cond, ◌&&◌, Option, Some, None, List, [], ◌∷◌, ◌++◌, length, take, drop, arith, refl, sym, ap, ◌∙◌, append_assoc, append-nil, take-append-drop}
+use Rattle.std.proofs.Common.{◌≡◌, ℕ, ◌+◌, Bool, true, false, cond, ◌&&◌, Option, Some, None, List, [], ◌∷◌, ◌++◌, length, map, take, drop, arith, refl, sym, ap, ◌∙◌, append_assoc, append-nil, take-append-drop}
 use Rattle.std.proofs.lemmas.List.{drop-drop}
 use Rattle.std.proofs.Math.Seq.{drop-append_seam}
 use Rattle.fws_net.specs.declared.condition.Lit.{Lit}
@@ -13,9 +13,11 @@ use Rattle.fws_ifcl.specs.declared.step.ChainEnd.{ChainEnd}
 use Rattle.fws_ifcl.specs.declared.step.ChainEnd.TheVariants.{Accepted, Dropped}
 use Rattle.fws_draw.specs.Places.{sight, run, Stands}
 use Rattle.fws_draw.specs.Rules.{ruled, always, guard}
+use Rattle.fws_join.specs.declared.decision.Decision.{Decision}
+use Rattle.fws_join.specs.Deciding.{StandsFor}
 use Rattle.fws_pf.specs.declared.config.PfRule.{PfRule}
 use Rattle.fws_pf.specs.Walk.{tagged, is_met, acted, rules_walk}
-use Rattle.fws_pf_ifcl.specs.Blocks.{passing_at_once, holding, filter_rule, met_rule, met_rules, tail_place, tail_rules, filter_from, filter_rules}
+use Rattle.fws_pf_ifcl.specs.Blocks.{passing_at_once, holding, filter_rule, met_rule, met_rules, IsTail, Order, rule_of, tail_place, tail_rules, filter_from, filter_rules}
 use Rattle.fws_pf_ifcl.proofs.Courses.{Course}
 use Rattle.fws_pf_ifcl.proofs.Deciding.{Untagged, tail_untagged, tail_walk}
 use Rattle.fws_pf_ifcl.proofs.Settling.{settled, left, left_by, settled_by}
@@ -83,30 +85,36 @@ met_walk outward w at true r go s next t =
     ∙ settled_by (holds r.cond (sight w t)) (cond r.quick (decided (acted r t)) (go (acted r t))) (go t)
 
 -- rules ahead of the tail
-ahead_walk : (outward : Bool) (w : Course New outward) (at : ℕ) (ahead tail : List PfRule) → Untagged outward tail
-    → drop at w.full ≡ met_rules outward at ahead ++ tail_rules outward tail → (t : Transit) → left (run w at t) ≡ settled (rules_walk w.site outward (ahead ++ tail) t)
-ahead_walk outward w at [] tail none are t = tail_walk outward w at tail none are t
-ahead_walk outward w at (r ∷ ahead) tail none are t =
+ahead_walk : (outward : Bool) (w : Course New outward) (at : ℕ) (ahead tail : List PfRule) (last : List Decision) → Untagged outward tail
+    → StandsFor last (tail_rules outward tail) → drop at w.full ≡ met_rules outward at ahead ++ map rule_of last → (t : Transit)
+    → left (run w at t) ≡ settled (rules_walk w.site outward (ahead ++ tail) t)
+ahead_walk outward w at [] tail last none stands are t = tail_walk outward w at tail last none stands are t
+ahead_walk outward w at (r ∷ ahead) tail last none stands are t =
     let here = met_rule outward at r in
     let next = at + length here in
-    let behind = met_rules outward next ahead ++ tail_rules outward tail in
-    let all : drop at w.full ≡ here ++ behind = are ∙ append_assoc here (met_rules outward next ahead) (tail_rules outward tail) in
+    let behind = met_rules outward next ahead ++ map rule_of last in
+    let all : drop at w.full ≡ here ++ behind = are ∙ append_assoc here (met_rules outward next ahead) (map rule_of last) in
     let rest : drop next w.full ≡ behind = sym (drop-drop (length here) at w.full) ∙ ap (drop (length here)) all ∙ drop-append_seam here behind in
     met_walk outward w at (is_met r.way outward) r (rules_walk w.site outward (ahead ++ tail)) (record { rest = behind; are = all })
-    (ahead_walk outward w next ahead tail none rest) t
+    (ahead_walk outward w next ahead tail last none stands rest) t
 
 -- rules to the end of the pass, as they decide first
-filter_walk : (outward : Bool) (w : Course New outward) (at : ℕ) (rs : List PfRule) → drop at w.full ≡ filter_from outward at rs → (t : Transit)
-    → left (run w at t) ≡ settled (rules_walk w.site outward rs t)
-filter_walk outward w at rs are t =
+filter_walk : (outward : Bool) (w : Course New outward) (at : ℕ) (rs : List PfRule) (tail : List Decision) → IsTail outward rs tail
+    → drop at w.full ≡ filter_from outward at rs tail → (t : Transit) → left (run w at t) ≡ settled (rules_walk w.site outward rs t)
+filter_walk outward w at rs tail stands are t =
     let n = tail_place outward rs in
-    ahead_walk outward w at (take n rs) (drop n rs) (tail_untagged outward rs) are t
+    ahead_walk outward w at (take n rs) (drop n rs) tail (tail_untagged outward rs) stands are t
     ∙ ap (λ l. settled (rules_walk w.site outward l t)) (take-append-drop n rs)
 
+-- the rules for the tail stand for its rules
+abbrev pub Fits : Order → Bool → List PfRule → Type 0
+Fits None outward rs = Unit {0}
+Fits (Some tails) outward rs = IsTail outward rs (tails outward)
+
 -- rules to the end of the pass
-pub last_walk : (in_order outward : Bool) (w : Course New outward) (at : ℕ) (rs : List PfRule) → drop at w.full ≡ filter_rules in_order outward at rs → (t : Transit)
-    → left (run w at t) ≡ settled (rules_walk w.site outward rs t)
-last_walk true outward w at rs are t =
-    ahead_walk outward w at rs [] refl (are ∙ sym (append-nil (met_rules outward at rs))) t
+pub last_walk : (order : Order) (outward : Bool) (w : Course New outward) (at : ℕ) (rs : List PfRule) → Fits order outward rs
+    → drop at w.full ≡ filter_rules order outward at rs → (t : Transit) → left (run w at t) ≡ settled (rules_walk w.site outward rs t)
+last_walk None outward w at rs fits are t =
+    ahead_walk outward w at rs [] [] refl (λ v. refl) (are ∙ sym (append-nil (met_rules outward at rs))) t
     ∙ ap (λ l. settled (rules_walk w.site outward l t)) (append-nil rs)
-last_walk false outward w at rs are t = filter_walk outward w at rs are t
+last_walk (Some tails) outward w at rs fits are t = filter_walk outward w at rs (tails outward) fits are t

@@ -1,5 +1,5 @@
 -- Each skip of the diagram goes forward, to at most one past the last rule.
-use Rattle.std.proofs.Common.{◌≡◌, ℕ, ◌+◌, ◌<◌, ◌≤◌, Bool, true, false, not, cond, ◌&&◌, Option, Some, None, List, [], ◌∷◌, ◌++◌, length, take, drop, arith, refl, ap, ◌∙◌, length-append}
+use Rattle.std.proofs.Common.{◌≡◌, ℕ, ◌+◌, ◌<◌, ◌≤◌, Bool, true, false, cond, ◌&&◌, Option, Some, None, List, [], ◌∷◌, ◌++◌, length, map, take, arith, refl, ap, ◌∙◌, length-append}
 use Rattle.std.specs.List.{list_all}
 use Rattle.fws_net.specs.declared.condition.Lit.{Lit}
 use Rattle.fws_net.specs.declared.outcome.End.{End}
@@ -9,11 +9,12 @@ use Rattle.fws_ifcl.specs.Soundness.{act_ok, rules_ok, chain_ok, ifcl_ok}
 use Rattle.fws_draw.specs.Right.{RightAmong, RightByParts, RulesAreRightByParts}
 use Rattle.fws_draw.specs.Rules.{ruled, always}
 use Rattle.fws_draw.specs.Straight.{is_straight}
+use Rattle.fws_join.specs.declared.decision.Decision.{Decision}
 use Rattle.fws_pf.specs.declared.config.PfConfig.{PfConfig}
 use Rattle.fws_pf.specs.declared.config.PfNat.{PfNat}
 use Rattle.fws_pf.specs.declared.config.PfRule.{PfRule}
 use Rattle.fws_pf.specs.Walk.{is_met, translations}
-use Rattle.fws_pf_ifcl.specs.Blocks.{tagging, writing, translating, translation, width_with, translation_width, translation_widths, translations_from, passing_at_once, holding, filter_rule, met_rule, met_rules, tail_place, deciding, quick_rule, slow_rule, quick_rules, slow_rules, filter_from, filter_rules}
+use Rattle.fws_pf_ifcl.specs.Blocks.{tagging, writing, translating, translation, width_with, translation_width, translation_widths, translations_from, Order, passing_at_once, holding, filter_rule, met_rule, met_rules, tail_place, rule_of, filter_from, filter_rules}
 use Rattle.fws_pf_ifcl.specs.Diagram.{tracking, skipping, translations_place, filter_place, pass_rules, chains_of, drawn_of}
 use Rattle.fws_pf_ifcl.proofs.Lengths.{translation_length, first_length, front_length}
 use Rattle.fws_pf_ifcl.proofs.Translated.{leaver, changing_by}
@@ -98,44 +99,30 @@ module _ (chains total : ℕ) (right : RightByParts chains total) where
 
   -- The tail
 
-  decide_right : (at : ℕ) (pass : Bool) (test : List Lit) → Right at (ruled test (cond pass rules.Accept rules.Drop) ∷ [])
-  decide_right at true test = refl
-  decide_right at false test = refl
+  -- the rules of decisions
+  decision_right : (at : ℕ) (passes : Bool) (test : List Lit) → Right at (ruled test (cond passes rules.Accept rules.Drop) ∷ [])
+  decision_right at true test = refl
+  decision_right at false test = refl
 
-  deciding_right : (at : ℕ) (decides : Bool) (r : PfRule) → Right at (deciding decides r)
-  deciding_right at true r = decide_right at r.pass r.cond
-  deciding_right at false r = refl
+  decisions_right : (at : ℕ) (all : List Decision) → Right at (map rule_of all)
+  decisions_right at [] = refl
+  decisions_right at (one ∷ all) =
+      right.joined at (at + 1) (rule_of one ∷ []) (map rule_of all) refl (decision_right at one.passes one.cond) (decisions_right (at + 1) all)
 
-  quick_right : (outward : Bool) (at : ℕ) (rs : List PfRule) → Right at (quick_rules outward rs)
-  quick_right outward at [] = refl
-  quick_right outward at (r ∷ rs) =
-      let here = quick_rule outward r in
-      let next = at + length here in
-      right.joined at next here (quick_rules outward rs) refl (deciding_right at (is_met r.way outward && r.quick) r) (quick_right outward next rs)
-
-  slow_right : (outward : Bool) (at : ℕ) (rs : List PfRule) → Right at (slow_rules outward rs)
-  slow_right outward at [] = refl
-  slow_right outward at (r ∷ rs) =
-      let ahead = slow_rules outward rs in
-      let next = at + length ahead in
-      right.joined at next ahead (slow_rule outward r) refl (slow_right outward at rs) (deciding_right next (is_met r.way outward && not r.quick) r)
-
-  filter_right : (outward : Bool) (at : ℕ) (rs : List PfRule) → at + length (filter_from outward at rs) ≤ total → Right at (filter_from outward at rs)
-  filter_right outward at rs le =
+  filter_right : (outward : Bool) (at : ℕ) (rs : List PfRule) (tail : List Decision) → at + length (filter_from outward at rs tail) ≤ total
+      → Right at (filter_from outward at rs tail)
+  filter_right outward at rs tail le =
       let n = tail_place outward rs in
       let ahead = met_rules outward at (take n rs) in
-      let tail = drop n rs in
-      let quick = quick_rules outward tail in
-      let slow = slow_rules outward tail in
-      let many : length (ahead ++ (quick ++ slow)) ≡ length ahead + length (quick ++ slow) = length-append ahead (quick ++ slow) in
+      let last = map rule_of tail in
+      let many : length (ahead ++ last) ≡ length ahead + length last = length-append ahead last in
       let next = at + length ahead in
-      let last = next + length quick in
-      right.joined at next ahead (quick ++ slow) refl (met_rules_right outward at (take n rs) (omega (arith, le, many)))
-      (right.joined next last quick slow refl (quick_right outward next tail) (slow_right outward last tail))
+      right.joined at next ahead last refl (met_rules_right outward at (take n rs) (omega (arith, le, many))) (decisions_right next tail)
 
-  last_right : (in_order outward : Bool) (at : ℕ) (rs : List PfRule) → at + length (filter_rules in_order outward at rs) ≤ total → Right at (filter_rules in_order outward at rs)
-  last_right true outward at rs le = met_rules_right outward at rs le
-  last_right false outward at rs le = filter_right outward at rs le
+  last_right : (order : Order) (outward : Bool) (at : ℕ) (rs : List PfRule) → at + length (filter_rules order outward at rs) ≤ total
+      → Right at (filter_rules order outward at rs)
+  last_right None outward at rs le = met_rules_right outward at rs le
+  last_right (Some tails) outward at rs le = filter_right outward at rs (tails outward) le
 
   -- Passes
 
@@ -143,39 +130,39 @@ module _ (chains total : ℕ) (right : RightByParts chains total) where
   first_right true c = refl
   first_right false c = refl
 
-  all_right : (in_order outward : Bool) (c : PfConfig) → length (pass_rules in_order outward c) ≤ total → Right 0 (pass_rules in_order outward c)
-  all_right in_order outward c le =
+  all_right : (order : Order) (outward : Bool) (c : PfConfig) → length (pass_rules order outward c) ≤ total → Right 0 (pass_rules order outward c)
+  all_right order outward c le =
       let first = tracking outward ++ skipping c in
       let nats = translations c outward in
       let place = translations_place outward in
       let filter = filter_place outward c in
       let middle = translations_from outward filter place nats in
-      let last = filter_rules in_order outward filter c.filter in
+      let last = filter_rules order outward filter c.filter in
       let few : length first ≡ place = first_length outward c in
       let front : length (first ++ middle) ≡ filter = front_length outward c in
-      let all : length (pass_rules in_order outward c) ≡ length (first ++ middle) + length last = length-append (first ++ middle) last in
+      let all : length (pass_rules order outward c) ≡ length (first ++ middle) + length last = length-append (first ++ middle) last in
       right.joined 0 filter (first ++ middle) last (omega (arith, front))
       (right.joined 0 place first middle (omega (arith, few)) (first_right outward c)
       (translations_right outward filter place nats refl (omega (arith, le, front, all))))
-      (last_right in_order outward filter c.filter (omega (arith, le, front, all)))
+      (last_right order outward filter c.filter (omega (arith, le, front, all)))
 
 -- the rules of a pass are right among any number of chains
-rules_right : (law : RulesAreRightByParts) (chains : ℕ) (in_order outward : Bool) (c : PfConfig)
-    → rules_ok chains (length (pass_rules in_order outward c)) 0 (pass_rules in_order outward c) ≡ true
-rules_right law chains in_order outward c =
-    let total = length (pass_rules in_order outward c) in
-    all_right chains total (law chains total) in_order outward c (omega arith)
+rules_right : (law : RulesAreRightByParts) (chains : ℕ) (order : Order) (outward : Bool) (c : PfConfig)
+    → rules_ok chains (length (pass_rules order outward c)) 0 (pass_rules order outward c) ≡ true
+rules_right law chains order outward c =
+    let total = length (pass_rules order outward c) in
+    all_right chains total (law chains total) order outward c (omega arith)
 
 -- so are those of both passes
-both_right : (law : RulesAreRightByParts) (chains : ℕ) (in_order : Bool) (c : PfConfig) → list_all (chain_ok chains) (chains_of in_order c) ≡ true
-both_right law chains in_order c =
-    ap (λ b. b && (rules_ok chains (length (pass_rules in_order true c)) 0 (pass_rules in_order true c) && true)) (rules_right law chains in_order false c)
-    ∙ ap (λ b. b && true) (rules_right law chains in_order true c)
+both_right : (law : RulesAreRightByParts) (chains : ℕ) (order : Order) (c : PfConfig) → list_all (chain_ok chains) (chains_of order c) ≡ true
+both_right law chains order c =
+    ap (λ b. b && (rules_ok chains (length (pass_rules order true c)) 0 (pass_rules order true c) && true)) (rules_right law chains order false c)
+    ∙ ap (λ b. b && true) (rules_right law chains order true c)
 
 -- every number in the diagram is right
-pub diagram_ok : (law : RulesAreRightByParts) (in_order : Bool) (c : PfConfig) → ifcl_ok (drawn_of in_order c) ≡ true
-diagram_ok law in_order c = ap (λ b. b && true && true && true && true) (both_right law 2 in_order c)
+pub diagram_ok : (law : RulesAreRightByParts) (order : Order) (c : PfConfig) → ifcl_ok (drawn_of order c) ≡ true
+diagram_ok law order c = ap (λ b. b && true && true && true && true) (both_right law 2 order c)
 
 -- no rule names a chain
-pub diagram_straight : (law : RulesAreRightByParts) (in_order : Bool) (c : PfConfig) → is_straight (drawn_of in_order c) ≡ true
-diagram_straight law in_order c = both_right law 0 in_order c
+pub diagram_straight : (law : RulesAreRightByParts) (order : Order) (c : PfConfig) → is_straight (drawn_of order c) ≡ true
+diagram_straight law order c = both_right law 0 order c

@@ -22,12 +22,12 @@ use Rattle.fws_pf.specs.declared.config.PfConfig.{PfConfig}
 use Rattle.fws_pf.specs.declared.config.PfNat.{PfNat}
 use Rattle.fws_pf.specs.declared.config.PfRule.{PfRule}
 use Rattle.fws_pf.specs.Walk.{written, tagged, translated_by, translations, chosen, matches, acted, rules_walk, behind, interface_of, pass_of, walk}
-use Rattle.fws_pf_ifcl.specs.Blocks.{translations_from, filter_rules}
+use Rattle.fws_pf_ifcl.specs.Blocks.{Order, translations_from, filter_rules}
 use Rattle.fws_pf_ifcl.specs.Diagram.{tracking, skipping, translations_place, filter_place, pass_rules, chains_of, pass_stage, drawn_of}
 use Rattle.fws_pf_ifcl.proofs.Courses.{Course, course}
 use Rattle.fws_pf_ifcl.proofs.Lengths.{first_length, front_length}
 use Rattle.fws_pf_ifcl.proofs.Settling.{settled, left, left_by, settled_by, is_settled, either, decided_settled}
-use Rattle.fws_pf_ifcl.proofs.Filtering.{last_walk}
+use Rattle.fws_pf_ifcl.proofs.Filtering.{Fits, last_walk}
 use Rattle.fws_pf_ifcl.proofs.Translated.{translations_walk}
 
 -- Passes
@@ -47,32 +47,32 @@ first_rules false w c s t =
     ∙ ap (λ b. cond b (Accepted t) (run w 3 t)) (and_true (is_shown (interface_of w.site false t) c.skip))
 
 -- a pass through all rules
-pub pass_drawn : (law : WalksGoByPlaces) (enter : ℕ → Transit → ChainEnd) (site : Site) (p : Packet) (k : Kind) (in_order outward : Bool) (c : PfConfig) (t : Transit)
-    → left (run (course law enter site p k in_order outward c) 0 t) ≡ settled (pass_of c site p k outward t)
-pass_drawn law enter site p (Est r) in_order true c t =
-    let w = course law enter site p (Est r) in_order true c in
-    let first : Stands w 0 (tracking true) = record { rest = drop 1 (pass_rules in_order true c); are = refl } in
+pub pass_drawn : (law : WalksGoByPlaces) (enter : ℕ → Transit → ChainEnd) (site : Site) (p : Packet) (k : Kind) (order : Order) (outward : Bool) (c : PfConfig) → Fits order outward c.filter → (t : Transit)
+    → left (run (course law enter site p k order outward c) 0 t) ≡ settled (pass_of c site p k outward t)
+pass_drawn law enter site p (Est r) order true c fits t =
+    let w = course law enter site p (Est r) order true c in
+    let first : Stands w 0 (tracking true) = record { rest = drop 1 (pass_rules order true c); are = refl } in
     ap left (w.law.walked first (tt, tt) t)
-pass_drawn law enter site p (Est r) in_order false c t =
-    let w = course law enter site p (Est r) in_order false c in
-    let first : Stands w 0 (tracking false) = record { rest = drop 2 (pass_rules in_order false c); are = refl } in
+pass_drawn law enter site p (Est r) order false c fits t =
+    let w = course law enter site p (Est r) order false c in
+    let first : Stands w 0 (tracking false) = record { rest = drop 2 (pass_rules order false c); are = refl } in
     ap left (w.law.walked first (tt, (tt, tt)) t)
-pass_drawn law enter site p New in_order outward c t =
-    let w = course law enter site p New in_order outward c in
+pass_drawn law enter site p New order outward c fits t =
+    let w = course law enter site p New order outward c in
     let first = tracking outward ++ skipping c in
     let nats = translations c outward in
     let place = translations_place outward in
     let filter = filter_place outward c in
     let middle = translations_from outward filter place nats in
-    let last = filter_rules in_order outward filter c.filter in
+    let last = filter_rules order outward filter c.filter in
     let ahead : Stands w 0 (first ++ middle) = record { rest = last; are = refl } in
     let few : length first ≡ place = first_length outward c in
     let parts = w.law.parts place first middle ahead (omega (arith, few)) in
-    let rest : drop filter w.full ≡ last = ap (λ n. drop n (pass_rules in_order outward c)) (sym (front_length outward c)) ∙ drop-append_seam (first ++ middle) last in
+    let rest : drop filter w.full ≡ last = ap (λ n. drop n (pass_rules order outward c)) (sym (front_length outward c)) ∙ drop-append_seam (first ++ middle) last in
     let b = is_shown (interface_of site outward t) c.skip in
     ap left (first_rules outward w c parts.0 t)
     ∙ left_by b (Accepted t) (run w place t)
-    ∙ ap (cond b (settled (Some t))) (translations_walk outward w c filter (last_walk in_order outward w filter c.filter rest) place nats parts.1 refl t)
+    ∙ ap (cond b (settled (Some t))) (translations_walk outward w c filter (last_walk order outward w filter c.filter fits rest) place nats parts.1 refl t)
     ∙ settled_by b (Some t) (behind c site p outward (chosen site outward nats t) t)
 
 -- What a pass accepts is settled
@@ -128,19 +128,19 @@ outcome_settles k None = refl
 outcome_settles New (Some t) = refl
 outcome_settles (Est r) (Some t) = refl
 
-module _ (law : WalksGoByPlaces) (site : Site) (in_order : Bool) (c : PfConfig) (p : Packet) (k : Kind) where
+module _ (law : WalksGoByPlaces) (site : Site) (order : Order) (c : PfConfig) (fits : (outward : Bool) → Fits order outward c.filter) (p : Packet) (k : Kind) where
   abbrev drawn : List Stage → Transit → Option Transit
-  drawn stages t = stages_walk (chains_of in_order c) site p k stages t
+  drawn stages t = stages_walk (chains_of order c) site p k stages t
 
   -- a stage begins with its own verdict
   stage_passes : (outward : Bool) (t : Transit)
-      → settled (stage_walk (chains_of in_order c) site p k (pass_stage outward) t) ≡ settled (pass_of c site p k outward (with_verdict true t))
-  stage_passes true t = pass_drawn law (chain_walk (chains_of in_order c) site p k (pass_stage true) 1 (1 ∷ [])) site p k in_order true c (with_verdict true t)
-  stage_passes false t = pass_drawn law (chain_walk (chains_of in_order c) site p k (pass_stage false) 1 (0 ∷ [])) site p k in_order false c (with_verdict true t)
+      → settled (stage_walk (chains_of order c) site p k (pass_stage outward) t) ≡ settled (pass_of c site p k outward (with_verdict true t))
+  stage_passes true t = pass_drawn law (chain_walk (chains_of order c) site p k (pass_stage true) 1 (1 ∷ [])) site p k order true c (fits true) (with_verdict true t)
+  stage_passes false t = pass_drawn law (chain_walk (chains_of order c) site p k (pass_stage false) 1 (0 ∷ [])) site p k order false c (fits false) (with_verdict true t)
 
   -- one stage alone
   pub passes : (outward : Bool) (t : Transit) → settled (drawn (pass_stage outward ∷ []) t) ≡ settled (pass_of c site p k outward (with_verdict true t))
-  passes outward t = ap settled (all_of (stage_walk (chains_of in_order c) site p k (pass_stage outward) t)) ∙ stage_passes outward t
+  passes outward t = ap settled (all_of (stage_walk (chains_of order c) site p k (pass_stage outward) t)) ∙ stage_passes outward t
 
   -- how a packet goes on behind routing, in the diagram and under pf
   abbrev drawn_on : Transit → Option Transit
@@ -173,12 +173,13 @@ module _ (law : WalksGoByPlaces) (site : Site) (in_order : Bool) (c : PfConfig) 
   two_ways false x y z v first second = second
 
   -- every packet
-  pub means_kept : means (drawn_of in_order c) site p k ≡ walk c site p k
+  pub means_kept : means (drawn_of order c) site p k ≡ walk c site p k
   means_kept =
       outcome_settles k _
       ∙ ap (outcome_of k) (two_ways (nat_eq p.entry 0) _ _ _ _ (passes true (entered p)) arrived)
       ∙ sym (outcome_settles k _)
 
 -- what the diagram says of a packet is what becomes of it
-pub keeps_walks : (law : WalksGoByPlaces) (site : Site) (in_order : Bool) (c : PfConfig) (p : Packet) (k : Kind) → means (drawn_of in_order c) site p k ≡ walk c site p k
-keeps_walks law site in_order c p k = means_kept law site in_order c p k
+pub keeps_walks : (law : WalksGoByPlaces) (site : Site) (order : Order) (c : PfConfig) → ((outward : Bool) → Fits order outward c.filter) → (p : Packet) (k : Kind)
+    → means (drawn_of order c) site p k ≡ walk c site p k
+keeps_walks law site order c fits p k = means_kept law site order c fits p k

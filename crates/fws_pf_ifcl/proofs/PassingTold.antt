@@ -43,13 +43,13 @@ beside_of told_law false c = told_law.beside (pass_told false c ∷ pass_told tr
 
 -- what is told of a packet's course
 abbrev telling : (told_law : TellsOfUses) (law : WalksGoByPlaces) (used : ℕ → Transit → List Place) (enter : ℕ → Transit → ChainEnd) (site : Site) (p : Packet) (k : Kind)
-    (outward : Bool) (c : PfConfig) → Telling (course law enter site p k true outward c)
+    (outward : Bool) (c : PfConfig) → Telling (course law enter site p k None outward c)
 telling told_law law used enter site p k outward c = record {
   used = used;
   spots = spots_of c;
   chain = chain_of outward;
   beside = pass_told outward c;
-  law = told_law.places used enter (spots_of c) (chain_of outward) site p k (pass_stage outward) (pass_rules true outward c) (pass_told outward c) (beside_of told_law outward c);
+  law = told_law.places used enter (spots_of c) (chain_of outward) site p k (pass_stage outward) (pass_rules None outward c) (pass_told outward c) (beside_of told_law outward c);
 }
 
 -- the first rules, for a new packet
@@ -67,19 +67,19 @@ first_rules_told false w u c s b t =
 pass_tells : (told_law : TellsOfUses) (law : WalksGoByPlaces) (used : ℕ → Transit → List Place) (enter : ℕ → Transit → ChainEnd) (site : Site) (p : Packet) (k : Kind)
     (outward : Bool) (c : PfConfig) (t : Transit) → tell (telling told_law law used enter site p k outward c) 0 t ≡ pass_used c site p k outward t
 pass_tells told_law law used enter site p (Est r) true c t =
-    let w = course law enter site p (Est r) true true c in
+    let w = course law enter site p (Est r) None true c in
     let u = telling told_law law used enter site p (Est r) true c in
-    let first : Stands w 0 (tracking true) = record { rest = drop 1 (pass_rules true true c); are = refl } in
+    let first : Stands w 0 (tracking true) = record { rest = drop 1 (pass_rules None true c); are = refl } in
     let beside : Bears u 0 (untold (tracking true)) = record { rest = drop 1 (pass_told true c); are = refl } in
     u.law.told first beside (tt, tt) t
 pass_tells told_law law used enter site p (Est r) false c t =
-    let w = course law enter site p (Est r) true false c in
+    let w = course law enter site p (Est r) None false c in
     let u = telling told_law law used enter site p (Est r) false c in
-    let first : Stands w 0 (tracking false) = record { rest = drop 2 (pass_rules true false c); are = refl } in
+    let first : Stands w 0 (tracking false) = record { rest = drop 2 (pass_rules None false c); are = refl } in
     let beside : Bears u 0 (untold (tracking false)) = record { rest = drop 2 (pass_told false c); are = refl } in
     u.law.told first beside (tt, (tt, tt)) t
 pass_tells told_law law used enter site p New outward c t =
-    let w = course law enter site p New true outward c in
+    let w = course law enter site p New None outward c in
     let u = telling told_law law used enter site p New outward c in
     let first = tracking outward ++ skipping c in
     let nats = translations c outward in
@@ -94,7 +94,7 @@ pass_tells told_law law used enter site p New outward c t =
     let few_told : length (untold first) ≡ place = first_told_many told_law outward c in
     let parts = w.law.parts place first middle ahead (omega (arith, few)) in
     let besides = u.law.parts place (untold first) middle_told ahead_beside (omega (arith, few_told)) in
-    let rest : drop filter w.full ≡ last = ap (λ n. drop n (pass_rules true outward c)) (sym (front_length outward c)) ∙ drop-append_seam (first ++ middle) last in
+    let rest : drop filter w.full ≡ last = ap (λ n. drop n (pass_rules None outward c)) (sym (front_length outward c)) ∙ drop-append_seam (first ++ middle) last in
     first_rules_told outward w u c parts.0 besides.0 t
     ∙ ap (cond (is_shown (interface_of site outward t) c.skip) [])
     (translations_tell outward w u c filter told_law.first_many
@@ -108,22 +108,22 @@ none_behind (Some t) = refl
 
 module _ (told_law : TellsOfUses) (law : WalksGoByPlaces) (site : Site) (c : PfConfig) (p : Packet) (k : Kind) where
   -- one stage
-  stage_tells : (outward : Bool) (t : Transit) → told (spots_of c) (stage_used (chains_of true c) site p k (pass_stage outward) t) ≡ pass_used c site p k outward (with_verdict true t)
+  stage_tells : (outward : Bool) (t : Transit) → told (spots_of c) (stage_used (chains_of None c) site p k (pass_stage outward) t) ≡ pass_used c site p k outward (with_verdict true t)
   stage_tells true t =
-      pass_tells told_law law (chain_used (chains_of true c) site p k (pass_stage true) 1 (1 ∷ [])) (chain_walk (chains_of true c) site p k (pass_stage true) 1 (1 ∷ [])) site p k true c
+      pass_tells told_law law (chain_used (chains_of None c) site p k (pass_stage true) 1 (1 ∷ [])) (chain_walk (chains_of None c) site p k (pass_stage true) 1 (1 ∷ [])) site p k true c
       (with_verdict true t)
   stage_tells false t =
-      pass_tells told_law law (chain_used (chains_of true c) site p k (pass_stage false) 1 (0 ∷ [])) (chain_walk (chains_of true c) site p k (pass_stage false) 1 (0 ∷ [])) site p k false c
+      pass_tells told_law law (chain_used (chains_of None c) site p k (pass_stage false) 1 (0 ∷ [])) (chain_walk (chains_of None c) site p k (pass_stage false) 1 (0 ∷ [])) site p k false c
       (with_verdict true t)
 
   abbrev drawn_told : Bool → Transit → List ℕ
-  drawn_told outward t = stages_told (spots_of c) (chains_of true c) site p k (pass_stage outward ∷ []) t
+  drawn_told outward t = stages_told (spots_of c) (chains_of None c) site p k (pass_stage outward ∷ []) t
 
   -- alone
   alone_tells : (outward : Bool) (t : Transit) → drawn_told outward t ≡ pass_used c site p k outward (with_verdict true t)
   alone_tells outward t =
-      let here = told (spots_of c) (stage_used (chains_of true c) site p k (pass_stage outward) t) in
-      ap (λ l. here ++ l) (none_behind (stage_walk (chains_of true c) site p k (pass_stage outward) t)) ∙ append-nil here ∙ stage_tells outward t
+      let here = told (spots_of c) (stage_used (chains_of None c) site p k (pass_stage outward) t) in
+      ap (λ l. here ++ l) (none_behind (stage_walk (chains_of None c) site p k (pass_stage outward) t)) ∙ append-nil here ∙ stage_tells outward t
 
   -- behind routing, in the diagram and under pf
   abbrev drawn_behind : Transit → List ℕ
@@ -148,8 +148,8 @@ module _ (told_law : TellsOfUses) (law : WalksGoByPlaces) (site : Site) (c : PfC
   uses_kept =
       let b = nat_eq p.entry 0 in
       let e = entered p in
-      let o = stages_walk (chains_of true c) site p k (pass_stage false ∷ []) e in
-      let arrived : settled o ≡ pass_of c site p k false e = passes law site true c p k false e ∙ pass_settles c site p k false e refl in
+      let o = stages_walk (chains_of None c) site p k (pass_stage false ∷ []) e in
+      let arrived : settled o ≡ pass_of c site p k false e = passes law site None c (λ outward. tt) p k false e ∙ pass_settles c site p k false e refl in
       told_law.stages (spots_of c) (placed_of c) site p k
       ∙ ap (λ l. cond b l (drawn_told false e ++ option_map_or drawn_behind o [])) (alone_tells true e)
       ∙ ap (λ l. cond b (pass_used c site p k true e) (l ++ option_map_or drawn_behind o [])) (alone_tells false e)

@@ -1,5 +1,5 @@
 -- The rules of a diagram to which rules of pf are unfolded.
-use Rattle.std.specs.Prelude.{ℕ, ◌+◌, Bool, not, ◌&&◌, Option, Some, None, List, [], ◌∷◌, ◌++◌, length, take, drop, if◌then◌else◌}
+use Rattle.std.specs.Prelude.{◌≡◌, ℕ, ◌+◌, Bool, not, ◌&&◌, Option, Some, None, List, [], ◌∷◌, ◌++◌, length, map, take, drop, if◌then◌else◌}
 use Rattle.std.specs.Option.{is_some, option_map_or}
 use Rattle.fws_net.specs.declared.condition.Lit.{Lit}
 use Rattle.fws_net.specs.declared.outcome.End.{End}
@@ -7,6 +7,8 @@ use Rattle.fws_ifcl.specs.declared.diagram.Act.{Act}
 use Rattle.fws_ifcl.specs.declared.diagram.Act.TheVariants.{Accept, Drop, Hold, Skip, Src, Dst, OnlyTag}
 use Rattle.fws_ifcl.specs.declared.diagram.Rule.{Rule}
 use Rattle.fws_draw.specs.Rules.{ruled, always, guarded}
+use Rattle.fws_join.specs.declared.decision.Decision.{Decision}
+use Rattle.fws_join.specs.Deciding.{StandsFor}
 use Rattle.fws_pf.specs.declared.config.PfNat.{PfNat}
 use Rattle.fws_pf.specs.declared.config.PfRule.{PfRule}
 use Rattle.fws_pf.specs.Walk.{is_met}
@@ -94,36 +96,66 @@ behind_tags outward place at (r ∷ rs) = behind_tags outward (if puts_tag outwa
 abbrev pub tail_place : Bool → List PfRule → ℕ
 tail_place outward rs = behind_tags outward 0 0 rs
 
--- the rule of a filter rule that decides where its condition holds, if there is to be one
-abbrev pub deciding : Bool → PfRule → List Rule
-deciding decides r = if decides then ruled r.cond (if r.pass then Accept else Drop) ∷ [] else []
+-- what a filter rule decides where its condition holds, if it is to
+abbrev pub deciding : Bool → PfRule → List Decision
+deciding decides r = if decides then record { cond = r.cond; passes = r.pass } ∷ [] else []
 
--- a rule that is quick, and one that isn't
-abbrev pub quick_rule : Bool → PfRule → List Rule
+-- that of a rule that is quick, and that of one that isn't
+abbrev pub quick_rule : Bool → PfRule → List Decision
 quick_rule outward r = deciding (is_met r.way outward && r.quick) r
 
-abbrev pub slow_rule : Bool → PfRule → List Rule
+abbrev pub slow_rule : Bool → PfRule → List Decision
 slow_rule outward r = deciding (is_met r.way outward && not r.quick) r
 
 -- those that are quick, in their order
-abbrev pub quick_rules : Bool → List PfRule → List Rule
+abbrev pub quick_rules : Bool → List PfRule → List Decision
 quick_rules outward [] = []
 quick_rules outward (r ∷ rs) = quick_rule outward r ++ quick_rules outward rs
 
 -- those that aren't, the last one first
-abbrev pub slow_rules : Bool → List PfRule → List Rule
+abbrev pub slow_rules : Bool → List PfRule → List Decision
 slow_rules outward [] = []
 slow_rules outward (r ∷ rs) = slow_rules outward rs ++ slow_rule outward r
 
 -- no rule of the tail changes what another one sees, so that the first quick one that matches decides, else the last of the others
-abbrev pub tail_rules : Bool → List PfRule → List Rule
+abbrev pub tail_rules : Bool → List PfRule → List Decision
 tail_rules outward rs = quick_rules outward rs ++ slow_rules outward rs
 
--- the rules of all filter rules, of which the first has the place at
-abbrev pub filter_from : Bool → ℕ → List PfRule → List Rule
-filter_from outward at rs =
-    met_rules outward at (take (tail_place outward rs) rs) ++ tail_rules outward (drop (tail_place outward rs) rs)
+-- the filter rules of the tail
+abbrev pub tail_of : Bool → List PfRule → List PfRule
+tail_of outward rs = drop (tail_place outward rs) rs
 
--- they stand in their order, or as they decide first
-abbrev pub filter_rules : Bool → Bool → ℕ → List PfRule → List Rule
-filter_rules in_order outward at rs = if in_order then met_rules outward at rs else filter_from outward at rs
+-- the rule of a decision
+abbrev pub rule_of : Decision → Rule
+rule_of one = ruled one.cond (if one.passes then Accept else Drop)
+
+-- the rules of all filter rules, of which the first has the place at, with these decisions for the tail
+abbrev pub filter_from : Bool → ℕ → List PfRule → List Decision → List Rule
+filter_from outward at rs tail = met_rules outward at (take (tail_place outward rs) rs) ++ map rule_of tail
+
+-- how filter rules stand in a pass: in their order, or as they decide first, with these decisions for the tail
+abbrev pub Order : Type 0
+Order = Option (Bool → List Decision)
+
+abbrev pub filter_rules : Order → Bool → ℕ → List PfRule → List Rule
+filter_rules None outward at rs = met_rules outward at rs
+filter_rules (Some tails) outward at rs = filter_from outward at rs (tails outward)
+
+abbrev pub order_of : Bool → (Bool → List Decision) → Order
+order_of in_order tails = if in_order then None else Some tails
+
+-- decisions stand for those of the tail
+abbrev pub IsTail : Bool → List PfRule → List Decision → Type 0
+IsTail outward rs tail = StandsFor tail (tail_rules outward (tail_of outward rs))
+
+-- rules are behind others of decisions that stand for those of the rules of a tail
+pub record EndsIn (outward : Bool) (tail : List PfRule) (ahead rules : List Rule) : Type 0 where
+  pub decisions : List Decision
+  pub stand : StandsFor decisions (tail_rules outward tail)
+  pub are : rules ≡ ahead ++ map rule_of decisions
+
+-- the rules of filter rules are behind others, with decisions that stand for those of the tail
+pub record IsFiltered (in_order outward : Bool) (rs : List PfRule) (ahead rules : List Rule) : Type 0 where
+  pub tail : List Decision
+  pub stands : IsTail outward rs tail
+  pub are : rules ≡ ahead ++ filter_rules (order_of in_order (λ _. tail)) outward (length ahead) rs

@@ -1,6 +1,6 @@
 -- The diagram of a pf configuration in which all filter rules stand in their order, and where each rule of the configuration stands in it: at
 -- the first of those to which it is unfolded. The walk comes to that one as pf's walk comes to the rule.
-use Rattle.std.specs.Prelude.{ℕ, suc, ◌+◌, Bool, true, false, List, [], ◌∷◌, ◌++◌, length}
+use Rattle.std.specs.Prelude.{ℕ, suc, ◌+◌, Bool, true, false, None, List, [], ◌∷◌, ◌++◌, length}
 use Rattle.fws_ifcl.specs.declared.diagram.Ifcl.{Ifcl}
 use Rattle.fws_ifcl.specs.declared.diagram.Spot.{Spot}
 use Rattle.fws_draw.specs.UsedPlaces.{untold, first_told, chain_spots}
@@ -13,7 +13,7 @@ use Rattle.fws_pf_ifcl.specs.Blocks.{translation, translation_width, met_rule}
 use Rattle.fws_pf_ifcl.specs.Diagram.{tracking, skipping, translations_place, filter_place, drawn_of}
 
 abbrev pub placed_of : PfConfig → Ifcl
-placed_of c = drawn_of true c
+placed_of c = drawn_of None c
 
 -- how many rules a configuration has
 abbrev pub rule_count : PfConfig → ℕ

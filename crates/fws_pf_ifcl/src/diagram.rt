@@ -1,6 +1,6 @@
 //! The diagram of a configuration.
 
-ghost use Rattle.std.specs.Prelude.{◌≡◌, [], ◌∷◌, ◌++◌, true, None, IfOk, OnOk};
+ghost use Rattle.std.specs.Prelude.{◌≡◌, [], ◌∷◌, ◌++◌, true, false, None, IfOk, OnOk};
 ghost use Rattle.fws_net.specs.declared.connection.Kind.{Kind};
 ghost use Rattle.fws_net.specs.declared.packet.Packet.{Packet};
 ghost use Rattle.fws_ifcl.specs.Refusals.{refusal_of};
@@ -12,7 +12,7 @@ ghost use Rattle.fws_draw.specs.Rules.{ruled};
 ghost use Rattle.fws_draw.specs.Straight.{is_straight};
 ghost use Rattle.fws_pf.specs.Uses.{used};
 ghost use Rattle.fws_pf.specs.Walk.{translations, walk};
-ghost use Rattle.fws_pf_ifcl.specs.Diagram.{chains_of, diagram_of, drawn_of, filter_place, pass_rules, pass_stage, skipping, tracking, translations_place};
+ghost use Rattle.fws_pf_ifcl.specs.Diagram.{ArePasses, IsDrawn, IsPass, filter_place, pass_stage, skipping, tracking, translations_place};
 ghost use Rattle.fws_pf_ifcl.specs.Placed.{rule_count};
 
 use crate::filter::put_filter_rules;
@@ -96,7 +96,7 @@ fn pass_rules(
     outward: bool,
     c: &PfConfig,
 ) -> Result<Vec<Rule>, Memory>
-    ensures { IfOk result (λ rules. rules.items ≡ pass_rules in_order outward c.now) }
+    ensures { IfOk result (λ rules. IsPass in_order outward c.now rules.items) }
 {
     let filter = filter_place(outward, c)?;
     let mut rules = Vec::new(alloc);
@@ -138,7 +138,7 @@ fn put_chains(
     in_order: bool,
     c: &PfConfig,
 ) -> Result<(), Memory>
-    ensures { OnOk result (chains.new ≡ chains.old ++ chains_of in_order c.now) }
+    ensures { OnOk result (ArePasses in_order c.now chains.old chains.new) }
 {
     put_chain(alloc, chains, b"in", pass_rules(alloc, in_order, false, c)?)?;
     put_chain(alloc, chains, b"out", pass_rules(alloc, in_order, true, c)?)?;
@@ -147,7 +147,7 @@ fn put_chains(
 
 /// The chains of the two passes. An error is want of memory.
 fn chains_of(alloc: Global, in_order: bool, c: &PfConfig) -> Result<Items<Chain>, Memory>
-    ensures { IfOk result (λ chains. chains ≡ chains_of in_order c.now) }
+    ensures { IfOk result (ArePasses in_order c.now []) }
 {
     let mut chains = Items::new(alloc);
     put_chains(alloc, &mut chains, in_order, c)?;
@@ -169,7 +169,7 @@ fn pass_stage(outward: bool) -> Stage
 
 /// The diagram, put together from its chains and stages. An error is want of memory.
 fn drawn(alloc: Global, in_order: bool, c: &PfConfig) -> Result<Ifcl, Memory>
-    ensures { IfOk result (λ d. d ≡ drawn_of in_order c.now) }
+    ensures { IfOk result (IsDrawn in_order c.now) }
 {
     let mut arrive = Items::new(alloc);
     arrive.put(pass_stage(false))?;
@@ -190,10 +190,10 @@ fn drawn(alloc: Global, in_order: bool, c: &PfConfig) -> Result<Ifcl, Memory>
 /// does, new or of a connection, and it can be unfolded. One chain has the rules of packets that come in,
 /// and one those of packets that go out: translations, the first of which that matches skips to the filter
 /// rules, and these, whose verdict so far is held as long as a later one puts a tag, and of which behind that
-/// the one that decides stands first. An error is want of memory, or of numbers for rules.
-/// Linear in the rules.
+/// the one that decides stands first; there, neighbours that do the same and differ in one set are one rule.
+/// An error is want of memory, or of numbers for rules. Near-linear in the rules.
 pub fn to_ifcl(alloc: Global, c: &PfConfig, site: &Site) -> Result<Ifcl, Memory>
-    ensures diagram { IfOk result (λ d. d ≡ diagram_of c.now) }
+    ensures diagram { IfOk result (IsDrawn false c.now) }
     ensures ok { IfOk result (λ d. ifcl_ok d ≡ true) }
     ensures means { IfOk result (λ d. (p : Packet) (k : Kind) → means d site.now p k ≡ walk c.now site.now p k) }
     ensures straight { IfOk result (λ d. is_straight d ≡ true) }

@@ -1,7 +1,7 @@
 //! The rules to which filter rules are unfolded.
 
-ghost use Rattle.std.specs.Prelude.{◌≡◌, ◌++◌, length, OnOk};
-ghost use Rattle.fws_pf_ifcl.specs.Blocks.{filter_from, filter_rule, filter_rules, holding, met_rule, met_rules, passing_at_once};
+ghost use Rattle.std.specs.Prelude.{◌≡◌, ◌++◌, false, length, OnOk};
+ghost use Rattle.fws_pf_ifcl.specs.Blocks.{IsFiltered, filter_rule, holding, met_rule, met_rules, passing_at_once};
 
 use crate::tail::{is_met, put_tail, tail_place};
 use fws_draw::{put_always, put_guard, put_rule};
@@ -104,7 +104,7 @@ fn put_filter(
     outward: bool,
     filter: &[PfRule],
 ) -> Result<(), Memory>
-    ensures { OnOk result (rules.new.items ≡ rules.old.items ++ filter_from outward (length rules.old.items) filter.now) }
+    ensures { OnOk result (IsFiltered false outward filter.now rules.old.items rules.new.items) }
 {
     let (ahead, tail) = filter.split_at(tail_place(outward, filter));
     put_met_rules(alloc, rules, outward, ahead)?;
@@ -121,7 +121,7 @@ pub(crate) fn put_filter_rules(
     outward: bool,
     filter: &[PfRule],
 ) -> Result<(), Memory>
-    ensures { OnOk result (rules.new.items ≡ rules.old.items ++ filter_rules in_order outward (length rules.old.items) filter.now) }
+    ensures { OnOk result (IsFiltered in_order outward filter.now rules.old.items rules.new.items) }
 {
     if in_order {
         put_met_rules(alloc, rules, outward, filter)?;

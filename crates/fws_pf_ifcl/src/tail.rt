@@ -1,12 +1,14 @@
 //! The rules of the tail: behind the last filter rule that puts a tag nothing changes what a rule sees, so
 //! that the rule that decides can be found as the first one that matches.
 
-ghost use Rattle.std.specs.Prelude.{◌≡◌, ◌++◌, OnOk};
+ghost use Rattle.std.specs.Prelude.{◌≡◌, [], ◌∷◌, ◌++◌, map, IfOk, OnOk};
 ghost use Rattle.fws_pf.specs.Walk.{is_met};
-ghost use Rattle.fws_pf_ifcl.specs.Blocks.{deciding, puts_tag, quick_rule, quick_rules, slow_rule, slow_rules, tail_place, tail_rules};
+ghost use Rattle.fws_join.specs.Deciding.{StandsFor};
+ghost use Rattle.fws_pf_ifcl.specs.Blocks.{EndsIn, deciding, puts_tag, quick_rule, quick_rules, rule_of, slow_rule, slow_rules, tail_place, tail_rules};
 
 use fws_draw::put_rule;
 use fws_ifcl::{Act, Rule};
+use fws_join::{Decision, Joining, decisions_stand_by_parts};
 use fws_num::Memory;
 use fws_pf::{PfRule, Way};
 use std::alloc::Global;
@@ -42,95 +44,124 @@ pub(crate) fn tail_place(outward: bool, filter: &[PfRule]) -> usize
     place
 }
 
-/// Puts the rule behind the others that decides where a filter rule's condition holds, if there is to be one.
-/// An error is want of memory.
+/// Puts what a filter rule decides where its condition holds behind the others, if it is to. An error is want of memory.
 fn put_deciding(
     alloc: Global,
-    rules: &mut Vec<Rule>,
+    all: &mut Joining,
     decides: bool,
     rule: &PfRule,
 ) -> Result<(), Memory>
-    ensures { OnOk result (rules.new.items ≡ rules.old.items ++ deciding decides rule.now) }
+    ensures { OnOk result (StandsFor all.new (all.old ++ deciding decides rule.now)) }
 {
+    decisions_stand_by_parts();
     if !decides {
         return Ok(());
     }
     let cond = rule.cond.copy(alloc)?;
-    put_rule(rules, cond, if rule.pass { Act::Accept } else { Act::Drop })?;
+    all.put(alloc, cond, rule.pass)?;
     Ok(())
 }
 
-/// Puts the rule of a filter rule behind the others if it is met on the pass and quick. An error is want of
-/// memory.
+/// Puts that of a filter rule behind the others if it is met on the pass and quick. An error is want of memory.
 fn put_quick_rule(
     alloc: Global,
-    rules: &mut Vec<Rule>,
+    all: &mut Joining,
     outward: bool,
     rule: &PfRule,
 ) -> Result<(), Memory>
-    ensures { OnOk result (rules.new.items ≡ rules.old.items ++ quick_rule outward rule.now) }
+    ensures { OnOk result (StandsFor all.new (all.old ++ quick_rule outward rule.now)) }
 {
     let decides = is_met(rule.way, outward) && rule.quick;
-    put_deciding(alloc, rules, decides, rule)?;
+    put_deciding(alloc, all, decides, rule)?;
     Ok(())
 }
 
-/// Puts the rule of a filter rule behind the others if it is met on the pass and not quick. An error is want
-/// of memory.
+/// Puts that of a filter rule behind the others if it is met on the pass and not quick. An error is want of memory.
 fn put_slow_rule(
     alloc: Global,
-    rules: &mut Vec<Rule>,
+    all: &mut Joining,
     outward: bool,
     rule: &PfRule,
 ) -> Result<(), Memory>
-    ensures { OnOk result (rules.new.items ≡ rules.old.items ++ slow_rule outward rule.now) }
+    ensures { OnOk result (StandsFor all.new (all.old ++ slow_rule outward rule.now)) }
 {
     let decides = is_met(rule.way, outward) && !rule.quick;
-    put_deciding(alloc, rules, decides, rule)?;
+    put_deciding(alloc, all, decides, rule)?;
     Ok(())
 }
 
-/// Puts the rules of the quick ones behind the others, in their order. An error is want of memory.
+/// Puts those of the quick rules behind the others, in their order. An error is want of memory.
 fn put_quick_rules(
     alloc: Global,
-    rules: &mut Vec<Rule>,
+    all: &mut Joining,
     outward: bool,
     tail: &[PfRule],
 ) -> Result<(), Memory>
-    ensures { OnOk result (rules.new.items ≡ rules.old.items ++ quick_rules outward tail.now) }
+    ensures { OnOk result (StandsFor all.new (all.old ++ quick_rules outward tail.now)) }
 {
+    decisions_stand_by_parts();
     for rule in tail {
-        put_quick_rule(alloc, rules, outward, rule)?;
+        put_quick_rule(alloc, all, outward, rule)?;
     }
     Ok(())
 }
 
-/// Puts the rules of those that aren't quick behind the others, the last one first. An error is want of
-/// memory.
+/// Puts those of the rules that aren't quick behind the others, the last one first. An error is want of memory.
 fn put_slow_rules(
     alloc: Global,
-    rules: &mut Vec<Rule>,
+    all: &mut Joining,
     outward: bool,
     tail: &[PfRule],
 ) -> Result<(), Memory>
-    ensures { OnOk result (rules.new.items ≡ rules.old.items ++ slow_rules outward tail.now) }
+    ensures { OnOk result (StandsFor all.new (all.old ++ slow_rules outward tail.now)) }
 {
+    decisions_stand_by_parts();
     for i in (0..tail.len()).rev() {
-        put_slow_rule(alloc, rules, outward, &tail[i])?;
+        put_slow_rule(alloc, all, outward, &tail[i])?;
     }
     Ok(())
 }
 
-/// Puts the rules of the tail behind the others. An error is want of memory.
+/// Decisions that stand for those of the tail, of which neighbours are joined. An error is want of memory.
+fn joined_tail(alloc: Global, outward: bool, tail: &[PfRule]) -> Result<Vec<Decision>, Memory>
+    ensures { IfOk result (λ all. StandsFor all.items (tail_rules outward tail.now)) }
+{
+    decisions_stand_by_parts();
+    let mut all = Joining::new(alloc);
+    put_quick_rules(alloc, &mut all, outward, tail)?;
+    put_slow_rules(alloc, &mut all, outward, tail)?;
+    let fewer = all.into_decisions(alloc)?;
+    Ok(fewer)
+}
+
+/// Puts the rule of a decision behind the others. An error is want of memory.
+fn put_decision(rules: &mut Vec<Rule>, one: Decision) -> Result<(), Memory>
+    ensures { OnOk result (rules.new.items ≡ rules.old.items ++ rule_of one ∷ []) }
+{
+    let Decision { cond, passes } = one;
+    put_rule(rules, cond, if passes { Act::Accept } else { Act::Drop })
+}
+
+/// Puts the rules of decisions behind the others. An error is want of memory.
+fn put_decisions(rules: &mut Vec<Rule>, all: Vec<Decision>) -> Result<(), Memory>
+    ensures { OnOk result (rules.new.items ≡ rules.old.items ++ map rule_of all.items) }
+{
+    for one in all {
+        put_decision(rules, one)?;
+    }
+    Ok(())
+}
+
+/// Puts rules behind the others that decide as the rules of the tail do. An error is want of memory.
 pub(crate) fn put_tail(
     alloc: Global,
     rules: &mut Vec<Rule>,
     outward: bool,
     tail: &[PfRule],
 ) -> Result<(), Memory>
-    ensures { OnOk result (rules.new.items ≡ rules.old.items ++ tail_rules outward tail.now) }
+    ensures { OnOk result (EndsIn outward tail.now rules.old.items rules.new.items) }
 {
-    put_quick_rules(alloc, rules, outward, tail)?;
-    put_slow_rules(alloc, rules, outward, tail)?;
+    let joined = joined_tail(alloc, outward, tail)?;
+    put_decisions(rules, joined)?;
     Ok(())
 }

@@ -1,0 +1,2 @@
+pub mod Eithers
+pub mod Standing
