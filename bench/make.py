@@ -21,6 +21,10 @@ rewritten: N ports of the host are mapped to hosts of their own, and N rules of 
 services: N addresses have a chain each, which calls one that maps them to a host, as Kubernetes does; packets of the host
 go there too.
 loaded: behind a rule that accepts what belongs to a connection, the rules of listed.
+mixed: behind the same rule, N rules of which each tests about half of a source and a destination drawn from the 64 networks, a
+protocol with a port, and an interface.
+hosts: behind the same rule, N rules of which each tests about half of a source, a destination, and a protocol with a port; the
+sources and destinations are hosts of their own, and each rule tests one at least.
 unfolded: N calls of one chain of 1,000 rules, each of which drops the packets of one host.
 marked: N rules of mangle mark packets of sources of their own, and N rules of FORWARD accept some destination by mark.
 sourced: N rules of mangle mark packets of sources of their own, and each mark has a source of its own in POSTROUTING.
@@ -222,6 +226,45 @@ def loaded(rng, count):
     rules = ['FORWARD -m state --state RELATED,ESTABLISHED -j ACCEPT']
     rules += ['FORWARD ' + listed(rng, None, k) for k in range(count)]
     return table('filter', ['INPUT ACCEPT', 'FORWARD DROP', 'OUTPUT ACCEPT'], rules)
+
+
+def stateful(rules):
+    """A filter of these rules of FORWARD, behind one that accepts what belongs to a connection."""
+    behind = ['FORWARD ' + rule for rule in ['-m state --state RELATED,ESTABLISHED -j ACCEPT'] + rules]
+    return table('filter', ['INPUT ACCEPT', 'FORWARD DROP', 'OUTPUT ACCEPT'], behind)
+
+
+def some_of(rng, tests):
+    return [test for test in tests if rng.random() < 0.5]
+
+
+def port_of_its_own(rng):
+    return '-p {0} -m {0} --dport {1}'.format(rng.choice(['tcp', 'udp']), rng.randrange(65536))
+
+
+def mixed(rng, count):
+    drawn = networks(rng)
+
+    def rule():
+        tests = ['-s ' + spelled(rng.choice(drawn)), '-d ' + spelled(rng.choice(drawn)), port_of_its_own(rng)]
+        tests += ['-i ' + rng.choice(['eth0', 'eth1'])]
+        return '%s -j %s' % (' '.join(some_of(rng, tests) or [rng.choice(tests)]), accept_or_drop(rng))
+
+    return stateful([rule() for _ in range(count)])
+
+
+def hosts(rng, count):
+    def drawn():
+        return '10.%d.%d.%d/32' % (rng.randrange(4), rng.randrange(250), rng.randrange(1, 250))
+
+    def rule():
+        tests = ['-s ' + drawn(), '-d ' + drawn(), port_of_its_own(rng)]
+        chosen = []
+        while not any(test[:2] in ('-s', '-d') for test in chosen):
+            chosen = some_of(rng, tests)
+        return '%s -j %s' % (' '.join(chosen), accept_or_drop(rng))
+
+    return stateful([rule() for _ in range(count)])
 
 
 def rewritten(rng, count):
@@ -650,8 +693,8 @@ def held_openbsd(rng, count):
 
 FILES = {
     'iptables': {family.__name__: family for family in (
-        called, shared, loaded, rewritten, services, unfolded, marked, sourced, mapped, mapped_by_way, balanced, published, crossing, independent,
-        dropped, skipping, sources, decided, applied, bordered)},
+        called, shared, loaded, mixed, hosts, rewritten, services, unfolded, marked, sourced, mapped, mapped_by_way, balanced, published, crossing,
+        independent, dropped, skipping, sources, decided, applied, bordered)},
     'ipfw': {'skipping': skipping_ipfw, 'sources': sources_ipfw, 'redirected': redirected_ipfw, 'addressed': addressed_ipfw,
              'instanced': instanced_ipfw, 'tagged': tagged_ipfw, 'counted': counted_ipfw, 'kept': kept_ipfw, 'own': own_ipfw,
              'webbed': webbed_ipfw},

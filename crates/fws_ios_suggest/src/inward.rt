@@ -1,8 +1,9 @@
 //! Lists for packets that come in.
 
+use fws_num::Memory;
 use fws_suggest::{
-    ACCEPT, DROP, DST, Diagram, ENTRY, Established, List, Mask, Meeting, Policy, Rule, Stop, Style,
-    plain_colour, solved, task_for, verdict_task,
+    ACCEPT, DROP, DST, Diagram, ENTRY, Established, List, Mask, Meeting, Policy, Rule, Side, Stop,
+    Style, plain_colour, solved, task_for, verdict_task,
 };
 
 /// The colour of packets that are left to what stands behind.
@@ -36,6 +37,16 @@ struct Costed {
 struct Sight {
     fresh: Diagram,
     established: Diagram,
+}
+
+/// The interfaces of a class, as entries of packets.
+fn entries_of(policy: &mut Policy, class: &Class) -> Result<Side, Memory> {
+    let mut entries = Side::EMPTY;
+    for entry in &class.entries {
+        let one = policy.space.range(ENTRY, *entry, *entry)?;
+        entries = policy.space.either(entries, one)?;
+    }
+    Ok(entries)
 }
 
 /// Interfaces that see the same.
@@ -103,9 +114,15 @@ fn ahead_of(policy: &mut Policy, style: &mut Style, sight: Sight) -> Result<Vec<
     Ok(list.rules)
 }
 
-/// The list of verdicts.
-fn verdict_list(policy: &mut Policy, style: &mut Style, diagram: Diagram) -> Result<List, Stop> {
-    let task = verdict_task(policy.alloc, diagram, &[DROP, ACCEPT])?;
+/// The list of verdicts on packets from some entries.
+fn verdict_list(
+    policy: &mut Policy,
+    style: &mut Style,
+    diagram: Diagram,
+    entries: Side,
+) -> Result<List, Stop> {
+    let mut task = verdict_task(policy.alloc, diagram, &[DROP, ACCEPT])?;
+    task.hints = policy.hints_from(entries)?;
     solved(policy, style, &task)
 }
 
@@ -114,12 +131,13 @@ fn list_behind(
     policy: &mut Policy,
     style: &mut Style,
     sight: Sight,
+    entries: Side,
     ahead: &[Rule],
 ) -> Result<List, Stop> {
     let painted = policy.painted(ahead, GO)?;
-    let left = policy.where_it_is(painted, GO, 3)?;
+    let left = policy.where_it_is(painted, GO)?;
     let rest = policy.space.met(sight.fresh, left, Meeting::Either)?;
-    verdict_list(policy, style, rest)
+    verdict_list(policy, style, rest, entries)
 }
 
 /// What a list costs with the entry behind its rules.
@@ -129,9 +147,14 @@ fn whole_cost(list: &List) -> u64 {
 }
 
 /// The list in which established packets are passed by `evaluate`, and what it costs.
-fn evaluating(policy: &mut Policy, style: &mut Style, sight: Sight) -> Result<Costed, Stop> {
+fn evaluating(
+    policy: &mut Policy,
+    style: &mut Style,
+    sight: Sight,
+    entries: Side,
+) -> Result<Costed, Stop> {
     let ahead = ahead_of(policy, style, sight)?;
-    let list = list_behind(policy, style, sight, &ahead)?;
+    let list = list_behind(policy, style, sight, entries, &ahead)?;
     let more = (ahead.len() as u64)
         .saturating_mul(1100)
         .saturating_add(1000);
@@ -157,9 +180,14 @@ fn shared(policy: &mut Policy, sight: Sight) -> Result<Diagram, Stop> {
 }
 
 /// The list in which new and established packets fare alike, and what it costs.
-fn alike(policy: &mut Policy, style: &mut Style, sight: Sight) -> Result<Costed, Stop> {
+fn alike(
+    policy: &mut Policy,
+    style: &mut Style,
+    sight: Sight,
+    entries: Side,
+) -> Result<Costed, Stop> {
     let both = shared(policy, sight)?;
-    let list = verdict_list(policy, style, both)?;
+    let list = verdict_list(policy, style, both, entries)?;
     let cost = whole_cost(&list);
     Ok(Costed {
         list: Inward {
@@ -205,9 +233,10 @@ fn chosen(one: Option<Costed>, other: Option<Costed>) -> Result<Inward, Stop> {
 }
 
 /// The cheaper list of a class.
-fn list_of(policy: &mut Policy, style: &mut Style, sight: Sight) -> Result<Inward, Stop> {
-    let one = found(alike(policy, style, sight))?;
-    let other = found(evaluating(policy, style, sight))?;
+fn list_of(policy: &mut Policy, style: &mut Style, class: &Class) -> Result<Inward, Stop> {
+    let entries = entries_of(policy, class)?;
+    let one = found(alike(policy, style, class.sight, entries))?;
+    let other = found(evaluating(policy, style, class.sight, entries))?;
     chosen(one, other)
 }
 
@@ -263,7 +292,7 @@ fn classes_of(policy: &mut Policy, verdict: Diagram, tracked: Diagram) -> Result
 
 /// The list of a class.
 fn class_list(policy: &mut Policy, style: &mut Style, class: &Class) -> Result<Inward, Stop> {
-    let mut list = list_of(policy, style, class.sight)?;
+    let mut list = list_of(policy, style, class)?;
     list.entries.extend_from_slice(&class.entries)?;
     Ok(list)
 }

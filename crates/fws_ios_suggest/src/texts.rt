@@ -123,10 +123,11 @@ fn written(policy: &mut Policy, tables: &Tables, site: &Site) -> Result<Text, St
 }
 
 /// The text that is found. It gives up where there is none.
-fn tried(alloc: Global, tables: &Tables, site: &Site) -> Result<Text, Stop>
+fn tried(alloc: Global, tables: &Tables, site: &Site, hints: &Flat) -> Result<Text, Stop>
     requires { IsSound site.now }
 {
     let mut policy = Policy::new(alloc, tables, site)?;
+    policy.note_hints(hints)?;
     written(&mut policy, tables, site)
 }
 
@@ -136,12 +137,12 @@ pub fn suggest(
     alloc: Global,
     tables: &Tables,
     site: &Site,
-    _hints: &Flat,
+    hints: &Flat,
 ) -> Result<Vec<Text>, Memory>
     requires { IsSound site.now }
 {
     let mut texts = Vec::new(alloc);
-    match tried(alloc, tables, site) {
+    match tried(alloc, tables, site, hints) {
         Ok(text) => texts.push(text)?,
         Err(Stop::Late) => {}
         Err(Stop::Memory) => return Err(Memory),

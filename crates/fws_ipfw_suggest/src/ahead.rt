@@ -60,7 +60,7 @@ fn drops(policy: &mut Policy, style: &mut Style, diagram: Diagram) -> Result<Lis
 /// A diagram in which anything goes where rules drop.
 fn without(policy: &mut Policy, diagram: Diagram, rules: &[Rule]) -> Result<Diagram, Stop> {
     let painted = policy.painted(rules, ACCEPT)?;
-    let passes = policy.where_it_is(painted, ACCEPT, 2)?;
+    let passes = policy.where_it_is(painted, ACCEPT)?;
     policy.space.met(diagram, passes, Meeting::Either)
 }
 

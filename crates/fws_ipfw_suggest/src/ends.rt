@@ -47,12 +47,11 @@ fn kept(
     tagging: Option<Diagram>,
     rules: usize,
 ) -> Result<Diagram, Stop> {
-    let count = policy.destinations.len();
-    let stays = policy.where_it_is(ends, 0, count)?;
+    let stays = policy.where_it_is(ends, 0)?;
     let Some(tagging) = tagging else {
         return policy.space.met(seen, stays, Meeting::Either);
     };
-    let plain = policy.where_it_is(tagging, 0, rules)?;
+    let plain = policy.where_it_is(tagging, 0)?;
     let untagged = policy.space.met(seen, plain, Meeting::Either)?;
     let met = parted(policy, tagging, Mask::ALL, Mask::NONE, rules)?;
     let both = policy.space.met(stays, met, Meeting::Either)?;
@@ -71,8 +70,7 @@ fn image_at(
     place: usize,
     end: End,
 ) -> Result<Diagram, Stop> {
-    let count = policy.destinations.len();
-    let away = policy.where_it_is(ends, colour_of(place), count)?;
+    let away = policy.where_it_is(ends, colour_of(place))?;
     let mut image = policy.space.met(seen, away, Meeting::Either)?;
     image = policy.space.project(image, DST, Meeting::Both)?;
     let side = policy.space.range(DST, end.addr, end.addr)?;

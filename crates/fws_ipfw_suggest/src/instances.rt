@@ -161,8 +161,7 @@ fn home_at(
     publics: Diagram,
 ) -> Result<Home, Stop> {
     let whole = totalled(policy, there)?;
-    let count = policy.destinations.len();
-    let here = policy.where_it_is(whole, colour_of(place), count)?;
+    let here = policy.where_it_is(whole, colour_of(place))?;
     let everywhere = policy.everything();
     let entries = policy.space.asked(here, &everywhere, ENTRY)?;
     let protocols = policy.space.asked(here, &everywhere, PROTO)?;

@@ -163,9 +163,8 @@ pub(crate) fn put_redirects(
     place: usize,
     end: End,
 ) -> Result<(), Stop> {
-    let count = policy.destinations.len();
     let whole = totalled(policy, publics)?;
-    let here = policy.where_it_is(whole, colour_of(place), count)?;
+    let here = policy.where_it_is(whole, colour_of(place))?;
     let Some(port) = end.port else {
         return put_addresses(policy, out, here, end);
     };

@@ -77,18 +77,31 @@ fn written(policy: &mut Policy, tables: &Tables, site: &Site, form: Form) -> Res
 }
 
 /// The text of a form. It gives up where there is none.
-fn tried(alloc: Global, tables: &Tables, site: &Site, form: Form) -> Result<Attempt, Stop>
+fn tried(
+    alloc: Global,
+    tables: &Tables,
+    site: &Site,
+    hints: &Flat,
+    form: Form,
+) -> Result<Attempt, Stop>
     requires { IsSound site.now }
 {
     let mut policy = Policy::new(alloc, tables, site)?;
+    policy.note_hints(hints)?;
     written(&mut policy, tables, site, form)
 }
 
 /// What a form gives: nothing where it gives up.
-fn found(alloc: Global, tables: &Tables, site: &Site, form: Form) -> Result<Option<Attempt>, Memory>
+fn found(
+    alloc: Global,
+    tables: &Tables,
+    site: &Site,
+    hints: &Flat,
+    form: Form,
+) -> Result<Option<Attempt>, Memory>
     requires { IsSound site.now }
 {
-    match tried(alloc, tables, site, form) {
+    match tried(alloc, tables, site, hints, form) {
         Ok(attempt) => Ok(Some(attempt)),
         Err(Stop::Late) => Ok(None),
         Err(Stop::Memory) => Err(Memory),
@@ -132,14 +145,15 @@ fn put_texts(
     alloc: Global,
     tables: &Tables,
     site: &Site,
+    hints: &Flat,
 ) -> Result<(), Memory>
     requires { IsSound site.now }
 {
-    let united = found(alloc, tables, site, Form::United)?;
+    let united = found(alloc, tables, site, hints, Form::United)?;
     if !site.one_pass && united.is_none() {
-        put_found(texts, found(alloc, tables, site, Form::Working)?)?;
+        put_found(texts, found(alloc, tables, site, hints, Form::Working)?)?;
     }
-    let tight = found(alloc, tables, site, Form::Tight)?;
+    let tight = found(alloc, tables, site, hints, Form::Tight)?;
     put_shorter_first(texts, united, tight)
 }
 
@@ -149,11 +163,11 @@ pub fn suggest(
     alloc: Global,
     tables: &Tables,
     site: &Site,
-    _hints: &Flat,
+    hints: &Flat,
 ) -> Result<Vec<Text>, Memory>
     requires { IsSound site.now }
 {
     let mut texts = Vec::new(alloc);
-    put_texts(&mut texts, alloc, tables, site)?;
+    put_texts(&mut texts, alloc, tables, site, hints)?;
     Ok(texts)
 }

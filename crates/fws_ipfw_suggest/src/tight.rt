@@ -116,7 +116,8 @@ fn coming_list(
     diagram: Diagram,
 ) -> Result<List, Stop> {
     let colours = coming_colours(policy.alloc, instances)?;
-    let task = task_for(policy.alloc, diagram, colours, &[DROP, ACCEPT])?;
+    let mut task = task_for(policy.alloc, diagram, colours, &[DROP, ACCEPT])?;
+    task.hints = policy.coming_hints()?;
     solved(policy, style, &task)
 }
 
@@ -133,7 +134,8 @@ fn leaving_colours(alloc: Global, sources: usize) -> Result<Vec<Colour>, Memory>
 /// The list for packets that leave.
 fn leaving_list(policy: &mut Policy, style: &mut Style, diagram: Diagram) -> Result<List, Stop> {
     let colours = leaving_colours(policy.alloc, policy.sources.len())?;
-    let task = task_for(policy.alloc, diagram, colours, &[ACCEPT, DROP])?;
+    let mut task = task_for(policy.alloc, diagram, colours, &[ACCEPT, DROP])?;
+    task.hints = policy.sending_hints()?;
     solved(policy, style, &task)
 }
 

@@ -215,8 +215,7 @@ fn seen_from(
     place: usize,
     end: End,
 ) -> Result<Diagram, Stop> {
-    let count = policy.sources.len();
-    let away = policy.where_it_is(painted, colour_of(place), count)?;
+    let away = policy.where_it_is(painted, colour_of(place))?;
     let here = policy.space.met(own, away, Meeting::Either)?;
     let image = policy.space.project(here, SRC, Meeting::Both)?;
     let side = policy.space.range(SRC, end.addr, end.addr)?;
@@ -228,7 +227,7 @@ fn seen_from(
 fn seen_leaving(policy: &mut Policy, own: Diagram, rules: &[Rule]) -> Result<Diagram, Stop> {
     let painted = policy.painted(rules, 0)?;
     let count = policy.sources.len();
-    let written = policy.where_it_is(painted, 0, count)?;
+    let written = policy.where_it_is(painted, 0)?;
     let mut seen = policy.space.met(own, written, Meeting::Either)?;
     for place in 1..count {
         let Some(Some(end)) = policy.sources.get(place).copied() else {

@@ -33,7 +33,9 @@ fn put_solved(
     style: &mut Style,
     diagram: Diagram,
 ) -> Result<(), Stop> {
-    let task = verdict_task(policy.alloc, diagram, &[DROP, ACCEPT])?;
+    let mut task = verdict_task(policy.alloc, diagram, &[DROP, ACCEPT])?;
+    let everywhere = policy.space.full(ENTRY);
+    task.hints = policy.hints_from(everywhere)?;
     let list = solved(policy, style, &task)?;
     put_list(script, writer, policy, style, &list, Way::Both, 0)
 }

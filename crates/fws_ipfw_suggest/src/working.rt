@@ -97,7 +97,8 @@ fn coming_list(policy: &mut Policy, style: &mut Style, behind: Diagram) -> Resul
     }
     let verdict = policy.verdict(behind)?;
     let diagram = policy.space.keep(verdict, &region)?;
-    let task = verdict_task(policy.alloc, diagram, &[DROP, ACCEPT])?;
+    let mut task = verdict_task(policy.alloc, diagram, &[DROP, ACCEPT])?;
+    task.hints = policy.coming_hints()?;
     solved(policy, style, &task)
 }
 
@@ -107,7 +108,8 @@ fn own_list(policy: &mut Policy, style: &mut Style, seen: Diagram) -> Result<Opt
     if policy.space.has(least, ACCEPT) {
         return Ok(None);
     }
-    let task = verdict_task(policy.alloc, seen, &[ACCEPT, DROP])?;
+    let mut task = verdict_task(policy.alloc, seen, &[ACCEPT, DROP])?;
+    task.hints = policy.sending_hints()?;
     let list = solved(policy, style, &task)?;
     Ok(Some(list))
 }

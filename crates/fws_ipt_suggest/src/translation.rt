@@ -128,7 +128,7 @@ fn leave_out(policy: &mut Policy, original: Diagram, rules: &[Rule]) -> Result<(
     let narrow = policy.narrowed(rules, arriving)?;
     let painted = policy.painted(&narrow, ACCEPT)?;
     let seen = policy.of_new(painted)?;
-    let passes = policy.where_it_is(seen, ACCEPT, 2)?;
+    let passes = policy.where_it_is(seen, ACCEPT)?;
     policy.fresh = policy.space.met(original, passes, Meeting::Either)?;
     Ok(())
 }

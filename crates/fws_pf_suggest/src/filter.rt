@@ -119,7 +119,13 @@ fn coming_list(
     } else {
         universe
     };
-    let task = verdict_task(policy.alloc, coming, &[DROP, ACCEPT])?;
+    let mut task = verdict_task(policy.alloc, coming, &[DROP, ACCEPT])?;
+    task.hints = if is_one {
+        let everywhere = policy.space.full(ENTRY);
+        policy.hints_from(everywhere)?
+    } else {
+        policy.coming_hints()?
+    };
     let list = solved_by(policy, Settings::pf(), universe, &task)?;
     Ok(Found { list, opens_only })
 }
@@ -128,7 +134,8 @@ fn coming_list(
 fn leaving_list(policy: &mut Policy, leaving: Diagram) -> Result<Found, Stop> {
     let mut own = leaving;
     let opens_only = leave_out(policy, &mut own)?;
-    let task = verdict_task(policy.alloc, own, &[ACCEPT, DROP])?;
+    let mut task = verdict_task(policy.alloc, own, &[ACCEPT, DROP])?;
+    task.hints = policy.sending_hints()?;
     let everywhere = policy.space.full(DST);
     let list = solved_by(policy, Settings::pf().with_exits(), everywhere, &task)?;
     Ok(Found { list, opens_only })

@@ -142,8 +142,7 @@ fn sent_as(
     painted: Diagram,
     colour: u32,
 ) -> Result<Diagram, Stop> {
-    let count = policy.sources.len();
-    let away = policy.where_it_is(painted, colour, count)?;
+    let away = policy.where_it_is(painted, colour)?;
     policy.space.met(verdict, away, Meeting::Either)
 }
 

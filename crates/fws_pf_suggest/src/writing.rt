@@ -158,10 +158,12 @@ fn put_suggested(
     texts: &mut Vec<Text>,
     tables: &Tables,
     site: &Site,
+    hints: &Flat,
 ) -> Result<(), Stop>
     requires { IsSound site.now }
 {
     let mut policy = Policy::new(alloc, tables, site)?;
+    policy.note_hints(hints)?;
     put_found(texts, &mut policy, tables, site)
 }
 
@@ -171,12 +173,12 @@ pub fn suggest(
     alloc: Global,
     tables: &Tables,
     site: &Site,
-    _hints: &Flat,
+    hints: &Flat,
 ) -> Result<Vec<Text>, Memory>
     requires { IsSound site.now }
 {
     let mut texts = Vec::new(alloc);
-    match put_suggested(alloc, &mut texts, tables, site) {
+    match put_suggested(alloc, &mut texts, tables, site, hints) {
         Ok(()) | Err(Stop::Late) => Ok(texts),
         Err(Stop::Memory) => Err(Memory),
     }

@@ -1,6 +1,7 @@
 //! The list that is being made, and the cheapest one so far.
 
-use crate::region::{List, Rule};
+use crate::rules::{List, Rule};
+use fws_diagram::Diagram;
 use std::alloc::Global;
 use std::mem;
 
@@ -9,6 +10,8 @@ use std::mem;
 pub(crate) struct Offers {
     /// The rules of the list that is being made.
     pub(crate) rules: Vec<Rule>,
+    /// The diagrams ahead of the first of them, as far as they are known.
+    pub(crate) ahead: Vec<Diagram>,
     /// The rules of the cheapest list.
     pub(crate) best: Vec<Rule>,
     /// Its colour of what no rule decides.
@@ -22,6 +25,7 @@ impl Offers {
     pub(crate) fn none(alloc: Global) -> Offers {
         Offers {
             rules: Vec::new(alloc),
+            ahead: Vec::new(alloc),
             best: Vec::new(alloc),
             default: 0,
             cost: None,
@@ -31,17 +35,20 @@ impl Offers {
     /// Begins another list.
     pub(crate) fn begin(&mut self) {
         self.rules.truncate(0);
+        self.ahead.truncate(0);
     }
 
     /// The cheapest list, if one was found.
     pub(crate) fn cheapest(self) -> Option<List> {
         let Offers {
             rules,
+            ahead,
             best,
             default,
             cost,
         } = self;
         drop(rules);
+        drop(ahead);
         match cost {
             Some(cost) => Some(List {
                 rules: best,

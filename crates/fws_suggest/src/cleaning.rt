@@ -1,14 +1,13 @@
 //! Lists made shorter: rules that aren't needed are dropped, sides shrink, and rules are merged.
 
-use crate::fields::{DPORT, DST, ENTRY, FIELDS, ICMP, PROTO, SPORT, SRC};
 use crate::forms::cost_of;
-use crate::region::{Region, Rule};
+use crate::rules::Rule;
 use crate::running::keep_later;
-use crate::sides::Side;
-use crate::space::{Diagram, Space};
-use crate::stop::Stop;
 use crate::style::Style;
-use crate::words::{Lists, word_at};
+use fws_diagram::{
+    DPORT, DST, Diagram, ENTRY, FIELDS, ICMP, Lists, PROTO, Region, SPORT, SRC, Side, Space, Stop,
+    word_at,
+};
 use fws_num::Memory;
 use std::alloc::Global;
 
@@ -22,46 +21,42 @@ pub(crate) fn total(space: &mut Space, style: &mut Style, rules: &[Rule]) -> Res
     Ok(sum)
 }
 
-/// The diagram that the rules give, with the default's colour behind them: one colour at each point.
-pub(crate) fn given_by(space: &mut Space, rules: &[Rule], default: u32) -> Result<Diagram, Stop> {
-    let mask = space.only(default)?;
-    let mut given = space.leaf(mask)?;
-    for rule in rules.iter().rev() {
-        let mask = space.only(rule.colour)?;
-        given = space.put(given, &rule.region, mask)?;
-    }
-    Ok(given)
-}
-
-/// Whether what the rules decide, and the default behind them, is right everywhere.
-pub(crate) fn is_right(
-    space: &mut Space,
-    diagram: Diagram,
-    rules: &[Rule],
-    default: u32,
-) -> Result<bool, Stop> {
-    let given = given_by(space, rules, default)?;
-    let everything = space.everything();
-    Ok(!space.conflicts(diagram, given, &everything)?)
-}
-
-/// The diagram ahead of each rule, with everything painted that the rules before decide, until a step.
+/// The diagram ahead of each rule, with everything painted that the rules before decide, until a step. Those ahead of the first
+/// rules may be known.
 fn prefixes(
     space: &mut Space,
     diagram: Diagram,
     rules: &[Rule],
+    known: &[Diagram],
     end: u64,
 ) -> Result<Vec<Diagram>, Stop> {
-    let mut all = Vec::new(space.alloc);
+    let mut all = Vec::from_slice(space.alloc, known)?;
     let mut now = diagram;
+    let mut place: usize = 0;
     for rule in rules {
+        place = place.saturating_add(1);
+        if place < known.len() {
+            continue;
+        }
+        if place == known.len() {
+            now = last_of(known, diagram);
+        } else {
+            all.push(now)?;
+        }
         if space.steps() > end {
             break;
         }
-        all.push(now)?;
         now = space.paint(now, &rule.region)?;
     }
     Ok(all)
+}
+
+/// The last of some diagrams, or another one where there is none.
+fn last_of(diagrams: &[Diagram], other: Diagram) -> Diagram {
+    match diagrams.last() {
+        Some(last) => *last,
+        None => other,
+    }
 }
 
 /// What is given behind each rule, from the last to the first; the default's colour behind the last one. Until a step.
@@ -85,6 +80,9 @@ fn suffixes(
     Ok(all)
 }
 
+/// The most pieces of a side of which each is tried alone.
+const PIECES: usize = 64;
+
 /// The region without the pieces at which what comes behind is right as well, where that is cheaper.
 fn shrunk(
     space: &mut Space,
@@ -99,7 +97,7 @@ fn shrunk(
             continue;
         }
         let pieces = style.pieces_of(space, field, now.side(field))?;
-        if pieces.len() > 1 {
+        if pieces.len() > 1 && pieces.len() <= PIECES {
             now = without_pieces(space, style, ahead, behind, &now, field, &pieces)?;
         }
     }
@@ -143,10 +141,11 @@ pub(crate) fn drop_from_last(
     style: &mut Style,
     diagram: Diagram,
     default: u32,
+    known: &[Diagram],
     end: u64,
     rules: &mut Vec<Rule>,
 ) -> Result<(), Stop> {
-    let ahead = prefixes(space, diagram, rules, end)?;
+    let ahead = prefixes(space, diagram, rules, known, end)?;
     if ahead.len() < rules.len() {
         return Ok(());
     }
@@ -342,7 +341,7 @@ fn key_of(alloc: Global, keys: &mut Lists, rule: &Rule, field: usize) -> Result<
         let side = if other == field {
             0
         } else {
-            rule.region.side(other).0
+            rule.region.side(other).number()
         };
         keys.put(side)?;
     }
@@ -583,7 +582,7 @@ pub(crate) fn clean(
 ) -> Result<u64, Stop> {
     let mut cost = u64::MAX;
     for _ in 0..3 {
-        drop_from_last(space, style, diagram, default, u64::MAX, rules)?;
+        drop_from_last(space, style, diagram, default, &[], u64::MAX, rules)?;
         drop_from_first(space, diagram, default, u64::MAX, rules)?;
         if rules.len() <= SHORT {
             merge_all(space, style, diagram, rules)?;
@@ -597,17 +596,18 @@ pub(crate) fn clean(
     Ok(cost)
 }
 
-/// Makes a large list shorter, until a step.
+/// Makes a large list shorter, until a step. The diagrams ahead of its first rules may be known.
 pub(crate) fn clean_large(
     space: &mut Space,
     style: &mut Style,
     diagram: Diagram,
     default: u32,
+    known: &[Diagram],
     end: u64,
     rules: &mut Vec<Rule>,
 ) -> Result<u64, Stop> {
     let before = total(space, style, rules)?;
-    drop_from_last(space, style, diagram, default, end, rules)?;
+    drop_from_last(space, style, diagram, default, known, end, rules)?;
     if space.steps() <= end && total(space, style, rules)? < before {
         drop_from_first(space, diagram, default, end, rules)?;
     }

@@ -1,13 +1,9 @@
 //! Addresses and destinations as a target writes them.
 
-use crate::fields::{DST, SRC};
 use crate::forms::{Measure, Sought};
 use crate::prefixes::{is_network, network_of};
-use crate::sides::Side;
-use crate::space::Space;
-use crate::stop::Stop;
 use crate::style::{Address, AddressForm, Destination, Ranges, Style};
-use crate::words::word_at;
+use fws_diagram::{DST, SRC, Side, Space, Stop};
 use fws_iv::Iv;
 use fws_num::Memory;
 
@@ -39,62 +35,37 @@ fn low_bits(count: u32) -> u32 {
     }
 }
 
-impl Space {
-    /// How many atoms of a field begin below a value or at it.
-    fn begun(&self, field: usize, value: u32) -> u32 {
-        self.atom(field, value).saturating_add(1)
-    }
-
-    /// The least value of a side that isn't empty.
-    pub(crate) fn lowest(&self, field: usize, side: Side) -> u32 {
-        self.least(field, word_at(self.sides.bounds(side), 0))
-    }
-
-    /// The greatest value of a side that isn't empty.
-    pub(crate) fn highest(&self, field: usize, side: Side) -> u32 {
-        let bounds = self.sides.bounds(side);
-        let last = word_at(bounds, bounds.len().saturating_sub(1));
-        self.greatest(field, last.saturating_sub(1))
-    }
-
-    /// How many ranges of atoms a side has.
-    pub(crate) fn runs(&self, side: Side) -> usize {
-        self.sides.count_of_bounds(side) / 2
-    }
-
-    /// The atoms from one up to another at a place among the ranges of atoms of a side.
-    pub(crate) fn run(&self, side: Side, place: usize) -> (u32, u32) {
-        let bounds = self.sides.bounds(side);
-        let at = place.wrapping_mul(2);
-        (word_at(bounds, at), word_at(bounds, at.wrapping_add(1)))
-    }
-
-    /// The atoms that lie wholly within ranges, from the one at a place on.
-    pub(crate) fn atoms_within(
-        &mut self,
-        style: &Style,
-        field: usize,
-        ranges: Ranges,
-        first: usize,
-    ) -> Result<Side, Stop> {
-        let mut all = Side::EMPTY;
-        for place in first..style.count(ranges) {
-            let range = style.range(ranges, place);
-            let side = self.within(field, &[range])?;
-            all = self.either(all, side)?;
-        }
-        Ok(all)
-    }
+/// How many atoms of a field begin below a value or at it.
+fn begun(space: &Space, field: usize, value: u32) -> u32 {
+    space.atom(field, value).saturating_add(1)
 }
 
 impl Style {
+    /// The atoms that lie wholly within ranges, which rise, from the one at a place on.
+    pub(crate) fn atoms_within(
+        &self,
+        space: &mut Space,
+        field: usize,
+        ranges: Ranges,
+        first: usize,
+    ) -> Result<Side, Memory> {
+        let side = space.begin_side();
+        let mut next = 0;
+        for place in first..self.count(ranges) {
+            let (from, until) = space.atoms_inside(field, self.range(ranges, place));
+            space.put_atoms(side, from.max(next), until)?;
+            next = until.max(next);
+        }
+        space.end_side(side)
+    }
+
     /// The ranges of the least number that was found which have all that is least, and none of what isn't in the greatest side.
     pub(crate) fn cover(&mut self, space: &mut Space, sought: Sought) -> Result<Ranges, Stop> {
         let key = self.cover_keys.begin();
         self.cover_keys.put((sought.field % 16) as u32)?;
-        self.cover_keys.put(sought.least.0)?;
-        self.cover_keys.put(sought.most.0)?;
-        self.cover_keys.put(sought.wanted.0)?;
+        self.cover_keys.put(sought.least.number())?;
+        self.cover_keys.put(sought.most.number())?;
+        self.cover_keys.put(sought.wanted.number())?;
         let number = self.cover_keys.end(self.alloc, key)?;
         if let Some(known) = known_at(&self.covers, number) {
             return Ok(known);
@@ -127,15 +98,15 @@ impl Style {
         space.visit()?;
         let high = low | low_bits(bits);
         let from = space.atom(sought.field, low);
-        let until = space.begun(sought.field, high);
-        if !space.sides.hits(sought.least, from, until) {
+        let until = begun(space, sought.field, high);
+        if !space.hits(sought.least, from, until) {
             return Ok(());
         }
         let block = Iv { lo: low, hi: high };
         if bits == 0 {
             return self.put_block(space, sought, block, (from, until));
         }
-        if space.sides.covers(sought.most, from, until) {
+        if space.covers(sought.most, from, until) {
             return self.put_block(space, sought, block, (from, until));
         }
         let half = bits - 1;
@@ -153,9 +124,7 @@ impl Style {
         atoms: (u32, u32),
     ) -> Result<(), Stop> {
         let field = sought.field;
-        let needed = space
-            .sides
-            .cut(space.alloc, sought.wanted, atoms.0, atoms.1)?;
+        let needed = space.part_between(sought.wanted, atoms.0, atoms.1)?;
         if needed.is_empty() {
             self.ranges.put(block.lo)?;
             self.ranges.put(block.hi)?;
@@ -165,8 +134,8 @@ impl Style {
         let high = space.highest(field, needed).min(block.hi);
         let network = network_of(low, high);
         let first = space.atom(field, network.lo);
-        let last = space.begun(field, network.hi);
-        let is_whole = self.is_known(network) || space.sides.covers(sought.wanted, first, last);
+        let last = begun(space, field, network.hi);
+        let is_whole = self.is_known(network) || space.covers(sought.wanted, first, last);
         let runs = space.runs(needed);
         if !is_whole && runs > 1 && runs <= 3 && self.put_apart(space, field, needed, block)? {
             return Ok(());
@@ -216,19 +185,19 @@ impl Style {
         let mut count: usize = 0;
         for place in 0..space.runs(sought.most) {
             let (first, until) = space.run(sought.most, place);
-            if !space.sides.hits(sought.least, first, until) {
+            if !space.hits(sought.least, first, until) {
                 continue;
             }
-            let needed = space.sides.cut(space.alloc, sought.wanted, first, until)?;
+            let needed = space.part_between(sought.wanted, first, until)?;
             let low = space.lowest(field, needed);
             let high = space.highest(field, needed);
             let network = network_of(low, high);
             let is_inside = network.lo >= space.least(field, first)
                 && network.hi <= space.greatest(field, until.saturating_sub(1));
             let lowest = space.atom(field, low);
-            let behind = space.begun(field, high);
+            let behind = begun(space, field, high);
             count = count.saturating_add(1);
-            if !space.sides.covers(sought.wanted, lowest, behind) || count >= fewer {
+            if !space.covers(sought.wanted, lowest, behind) || count >= fewer {
                 self.ranges.drop_draft(from);
                 return Ok(None);
             }
@@ -248,21 +217,21 @@ impl Style {
     ) -> Result<Side, Stop> {
         match address.form {
             AddressForm::Any => Ok(space.full(field)),
-            AddressForm::Positive => space.atoms_within(self, field, address.ranges, 0),
+            AddressForm::Positive => Ok(self.atoms_within(space, field, address.ranges, 0)?),
             AddressForm::Negated => {
-                let side = space.atoms_within(self, field, address.ranges, 0)?;
+                let side = self.atoms_within(space, field, address.ranges, 0)?;
                 Ok(space.others(field, side)?)
             }
             AddressForm::WithLocal => {
-                let side = space.atoms_within(self, field, address.ranges, 0)?;
+                let side = self.atoms_within(space, field, address.ranges, 0)?;
                 let local = self.local_of(field);
                 Ok(space.either(side, local)?)
             }
             AddressForm::Mixed => {
-                let inner = space.atoms_within(self, field, address.ranges, 1)?;
+                let inner = self.atoms_within(space, field, address.ranges, 1)?;
                 let range = self.range(address.ranges, 0);
                 let first = self.ranges_of(&[range])?;
-                let outer = space.atoms_within(self, field, first, 0)?;
+                let outer = self.atoms_within(space, field, first, 0)?;
                 let others = space.others(field, outer)?;
                 Ok(space.either(inner, others)?)
             }
@@ -618,10 +587,10 @@ impl Style {
         sought: Sought,
     ) -> Result<Destination, Stop> {
         let key = self.destination_keys.begin();
-        self.destination_keys.put(sought.least.0)?;
-        self.destination_keys.put(sought.most.0)?;
-        self.destination_keys.put(sought.wanted.0)?;
-        self.destination_keys.put(self.universe.0)?;
+        self.destination_keys.put(sought.least.number())?;
+        self.destination_keys.put(sought.most.number())?;
+        self.destination_keys.put(sought.wanted.number())?;
+        self.destination_keys.put(self.universe.number())?;
         let number = self.destination_keys.end(self.alloc, key)?;
         if let Some(known) = known_at(&self.destinations, number) {
             return Ok(known);

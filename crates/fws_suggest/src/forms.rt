@@ -1,11 +1,7 @@
 //! What a target can write, and what that costs.
 
-use crate::fields::FIELDS;
-use crate::region::Region;
-use crate::sides::Side;
-use crate::space::Space;
-use crate::stop::Stop;
 use crate::style::Style;
+use fws_diagram::{FIELDS, Region, Side, Space, Stop};
 
 /// What writing a side takes.
 #[derive(Clone, Copy)]

@@ -1,13 +1,9 @@
 //! Regions that one bold rule at the end may fill, with the exceptions to it in front.
 
-use crate::fields::{DST, ENTRY, PROTO, SRC, STATE, TAG};
-use crate::masks::Mask;
-use crate::region::{Region, Rule};
-use crate::sides::Side;
+use crate::rules::Rule;
 use crate::solving::Task;
-use crate::space::{Diagram, Space};
-use crate::stop::Stop;
 use crate::style::Style;
+use fws_diagram::{DST, Diagram, ENTRY, Mask, PROTO, SRC, STATE, Side, Space, Stop, TAG};
 use fws_num::Memory;
 
 /// The fields by which such regions are cut.

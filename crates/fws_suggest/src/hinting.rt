@@ -1,97 +1,53 @@
 //! Lists that begin with the source's own rules.
 
-use crate::fields::{DST, ENTRY};
-use crate::masks::Mask;
+use crate::best::Offers;
 use crate::plan::{DEAR, Errand, NESTED, Place};
-use crate::region::{Region, Rule};
+use crate::rules::Rule;
 use crate::running::run;
 use crate::solving::Task;
-use crate::space::{Diagram, Space};
-use crate::stop::Stop;
 use crate::style::Style;
+use fws_diagram::{DST, Diagram, ENTRY, Mask, PROTO, Region, Space, Stop};
 
-/// How many paths are counted of a region.
-const COUNTED: u32 = 100_000;
+/// What a side costs that is dear to write, in thousandths of a line, if it is one line.
+const PLAIN: u64 = 100;
 
-/// The colour that is right at most paths of a region.
-fn most_right(
-    space: &mut Space,
-    task: &Task,
-    diagram: Diagram,
-    region: &Region,
-) -> Result<Option<u32>, Stop> {
-    let mut best: Option<(u32, u32)> = None;
-    for colour in &task.colours {
-        let wrong = space.paths(diagram, colour.number, region, COUNTED)?;
-        let is_better = match best {
-            Some((fewest, _)) => wrong < fewest,
-            None => true,
-        };
-        if is_better {
-            best = Some((wrong, colour.number));
-        }
-    }
-    match best {
-        Some((_, colour)) => Ok(Some(colour)),
-        None => Ok(None),
-    }
-}
-
-/// Puts rules that decide a region of which the hints don't speak: exceptions, and one rule behind them that may be wider.
-fn decide_first(
+/// The region, where a side of it that is dear to write may be all atoms with all of them.
+fn widened(
     space: &mut Space,
     style: &mut Style,
-    errand: &Errand<'_>,
     diagram: Diagram,
-    region: &Region,
-    rules: &mut Vec<Rule>,
-) -> Result<Diagram, Stop> {
-    if space.allow(diagram, region)? == Mask::ALL {
-        return Ok(diagram);
-    }
-    let Some(colour) = most_right(space, errand.task, diagram, region)? else {
-        return Ok(diagram);
-    };
-    let place = Place {
-        default: colour,
-        budget: DEAR,
-        left: NESTED,
-    };
-    let Some(left) = run(space, style, errand, diagram, region, place, rules)? else {
-        return Ok(diagram);
-    };
-    if !space.is_allowed(left.diagram, region, colour)? {
-        return Ok(left.diagram);
-    }
-    let mut wide = *region;
-    for field in [ENTRY, DST] {
-        let side = space.allowed(left.diagram, &wide, field, colour)?;
-        let full = space.full(field);
-        if side == full {
-            wide = wide.with(field, full);
+    hint: &Rule,
+) -> Result<Region, Stop> {
+    let mut region = hint.region;
+    for field in [DST, ENTRY, PROTO] {
+        let side = region.side(field);
+        if side == space.full(field) {
+            continue;
+        }
+        let measure = style.measure(space, field, side)?;
+        if measure.lines <= 1 && measure.words <= PLAIN {
+            continue;
+        }
+        let wide = region.with(field, space.full(field));
+        let needs_protocols = field == PROTO && style.protocols_for(space, &wide)?.is_some();
+        if !needs_protocols && space.is_allowed(diagram, &wide, hint.colour)? {
+            region = wide;
         }
     }
-    rules.push(Rule {
-        region: wide,
-        colour,
-    })?;
-    space.paint(left.diagram, &wide)
+    Ok(region)
 }
 
-/// Puts the hints that are right where nothing was decided before, until a step, and gives what they leave. None where the
-/// steps came to an end.
+/// Puts the hints that are right where nothing was decided before, until a step, with the diagrams ahead of them, and gives what
+/// they leave. None where the steps came to an end.
 pub(crate) fn take_hints(
     space: &mut Space,
     style: &mut Style,
-    errand: &Errand<'_>,
+    task: &Task,
     end: u64,
-    rules: &mut Vec<Rule>,
+    offers: &mut Offers,
 ) -> Result<Option<Diagram>, Stop> {
-    let mut now = errand.task.diagram;
-    for region in &errand.task.unhinted {
-        now = decide_first(space, style, errand, now, region, rules)?;
-    }
-    for hint in &errand.task.hints {
+    let mut now = task.diagram;
+    for hint in &task.hints {
         if space.steps() > end {
             return Ok(None);
         }
@@ -99,8 +55,13 @@ pub(crate) fn take_hints(
         if mask == Mask::ALL || !space.has(mask, hint.colour) {
             continue;
         }
-        rules.push(*hint)?;
-        now = space.paint(now, &hint.region)?;
+        let region = widened(space, style, now, hint)?;
+        offers.ahead.push(now)?;
+        offers.rules.push(Rule {
+            region,
+            colour: hint.colour,
+        })?;
+        now = space.paint(now, &region)?;
     }
     Ok(Some(now))
 }

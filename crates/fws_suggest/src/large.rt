@@ -1,33 +1,23 @@
 //! Lists for diagrams with many paths: few ways are tried, each in so many steps.
 
 use crate::best::Offers;
-use crate::cleaning::clean_large;
-use crate::fields::FIELDS;
+use crate::cleaning::{clean_large, total};
 use crate::forms::cost_of;
 use crate::hinting::{run_behind, take_hints};
 use crate::plan::{DEAR, Errand, Plan};
-use crate::region::Rule;
+use crate::rules::Rule;
 use crate::small::penalty;
-use crate::solving::Task;
-use crate::space::{Diagram, Space};
-use crate::stop::Stop;
+use crate::solving::{Budget, Task};
 use crate::style::Style;
-
-/// The most steps of one way.
-const MOST: u64 = 100_000_000;
+use crate::trimming::take_plainly;
+use fws_diagram::{Diagram, FIELDS, Space, Stop};
 
 /// The most paths that are counted.
 pub(crate) const COUNTED: u32 = 1_000_000;
 
 /// How many orders of fields are tried where there are so many paths.
 fn orders_for(paths: u32) -> usize {
-    if paths <= 1500 {
-        4
-    } else if paths <= 5000 {
-        2
-    } else {
-        1
-    }
+    if paths <= 400 { 2 } else { 1 }
 }
 
 /// The default that is right at most paths of a diagram, and how many it isn't right at.
@@ -91,14 +81,40 @@ fn offer(
     steps: u64,
     offers: &mut Offers,
 ) -> Result<(), Stop> {
-    let end = space.steps().saturating_add(steps);
-    let cost = clean_large(space, style, task.diagram, default, end, &mut offers.rules)?;
+    // Some steps are left over: a list that isn't made shorter is one, too.
+    let left = space.last_step().saturating_sub(space.steps());
+    let most = (left / 8).saturating_mul(7);
+    let end = space.steps().saturating_add(steps.min(most));
+    let cost = clean_large(
+        space,
+        style,
+        task.diagram,
+        default,
+        &offers.ahead,
+        end,
+        &mut offers.rules,
+    )?;
     let whole = cost.saturating_add(penalty(style, task, default));
     offers.offer(default, whole);
     Ok(())
 }
 
-/// Offers the list that begins with the hints.
+/// Offers the hints as they are, but for those that do nothing. Whether they are right isn't known.
+fn offer_plainly(
+    space: &mut Space,
+    style: &mut Style,
+    task: &Task,
+    offers: &mut Offers,
+) -> Result<(), Stop> {
+    offers.begin();
+    if let Some(default) = take_plainly(space, task, &mut offers.rules)? {
+        let cost = total(space, style, &offers.rules)?;
+        offers.offer(default, cost);
+    }
+    Ok(())
+}
+
+/// Offers the list that begins with the hints, or where that takes too many steps the hints as they are.
 fn try_hints(
     space: &mut Space,
     style: &mut Style,
@@ -107,27 +123,20 @@ fn try_hints(
     offers: &mut Offers,
 ) -> Result<(), Stop> {
     offers.begin();
-    let begin = space.steps();
-    let errand = Errand {
-        task,
-        plan: plan_for(space, 4, budget),
-    };
-    let end = begin.saturating_add(budget.saturating_mul(4));
-    let Some(left) = take_hints(space, style, &errand, end, &mut offers.rules)? else {
-        return Ok(());
+    let end = space.steps().saturating_add(budget / 6);
+    let Some(left) = take_hints(space, style, task, end, offers)? else {
+        return offer_plainly(space, style, task, offers);
     };
     let Some((_, default)) = fewest(space, task, left, None)? else {
         return Ok(());
     };
     let errand = Errand {
         task,
-        plan: plan_for(space, 4, budget),
+        plan: plan_for(space, 4, budget / 4),
     };
     let rules = &mut offers.rules;
     if run_behind(space, style, &errand, left, default, DEAR, rules)? {
-        let spent = space.steps().saturating_sub(begin);
-        let steps = (budget / 2).max(spent.saturating_mul(2));
-        offer(space, style, task, default, steps, offers)?;
+        offer(space, style, task, default, budget, offers)?;
     }
     Ok(())
 }
@@ -136,7 +145,7 @@ fn try_hints(
 fn plan_for(space: &Space, orders: usize, budget: u64) -> Plan {
     Plan {
         orders,
-        plain_from: space.steps().saturating_add(budget / 3),
+        plain_from: space.steps().saturating_add(budget / 6),
         end: space.steps().saturating_add(budget),
         enough: u64::MAX,
         parts: false,
@@ -179,52 +188,52 @@ fn is_open(
     Ok(ugly.saturating_mul(100) > cost.saturating_mul(share))
 }
 
-/// Offers lists for a diagram with many paths.
+/// Whether there is no list, or a rule for each path would make a clearly shorter one than the best.
+fn is_beaten(offers: &Offers, paths: u32) -> bool {
+    match offers.cost {
+        Some(_) => (paths as usize) < (offers.best.len() / 5).saturating_mul(4),
+        None => true,
+    }
+}
+
+/// Offers lists for a diagram with many paths: the source's own list made shorter, where there is one, and others where that
+/// isn't short.
 pub(crate) fn solve_large(
     space: &mut Space,
     style: &mut Style,
     task: &Task,
+    budget: Budget,
     offers: &mut Offers,
 ) -> Result<(), Stop> {
     let Some((paths, default)) = fewest(space, task, task.diagram, None)? else {
         return Ok(());
     };
-    let budget = u64::from(paths)
-        .saturating_mul(4000)
-        .saturating_add(40_000_000)
-        .min(MOST);
-    let lists = style.settings.lists_addresses;
-    if !task.hints.is_empty() && !lists {
-        try_hints(space, style, task, budget, offers)?;
+    if !task.hints.is_empty() {
+        try_hints(space, style, task, budget.most, offers)?;
+    }
+    if !is_beaten(offers, paths) {
+        return Ok(());
     }
     let begin = space.steps();
-    let is_hopeless = match offers.cost {
-        Some(cost) => u64::from(paths) > cost / 25,
-        None => false,
+    let left = (budget.most / 8).saturating_mul(7);
+    let errand = Errand {
+        task,
+        plan: plan_for(space, orders_for(paths), left),
     };
-    if !is_hopeless {
-        let errand = Errand {
-            task,
-            plan: plan_for(space, orders_for(paths), budget),
-        };
-        try_run(space, style, &errand, default, budget, offers)?;
-    }
-    if !task.hints.is_empty() && lists && is_open(space, style, offers, 2)? {
-        try_hints(space, style, task, budget, offers)?;
-    }
-    let spent = space
-        .steps()
-        .saturating_sub(begin)
-        .saturating_add(1_000_000);
+    try_run(space, style, &errand, default, left, offers)?;
+    let spent = space.steps().saturating_sub(begin);
     let Some((more, other)) = fewest(space, task, task.diagram, Some(default))? else {
         return Ok(());
     };
-    if more <= paths.saturating_mul(2) && is_open(space, style, offers, 2)? {
+    if more <= paths.saturating_mul(2)
+        && spent < budget.enough
+        && is_open(space, style, offers, 2)?
+    {
         let errand = Errand {
             task,
-            plan: plan_for(space, orders_for(paths), spent.min(budget / 2)),
+            plan: plan_for(space, orders_for(paths), budget.enough),
         };
-        try_run(space, style, &errand, other, budget, offers)?;
+        try_run(space, style, &errand, other, budget.enough, offers)?;
     }
     Ok(())
 }

@@ -2,24 +2,16 @@
 #![tactic(auto)]
 
 mod best;
-mod changes;
 mod cleaning;
 mod covers;
 mod cubes;
-mod cursor;
-mod cuts;
-mod fields;
 mod forms;
 mod grounds;
 mod hinting;
 mod large;
 mod marking;
-mod masks;
 mod measures;
-mod meeting;
-mod memo;
 mod naming;
-mod parting;
 mod peeling;
 mod phrases;
 mod plan;
@@ -27,41 +19,34 @@ mod prefixes;
 mod problem_cuts;
 mod problem_ends;
 mod problems;
-mod region;
+mod rules;
 mod running;
 mod settings;
-mod sides;
+mod sizes;
 mod small;
 mod solving;
 mod source_hints;
-mod space;
-mod stop;
 mod style;
 mod tasks;
 mod tidying;
-mod translating;
-mod walks;
+mod trimming;
 mod widening;
-mod words;
 
 pub use cubes::FlagCube;
-pub use cuts::Cuts;
-pub use fields::{DPORT, DST, ENTRY, FIELDS, FLAGS, ICMP, PROTO, SPORT, SRC, STATE, TAG};
 pub use forms::Measure;
+pub use fws_diagram::{
+    Cuts, DPORT, DST, Diagram, ENTRY, FIELDS, FLAGS, ICMP, Mask, Meeting, PROTO, Region, SPORT,
+    SRC, STATE, Side, Space, Stop, TAG,
+};
 pub use marking::{Marked, marks_of, split_by_class};
-pub use masks::Mask;
 pub use measures::{Flags, Ports};
-pub use meeting::Meeting;
 pub use naming::interface_name;
 pub use phrases::Phrases;
 pub use prefixes::{is_network, network_of};
 pub use problems::{ACCEPT, DROP, Established, Exit, Policy};
-pub use region::{List, Region, Rule};
+pub use rules::{List, Rule};
 pub use settings::{Settings, System};
-pub use sides::Side;
-pub use solving::{Colour, Task, solve};
-pub use space::{Diagram, Space};
-pub use stop::Stop;
+pub use solving::{Colour, Task};
 pub use style::{Address, AddressForm, Destination, Leaving, Ranges, Style};
 pub use tasks::{end_colours, plain_colour, solved, task_for, verdict_task};
 pub use tidying::tidied;

@@ -1,10 +1,8 @@
 //! Marks that stand for the entries of packets.
 
-use crate::fields::ENTRY;
 use crate::problems::Policy;
-use crate::region::Rule;
-use crate::sides::Side;
-use crate::stop::Stop;
+use crate::rules::Rule;
+use fws_diagram::{ENTRY, Side, Stop};
 
 /// The mark that stands for a class of entries.
 #[derive(Clone, Copy, Debug)]

@@ -1,16 +1,13 @@
 //! What sides cost, and which of them a target chooses.
 
 use crate::cubes::{FlagCube, cover_flags};
-use crate::fields::{DPORT, DST, ENTRY, FLAGS, ICMP, PROTO, SPORT, SRC, STATE, TAG};
 use crate::forms::{Measure, Sought};
 use crate::prefixes::network_of;
-use crate::region::Region;
 use crate::settings::System;
-use crate::sides::Side;
-use crate::space::Space;
-use crate::stop::Stop;
 use crate::style::{AddressForm, Style};
-use crate::words::word_at;
+use fws_diagram::{
+    DPORT, DST, ENTRY, FLAGS, ICMP, PROTO, SPORT, SRC, STATE, Side, Space, Stop, TAG, word_at,
+};
 use fws_iv::Iv;
 use fws_num::Memory;
 
@@ -32,7 +29,7 @@ fn established_flags() -> u64 {
 
 /// The ports from the least one of a side up to the greatest.
 fn hull_of_ports(space: &mut Space, side: Side) -> Result<Side, Memory> {
-    let bounds = space.sides.bounds(side);
+    let bounds = space.bounds(side);
     let first = word_at(bounds, 0);
     let last = word_at(bounds, bounds.len().saturating_sub(1));
     space.atoms_between(first, last)
@@ -87,14 +84,15 @@ impl Style {
         side: Side,
     ) -> Result<Measure, Stop> {
         let row = (field % 16) as u32;
-        if let Some(place) = self.measure_places.get(row, side.0) {
+        if let Some(place) = self.measure_places.get(row, side.number()) {
             if let Some(known) = self.measures.get(place as usize) {
                 return Ok(*known);
             }
         }
         let measure = self.new_measure(space, field, side)?;
         if let Ok(place) = u32::try_from(self.measures.len()) {
-            self.measure_places.set(self.alloc, row, side.0, place)?;
+            self.measure_places
+                .set(self.alloc, row, side.number(), place)?;
             self.measures.push(measure)?;
         }
         Ok(measure)
@@ -115,7 +113,7 @@ impl Style {
         if system == System::Iptables && field == ICMP {
             let last = space.atoms(field).saturating_sub(1);
             let rest = space.others(field, side)?;
-            if space.sides.hits(side, last, last.saturating_add(1)) {
+            if space.hits(side, last, last.saturating_add(1)) {
                 if space.count_values(field, rest) != 1 {
                     return Ok(Some(measured(50, 1000)));
                 }
@@ -123,7 +121,7 @@ impl Style {
                 return Ok(Some(measured(50, 1000)));
             }
         }
-        if system == System::Iptables && field == PROTO && space.sides.hits(side, 0, 1) {
+        if system == System::Iptables && field == PROTO && space.hits(side, 0, 1) {
             let rest = space.others(field, side)?;
             if space.count_values(field, rest) != 1 {
                 return Ok(Some(measured(60, 1000)));
@@ -150,10 +148,10 @@ impl Style {
             return Ok(measured(1, 250));
         }
         if space.meets(side, host)? {
-            let lines = if space.sides.count(rest) == 1 { 1 } else { 40 };
+            let lines = if space.count_atoms(rest) == 1 { 1 } else { 40 };
             return Ok(measured(lines, 200));
         }
-        Ok(measured(u64::from(space.sides.count(side)), 100))
+        Ok(measured(u64::from(space.count_atoms(side)), 100))
     }
 
     fn new_measure(
@@ -248,19 +246,24 @@ impl Style {
     fn ports_measure(&self, space: &mut Space, field: usize, side: Side) -> Result<Measure, Stop> {
         let ports = self.ports(space, field, side)?;
         let count = ports.ranges.len() as u64;
-        let mut slots: u64 = 0;
-        for range in &ports.ranges {
-            slots = slots.saturating_add(if range.lo == range.hi { 1 } else { 2 });
-        }
-        let width = u64::from(self.settings.ports);
-        let lines = if width == 0 {
-            count
-        } else {
-            slots.saturating_add(width - 1) / width
-        };
+        let lines = self.lines_of_ports(&ports.ranges);
         let negated = if ports.is_negated { 30 } else { 0 };
         let more = count.saturating_sub(1).saturating_mul(30);
         Ok(measured(lines, more.saturating_add(100).saturating_add(negated)))
+    }
+
+    /// How many lines ranges of ports take.
+    fn lines_of_ports(&self, ranges: &[Iv]) -> u64 {
+        let mut slots: u64 = 0;
+        for range in ranges {
+            slots = slots.saturating_add(if range.lo == range.hi { 1 } else { 2 });
+        }
+        let width = u64::from(self.settings.ports);
+        if width == 0 {
+            ranges.len() as u64
+        } else {
+            slots.saturating_add(width - 1) / width
+        }
     }
 
     fn types_measure(&self, space: &mut Space, side: Side) -> Result<Measure, Stop> {
@@ -290,7 +293,9 @@ impl Style {
         let is_negated = if self.settings.system == System::Ios {
             count > 1 && lacking == 1 && space.count_values(field, rest) == 1
         } else {
-            self.settings.negates_ports && lacking < count
+            self.settings.negates_ports
+                && lacking < count
+                && self.lines_of_ports(&space.parts(field, rest)?) <= 1
         };
         let ranges = space.parts(field, if is_negated { rest } else { side })?;
         Ok(Ports { is_negated, ranges })
@@ -301,7 +306,7 @@ impl Style {
         let mut set = 0;
         for flags in 0..64u32 {
             let atom = space.atom(FLAGS, flags);
-            if space.sides.hits(side, atom, atom.saturating_add(1)) {
+            if space.hits(side, atom, atom.saturating_add(1)) {
                 set |= 1u64 << flags;
             }
         }
@@ -386,13 +391,13 @@ impl Style {
 
     /// The flags of packets that aren't the first of a connection.
     pub(crate) fn established_side(&self, space: &mut Space) -> Result<Side, Stop> {
-        let place = space.sides.begin();
+        let place = space.begin_side();
         for atom in 0..space.atoms(FLAGS) {
             if space.least(FLAGS, atom) & 20 != 0 {
-                space.sides.put(place, atom, atom.saturating_add(1))?;
+                space.put_atoms(place, atom, atom.saturating_add(1))?;
             }
         }
-        let side = space.sides.end(space.alloc, place)?;
+        let side = space.end_side(place)?;
         Ok(side)
     }
 
@@ -402,13 +407,13 @@ impl Style {
         let rest = space.others(ENTRY, sought.most)?;
         let most_has_host = space.meets(sought.most, host)?;
         if most_has_host && space.meets(sought.least, host)? {
-            return Ok(if space.sides.count(rest) == 1 {
+            return Ok(if space.count_atoms(rest) == 1 {
                 sought.most
             } else {
                 host
             });
         }
-        let many = space.sides.count(sought.least) > 1;
+        let many = space.count_atoms(sought.least) > 1;
         if sought.least == others || (!most_has_host && sought.most == others && many) {
             return Ok(others);
         }
@@ -564,7 +569,7 @@ impl Style {
     /// The ranges of allowed ports that hold what is wanted, each as short as that lets it be.
     fn chosen_ports(&mut self, space: &mut Space, sought: Sought) -> Result<Side, Stop> {
         let wanted = space.both(sought.wanted, sought.most)?;
-        let place = space.sides.begin();
+        let place = space.begin_side();
         let mut at: usize = 0;
         let mut next: u32 = 0;
         for run in 0..space.runs(sought.most) {
@@ -583,11 +588,11 @@ impl Style {
                 at = at.saturating_add(1);
             }
             if let Some(from) = low {
-                space.sides.put(place, from, high)?;
+                space.put_atoms(place, from, high)?;
                 next = high;
             }
         }
-        let chosen = space.sides.end(space.alloc, place)?;
+        let chosen = space.end_side(place)?;
         Ok(space.either(chosen, sought.least)?)
     }
 
@@ -650,7 +655,7 @@ impl Style {
             return Ok(());
         }
         let ranges = self.ranges_of(&[network])?;
-        let atoms = space.atoms_within(self, field, ranges, 0)?;
+        let atoms = self.atoms_within(space, field, ranges, 0)?;
         let hull = space.either(atoms, side)?;
         if hull != side {
             hulls.push(hull)?;
@@ -732,7 +737,7 @@ impl Style {
         for place in 0..self.count(address.ranges) {
             let range = self.range(address.ranges, place);
             let ranges = self.ranges_of(&[range])?;
-            let atoms = space.atoms_within(self, field, ranges, 0)?;
+            let atoms = self.atoms_within(space, field, ranges, 0)?;
             let piece = space.both(atoms, side)?;
             if !piece.is_empty() {
                 pieces.push(piece)?;

@@ -1,12 +1,9 @@
 //! Rules in front that ask for one thing, or for one thing and an interface.
 
-use crate::fields::{DST, ENTRY, FLAGS, PROTO, SRC, STATE, TAG};
 use crate::forms::{Sought, cost_of};
-use crate::region::{Region, Rule};
-use crate::sides::Side;
-use crate::space::{Diagram, Space};
-use crate::stop::Stop;
+use crate::rules::Rule;
 use crate::style::Style;
+use fws_diagram::{DST, Diagram, ENTRY, FLAGS, PROTO, Region, SRC, STATE, Side, Space, Stop, TAG};
 
 /// The fields of rules that ask for one thing.
 const ALONE: [usize; 7] = [STATE, TAG, ENTRY, SRC, DST, PROTO, FLAGS];

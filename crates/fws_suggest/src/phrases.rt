@@ -1,6 +1,6 @@
 //! Lines that say one rule: of what one line can't say each way in a line of its own.
 
-use crate::stop::Stop;
+use fws_diagram::Stop;
 use fws_num::{Memory, Text};
 use std::alloc::Global;
 

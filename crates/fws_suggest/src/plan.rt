@@ -1,7 +1,7 @@
 //! How a search goes: orders of fields, and steps after which it goes on otherwise.
 
-use crate::fields::{DPORT, DST, ENTRY, FLAGS, ICMP, PROTO, SPORT, SRC, STATE, TAG};
 use crate::solving::Task;
+use fws_diagram::{DPORT, DST, ENTRY, FLAGS, ICMP, PROTO, SPORT, SRC, STATE, TAG};
 
 /// The orders in which the sides of a rule are widened.
 pub(crate) const ORDERS: [[usize; 10]; 4] = [

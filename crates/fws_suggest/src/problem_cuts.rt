@@ -1,9 +1,7 @@
 //! Where the tables of a policy and the site cut the fields.
 
-use crate::cuts::Cuts;
-use crate::fields::{DPORT, DST, ENTRY, PROTO, SPORT, SRC, STATE, TAG};
 use crate::prefixes::is_network;
-use crate::stop::Stop;
+use fws_diagram::{Cuts, DPORT, DST, ENTRY, PROTO, SPORT, SRC, STATE, Stop, TAG};
 use fws_iv::{Iv, Ivs};
 use fws_net::{End, Outcome, Site, agreeing_set, local_set};
 use fws_num::Memory;
@@ -108,10 +106,8 @@ impl Seams {
 
     /// Puts the starts of a field, as far as a mask has them.
     fn put_masked(&self, field: usize, mask: u32, numbers: &mut Vec<u32>) -> Result<(), Memory> {
-        if let Some(starts) = self.cuts.starts.get(field) {
-            for start in starts {
-                numbers.push(*start & mask)?;
-            }
+        for start in self.cuts.starts(field) {
+            numbers.push(*start & mask)?;
         }
         Ok(())
     }

@@ -1,14 +1,11 @@
 //! What packets are behind the translation of destinations, and which sources are written.
 
-use crate::fields::{DPORT, DST, ENTRY, FIELDS, SRC, STATE, TAG};
-use crate::masks::Mask;
-use crate::meeting::Meeting;
 use crate::problem_cuts::host_bits;
 use crate::problems::{ACCEPT, DROP, Exit, Policy, colour_of};
-use crate::region::{Region, Rule};
-use crate::sides::Side;
-use crate::space::Diagram;
-use crate::stop::Stop;
+use crate::rules::Rule;
+use fws_diagram::{
+    DPORT, DST, Diagram, ENTRY, FIELDS, Mask, Meeting, Region, SRC, STATE, Side, Stop, TAG,
+};
 use fws_iv::Iv;
 use fws_net::{End, Site, face_addr};
 use fws_num::Memory;
@@ -17,7 +14,15 @@ use fws_num::Memory;
 const MOST_MAPPED: u32 = 2000;
 
 /// How many destinations a list may write.
-const MOST_ENDS: usize = 1000;
+const MOST_ENDS: usize = 5000;
+
+/// The region at a place, if there is one.
+fn hull_at(hulls: &[Option<Region>], place: usize) -> Option<Region> {
+    match hulls.get(place) {
+        Some(hull) => *hull,
+        None => None,
+    }
+}
 
 /// Whether one of the ends maps a network.
 fn has_network(ends: &[Option<End>]) -> bool {
@@ -69,7 +74,7 @@ impl Policy {
     }
 
     /// The least region that has both regions.
-    fn joined(&mut self, one: &Region, other: &Region) -> Result<Region, Memory> {
+    pub(crate) fn joined(&mut self, one: &Region, other: &Region) -> Result<Region, Memory> {
         let mut both = *one;
         for field in 0..FIELDS {
             let side = self.space.either(one.side(field), other.side(field))?;
@@ -78,22 +83,69 @@ impl Policy {
         Ok(both)
     }
 
-    /// The least region that has all rules of a colour.
-    fn hull_of(&mut self, rules: &[Rule], colour: u32) -> Result<Option<Region>, Memory> {
-        let mut hull: Option<Region> = None;
+    /// The least region that has all rules of a colour, for each of so many colours.
+    fn hulls_of(&mut self, rules: &[Rule], count: usize) -> Result<Vec<Option<Region>>, Memory> {
+        let mut hulls = Vec::new(self.alloc);
+        for _ in 0..count {
+            hulls.push(None)?;
+        }
         for rule in rules {
-            if rule.colour != colour {
-                continue;
+            let place = rule.colour as usize;
+            let all = self.hull(hull_at(&hulls, place), Some(rule.region))?;
+            if let Some(slot) = hulls.get_mut(place) {
+                *slot = all;
             }
-            hull = match hull {
-                None => Some(rule.region),
-                Some(whole) => {
-                    let wider = self.joined(&whole, &rule.region)?;
-                    Some(wider)
+        }
+        Ok(hulls)
+    }
+
+    /// The least region that has both of two, if they are there.
+    pub(crate) fn hull(
+        &mut self,
+        one: Option<Region>,
+        other: Option<Region>,
+    ) -> Result<Option<Region>, Memory> {
+        let Some(first) = one else {
+            return Ok(other);
+        };
+        match other {
+            Some(second) => Ok(Some(self.joined(&first, &second)?)),
+            None => Ok(one),
+        }
+    }
+
+    /// What all of some diagrams allow. Those beside one another are met first, so that few are large.
+    fn met_all(&mut self, diagrams: Vec<Diagram>) -> Result<Diagram, Stop> {
+        let mut left = diagrams;
+        for _ in 0..64 {
+            if left.len() <= 1 {
+                break;
+            }
+            left = self.met_in_pairs(&left)?;
+        }
+        match left.first() {
+            Some(all) => Ok(*all),
+            None => Ok(Diagram::ANYTHING),
+        }
+    }
+
+    /// What each two diagrams beside one another allow both.
+    fn met_in_pairs(&mut self, diagrams: &[Diagram]) -> Result<Vec<Diagram>, Stop> {
+        let mut all = Vec::new(self.alloc);
+        let mut before: Option<Diagram> = None;
+        for diagram in diagrams {
+            before = match before {
+                Some(first) => {
+                    all.push(self.space.meet(first, *diagram)?)?;
+                    None
                 }
+                None => Some(*diagram),
             };
         }
-        Ok(hull)
+        if let Some(last) = before {
+            all.push(last)?;
+        }
+        Ok(all)
     }
 
     /// The diagram of the colours that rules give, the first that holds; the default where none does.
@@ -107,22 +159,19 @@ impl Policy {
         Ok(diagram)
     }
 
-    /// For a diagram of colours of so many: nothing allowed where it has the colour, and everything elsewhere.
-    pub fn where_it_is(
-        &mut self,
-        diagram: Diagram,
-        colour: u32,
-        count: usize,
-    ) -> Result<Diagram, Stop> {
-        let mut table = Vec::new(self.alloc);
-        for place in 0..count {
-            table.push(if colour_of(place) == colour {
+    /// For a diagram: nothing allowed where it has the colour alone, and everything elsewhere.
+    pub fn where_it_is(&mut self, diagram: Diagram, colour: u32) -> Result<Diagram, Stop> {
+        let only = self.space.only(colour)?;
+        let old = self.space.leaves(diagram)?;
+        let mut new = Vec::new(self.alloc);
+        for mask in &old {
+            new.push(if *mask == only || *mask == Mask::NONE {
                 Mask::NONE
             } else {
                 Mask::ALL
             })?;
         }
-        self.translated(diagram, &table)
+        self.space.relabel(diagram, &old, &new)
     }
 
     /// The region of the packets that an end has written, as far as it writes.
@@ -161,28 +210,30 @@ impl Policy {
         }
         let direct = self.direct()?;
         let ends = self.painted(rules, 0)?;
-        let kept = self.where_it_is(ends, 0, count)?;
-        let mut whole = self.space.met(direct, kept, Meeting::Either)?;
+        let kept = self.where_it_is(ends, 0)?;
+        let mut staying = self.space.met(direct, kept, Meeting::Either)?;
         if is_tagged {
             let side = self.space.range(TAG, 0, 0)?;
             let plain = self.everything().with(TAG, side);
-            whole = self.space.keep(whole, &plain)?;
+            staying = self.space.keep(staying, &plain)?;
         }
+        let mut pieces = Vec::new(self.alloc);
+        pieces.push(staying)?;
+        let hulls = self.hulls_of(rules, count)?;
         for place in 1..count {
             let Some(end) = self.destination_at(place) else {
                 continue;
             };
-            let Some(hull) = self.hull_of(rules, colour_of(place))? else {
+            let Some(hull) = hull_at(&hulls, place) else {
                 continue;
             };
             let here = self.space.keep(direct, &hull)?;
             let sent = self.space.keep(ends, &hull)?;
-            let away = self.where_it_is(sent, colour_of(place), count)?;
+            let away = self.where_it_is(sent, colour_of(place))?;
             let before = self.space.met(here, away, Meeting::Either)?;
-            let placed = self.placed(before, end, is_tagged)?;
-            whole = self.space.meet(whole, placed)?;
+            pieces.push(self.placed(before, end, is_tagged)?)?;
         }
-        Ok(whole)
+        self.met_all(pieces)
     }
 
     /// What a diagram says of packets, said of them once an end is written over their destinations.
@@ -265,11 +316,10 @@ impl Policy {
         &mut self,
         diagram: Diagram,
         place: usize,
-        count: usize,
         field: usize,
         end: End,
     ) -> Result<Side, Stop> {
-        let here = self.where_it_is(diagram, colour_of(place), count)?;
+        let here = self.where_it_is(diagram, colour_of(place))?;
         let everywhere = self.everything();
         let asked = self.space.asked(here, &everywhere, field)?;
         let parts = self.space.parts(field, asked)?;
@@ -304,7 +354,7 @@ impl Policy {
             if end.len == 32 {
                 continue;
             }
-            let blocks = self.mapped_blocks(sendings, place, count, SRC, end)?;
+            let blocks = self.mapped_blocks(sendings, place, SRC, end)?;
             // the colour behind all sources stands for the address of the interface
             let mask = self.all_but(place, count.saturating_add(1))?;
             let outside = self.space.others(SRC, blocks)?;
@@ -456,7 +506,7 @@ impl Policy {
         let count = self.sources.len().saturating_add(1);
         let plain = self.with_tag(tagged, 0)?;
         let sent = self.with_tag(tagged, 1)?;
-        let dropped = self.where_it_is(plain, DROP, count)?;
+        let dropped = self.where_it_is(plain, DROP)?;
         let passing = self.passing(sent, count)?;
         let free = self.space.met(dropped, passing, Meeting::Either)?;
         let drop = self.space.only(DROP)?;

@@ -2,17 +2,14 @@
 
 ghost use Rattle.fws_net.specs.Routes.{IsSound};
 
-use crate::cuts::Cuts;
-use crate::fields::{DPORT, DST, ENTRY, FLAGS, ICMP, SPORT, SRC};
-use crate::masks::Mask;
-use crate::meeting::Meeting;
 use crate::problem_cuts::{Seams, field_of};
-use crate::region::Region;
+use crate::rules::Rule;
 use crate::settings::Settings;
-use crate::sides::Side;
-use crate::space::{Diagram, Space};
-use crate::stop::Stop;
 use crate::style::Style;
+use fws_diagram::{
+    Cuts, DPORT, DST, Diagram, ENTRY, FLAGS, ICMP, Mask, Meeting, Region, SPORT, SRC, Side, Space,
+    Stop,
+};
 use fws_iv::{Iv, Ivs};
 use fws_net::{End, Outcome, Site, local_set, route_set};
 use fws_num::Memory;
@@ -69,6 +66,12 @@ pub struct Policy {
     own: Ivs,
     /// The networks that the site or the tables name.
     networks: Vec<Iv>,
+    /// How many steps all searches may take.
+    pub(crate) steps: u64,
+    /// The source's rules for new packets that come in, as `note_hints` notes them.
+    pub(crate) coming: Vec<Rule>,
+    /// The source's rules for new packets of the host's own.
+    pub(crate) sending: Vec<Rule>,
 }
 
 impl Drop for Policy {
@@ -89,6 +92,9 @@ impl Drop for Policy {
             arriving: _,
             own,
             networks,
+            steps: _,
+            coming,
+            sending,
         } = self;
         drop(space);
         drop(outcomes);
@@ -97,6 +103,8 @@ impl Drop for Policy {
         drop(exits);
         drop(own);
         drop(networks);
+        drop(coming);
+        drop(sending);
     }
 }
 
@@ -149,43 +157,6 @@ pub(crate) fn colour_of(place: usize) -> u32 {
     u32::try_from(place).unwrap_or(u32::MAX)
 }
 
-/// Puts the first atom of each run of a side, with the node for it.
-fn put_runs(runs: &mut Vec<(u32, u32)>, bounds: &[u32], kid: u32) -> Result<(), Memory> {
-    let mut starts = true;
-    for bound in bounds {
-        if starts {
-            runs.push((*bound, kid))?;
-        }
-        starts = !starts;
-    }
-    Ok(())
-}
-
-/// The node that cuts a field into runs, of which each is its first atom and a node.
-fn cut_into(space: &mut Space, field: usize, runs: &[(u32, u32)]) -> Result<Diagram, Memory> {
-    let place = space.begin_cut(colour_of(field))?;
-    for (from, kid) in runs {
-        space.put_run(place, *from, *kid)?;
-    }
-    let node = space.end_cut(place)?;
-    Ok(Diagram(node))
-}
-
-/// The node that cuts a field by the sides of its kids, which have all atoms between them.
-fn cut_by(
-    space: &mut Space,
-    alloc: Global,
-    field: usize,
-    kids: &[(Side, Diagram)],
-) -> Result<Diagram, Memory> {
-    let mut runs: Vec<(u32, u32)> = Vec::new(alloc);
-    for (side, kid) in kids {
-        put_runs(&mut runs, space.sides.bounds(*side), kid.0)?;
-    }
-    runs.sort_unstable();
-    cut_into(space, field, &runs)
-}
-
 /// The kids of a node of a table as sides and diagrams of nodes that were met.
 fn kids_of(
     space: &mut Space,
@@ -225,7 +196,7 @@ fn node_of(
             }
             let field = field_of(*place);
             let kids = kids_of(space, alloc, field, kids.as_slice(), met)?;
-            let cut = cut_by(space, alloc, field, &kids)?;
+            let cut = space.cut(field, &kids)?;
             Ok(cut)
         }
     }
@@ -281,6 +252,7 @@ impl Policy {
         requires { IsSound site.now }
     {
         let fresh = tables.fresh.shared();
+        self.limit_steps(tables);
         self.fill(fresh.leaves, fresh.nodes)?;
         self.note_site(site)?;
         Ok(())
@@ -295,7 +267,7 @@ impl Policy {
             alloc,
             forwarding,
             entries,
-            fresh: Diagram(0),
+            fresh: Diagram::ANYTHING,
             outcomes: Vec::new(alloc),
             sources: Vec::new(alloc),
             destinations: Vec::new(alloc),
@@ -306,6 +278,9 @@ impl Policy {
             arriving: Side::EMPTY,
             own: Ivs::none(alloc),
             networks,
+            steps: u64::MAX,
+            coming: Vec::new(alloc),
+            sending: Vec::new(alloc),
         })
     }
 
@@ -547,7 +522,7 @@ impl Policy {
             if end.len == 32 {
                 continue;
             }
-            let blocks = self.mapped_blocks(sent, place, count, DST, end)?;
+            let blocks = self.mapped_blocks(sent, place, DST, end)?;
             let region = self.everything().with(DST, blocks);
             let mask = self.space.only(colour_of(place))?;
             let nothing = self.space.leaf(Mask::NONE)?;

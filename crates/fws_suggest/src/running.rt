@@ -1,15 +1,12 @@
 //! Rules, one behind the other, until the default is right at what is left.
 
-use crate::fields::{FIELDS, PROTO};
 use crate::forms::cost_of;
 use crate::plan::{Errand, NESTED, Place};
-use crate::region::{Region, Rule};
-use crate::sides::Side;
+use crate::rules::Rule;
 use crate::solving::Colour;
-use crate::space::{Diagram, Space};
-use crate::stop::Stop;
 use crate::style::Style;
 use crate::widening::{Found, Wish, best_of_colours, best_rule};
+use fws_diagram::{Diagram, FIELDS, PROTO, Region, Side, Space, Stop};
 
 /// What rules leave: the diagram with everything painted that they decide, and what they cost.
 #[derive(Clone, Copy)]

@@ -6,15 +6,11 @@ use crate::grounds::grounds_for;
 use crate::hinting::{run_behind, take_hints};
 use crate::peeling::{peel_alone, peel_beside};
 use crate::plan::{DEAR, Errand, NESTED, Place, Plan};
-use crate::region::Rule;
+use crate::rules::Rule;
 use crate::running::run;
 use crate::solving::Task;
-use crate::space::{Diagram, Space};
-use crate::stop::Stop;
 use crate::style::Style;
-
-/// How many steps are taken once a list is there.
-const ENOUGH: u64 = 10_000_000;
+use fws_diagram::{Diagram, Space, Stop};
 
 /// How many paths a ground may have that lack its colour.
 const FEW: u32 = 150;
@@ -88,7 +84,7 @@ fn try_hints(
     offers: &mut Offers,
 ) -> Result<(), Stop> {
     offers.begin();
-    let Some(left) = take_hints(space, style, errand, u64::MAX, &mut offers.rules)? else {
+    let Some(left) = take_hints(space, style, errand.task, u64::MAX, offers)? else {
         return Ok(());
     };
     if go_on(space, style, errand, left, default, offers)? {
@@ -190,14 +186,15 @@ fn try_grounds(
     Ok(())
 }
 
-/// Offers lists for a diagram with few paths.
+/// Offers lists for a diagram with few paths: once there is one, in so many steps.
 pub(crate) fn solve_small(
     space: &mut Space,
     style: &mut Style,
     task: &Task,
+    steps: u64,
     offers: &mut Offers,
 ) -> Result<(), Stop> {
-    let enough = space.steps().saturating_add(ENOUGH).min(space.limit);
+    let enough = space.steps().saturating_add(steps).min(space.last_step());
     let errand = Errand {
         task,
         plan: Plan::thorough(enough),

@@ -2,11 +2,10 @@
 
 use crate::best::Offers;
 use crate::large::{fewest_paths, solve_large};
-use crate::region::{List, Region, Rule};
+use crate::rules::{List, Rule};
 use crate::small::{penalty, solve_small};
-use crate::space::{Diagram, Space};
-use crate::stop::Stop;
 use crate::style::Style;
+use fws_diagram::{Diagram, Space, Stop};
 use fws_num::Memory;
 use std::alloc::Global;
 
@@ -32,25 +31,31 @@ pub struct Task {
     pub defaults: Vec<u32>,
     /// Rules of the source, in its order: each counts only where it is right.
     pub hints: Vec<Rule>,
-    /// Regions of which the hints don't speak, to be decided first.
-    pub unhinted: Vec<Region>,
-    /// How many steps may be taken.
-    pub budget: u64,
+}
+
+/// How many steps a search may take.
+#[derive(Clone, Copy)]
+pub struct Budget {
+    /// Until there is a list.
+    pub most: u64,
+    /// For shorter ones, once there is one.
+    pub enough: u64,
 }
 
 /// The shortest list that was found in so many steps: what it decides is right at each point of the diagram. None where the
 /// search gave up. The space's limit of steps is then as it was before.
-pub fn solve(
+pub(crate) fn solve(
     alloc: Global,
     space: &mut Space,
     style: &mut Style,
     task: &Task,
+    budget: Budget,
 ) -> Result<Option<List>, Memory> {
-    let before = space.limit;
-    let limit = space.steps.saturating_add(task.budget).min(before);
-    space.limit = limit;
-    let found = search(alloc, space, style, task);
-    space.limit = before;
+    let before = space.last_step();
+    let limit = space.steps().saturating_add(budget.most).min(before);
+    space.set_limit(limit);
+    let found = search(alloc, space, style, task, budget);
+    space.set_limit(before);
     found
 }
 
@@ -62,6 +67,7 @@ fn offer_lists(
     space: &mut Space,
     style: &mut Style,
     task: &Task,
+    budget: Budget,
     offers: &mut Offers,
 ) -> Result<(), Stop> {
     let allowed = space.least_mask(task.diagram);
@@ -75,9 +81,9 @@ fn offer_lists(
     }
     let paths = fewest_paths(space, task)?;
     if paths <= FEW_PATHS {
-        solve_small(space, style, task, offers)
+        solve_small(space, style, task, budget.enough, offers)
     } else {
-        solve_large(space, style, task, offers)
+        solve_large(space, style, task, budget, offers)
     }
 }
 
@@ -86,9 +92,10 @@ fn search(
     space: &mut Space,
     style: &mut Style,
     task: &Task,
+    budget: Budget,
 ) -> Result<Option<List>, Memory> {
     let mut offers = Offers::none(alloc);
-    let ended = offer_lists(space, style, task, &mut offers);
+    let ended = offer_lists(space, style, task, budget, &mut offers);
     if lacks_memory(&ended) {
         return Err(Memory);
     }

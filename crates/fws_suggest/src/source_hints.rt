@@ -1,16 +1,18 @@
 //! Rules of the source as regions, for searches to begin with.
 
-use crate::fields::{DPORT, DST, ENTRY, FLAGS, ICMP, PROTO, SPORT, SRC, STATE};
 use crate::problems::{ACCEPT, DROP, Policy};
-use crate::region::{Region, Rule};
-use crate::sides::Side;
-use fws_flat::{Flat, FlatAct, Part};
+use crate::rules::Rule;
+use fws_diagram::{DPORT, DST, ENTRY, FLAGS, ICMP, PROTO, Region, SPORT, SRC, STATE, Side};
+use fws_flat::{Flat, FlatAct, Ins, Part};
 use fws_iv::Ivs;
 use fws_net::{Cond, Lit, Test};
 use fws_num::Memory;
 
 /// How many rules of a source are looked at.
 const MOST_HINTS: usize = 20000;
+
+/// How many instructions of a part are read for them.
+const MOST_READ: u32 = 60000;
 
 /// Whether a region has no points.
 fn is_empty(region: &Region) -> bool {
@@ -22,12 +24,33 @@ fn is_empty(region: &Region) -> bool {
     false
 }
 
-/// The colour of an act that accepts or drops.
-fn colour_by(act: FlatAct) -> Option<u32> {
-    match act {
-        FlatAct::Accept => Some(ACCEPT),
-        FlatAct::Drop => Some(DROP),
-        _ => None,
+/// Which rules of a source are wanted.
+#[derive(Clone, Copy)]
+struct Wanted {
+    /// The points of which they are to speak.
+    within: Region,
+    /// Whether those for new packets are wanted alone, which don't ask for the class then.
+    only_new: bool,
+    /// Whether packets leave where they are asked.
+    outward: bool,
+}
+
+/// How far a part was read.
+#[derive(Drop)]
+struct Reading {
+    /// What comes to the next instruction from the one ahead of it, if something does.
+    now: Option<Region>,
+    /// The rules that hold a verdict.
+    held: Vec<Rule>,
+    /// By place: what comes there by jumps.
+    comings: Vec<Option<Region>>,
+}
+
+/// The region that comes to a place, if there is one.
+fn coming_at(comings: &[Option<Region>], place: usize) -> Option<Region> {
+    match comings.get(place) {
+        Some(coming) => *coming,
+        None => None,
     }
 }
 
@@ -91,7 +114,12 @@ impl Policy {
     }
 
     /// The region of the packets of a region of which a literal holds, as nearly as a region can tell; none where it can't.
-    fn hint_within(&mut self, region: &Region, lit: &Lit) -> Result<Option<Region>, Memory> {
+    fn hint_within(
+        &mut self,
+        region: &Region,
+        lit: &Lit,
+        outward: bool,
+    ) -> Result<Option<Region>, Memory> {
         let not = lit.not;
         let (field, side) = match &lit.test {
             Test::Src(set) => (SRC, self.hint_side(SRC, set, not)?),
@@ -108,7 +136,7 @@ impl Policy {
                 let state = u32::from(!not);
                 (STATE, self.space.range(STATE, state, state)?)
             }
-            Test::Outward => return Ok(Some(*region)),
+            Test::Outward => return Ok(if outward == not { None } else { Some(*region) }),
             Test::Via(_) | Test::Tag(_) | Test::Never => return Ok(None),
         };
         let narrow = self.cut_to(region, field, side)?;
@@ -120,11 +148,17 @@ impl Policy {
         }))
     }
 
-    /// The region of a condition, as nearly as a region can tell.
-    fn hint_region(&mut self, cond: &Cond) -> Result<Option<Region>, Memory> {
-        let mut region = self.everything();
+    /// The region of the packets of a region for which a condition holds, as nearly as a region can tell: none where it can't, or
+    /// where there are none.
+    fn hint_region(
+        &mut self,
+        within: &Region,
+        cond: &Cond,
+        outward: bool,
+    ) -> Result<Option<Region>, Memory> {
+        let mut region = *within;
         for lit in cond.lits() {
-            match self.hint_within(&region, lit)? {
+            match self.hint_within(&region, lit, outward)? {
                 Some(narrow) => region = narrow,
                 None => return Ok(None),
             }
@@ -147,6 +181,20 @@ impl Policy {
         }
     }
 
+    /// Notes that a region comes to a place.
+    fn put_coming(
+        &mut self,
+        comings: &mut Vec<Option<Region>>,
+        place: usize,
+        region: Region,
+    ) -> Result<(), Memory> {
+        let all = self.hull(coming_at(comings, place), Some(region))?;
+        if let Some(slot) = comings.get_mut(place) {
+            *slot = all;
+        }
+        Ok(())
+    }
+
     /// Appends the rules of parts of a source that accept or drop: where that is asked those for new packets alone, which don't
     /// ask for the class then.
     pub fn put_hints(
@@ -156,35 +204,114 @@ impl Policy {
         parts: &[Part],
         only_new: bool,
     ) -> Result<(), Memory> {
-        let code = flat.code.as_slice();
+        let within = self.everything();
+        self.put_hints_within(hints, flat, parts, only_new, &within)
+    }
+
+    /// As `put_hints`, of rules that speak of points of a region.
+    fn put_hints_within(
+        &mut self,
+        hints: &mut Vec<Rule>,
+        flat: &Flat,
+        parts: &[Part],
+        only_new: bool,
+        within: &Region,
+    ) -> Result<(), Memory> {
         for part in parts {
-            for at in part.first..part.past {
-                let Some(instruction) = code.get(at as usize) else {
-                    break;
-                };
-                if hints.len() >= MOST_HINTS {
-                    return Ok(());
-                }
-                if let Some(colour) = colour_by(instruction.act) {
-                    self.put_hint(hints, &instruction.cond, colour, only_new)?;
-                }
-            }
+            let wanted = Wanted {
+                within: *within,
+                only_new,
+                outward: part.outward,
+            };
+            self.put_part(hints, flat.code.as_slice(), *part, &wanted)?;
         }
         Ok(())
     }
 
-    /// Appends a rule with this condition, as `put_hints` does.
+    /// Appends the rules of a part: those that decide at once, in their order, and behind them those that hold a verdict, of which
+    /// the last one counts.
+    fn put_part(
+        &mut self,
+        hints: &mut Vec<Rule>,
+        code: &[Ins],
+        part: Part,
+        wanted: &Wanted,
+    ) -> Result<(), Memory> {
+        let mut reading = Reading {
+            now: Some(wanted.within),
+            held: Vec::new(self.alloc),
+            comings: Vec::new(self.alloc),
+        };
+        let past = part.past.min(part.first.saturating_add(MOST_READ));
+        for _ in part.first..past {
+            reading.comings.push(None)?;
+        }
+        for at in part.first..past {
+            if let Some(instruction) = code.get(at as usize) {
+                let place = at.saturating_sub(part.first) as usize;
+                reading.now = self.hull(reading.now, coming_at(&reading.comings, place))?;
+                self.put_instruction(hints, &mut reading, instruction, part.first, wanted)?;
+            }
+        }
+        let Reading {
+            now: _,
+            held,
+            comings,
+        } = reading;
+        drop(comings);
+        for rule in held.iter().rev() {
+            hints.push(*rule)?;
+        }
+        Ok(())
+    }
+
+    /// Appends what an instruction says of the packets that come to it, where the part has its first one at `first`.
+    fn put_instruction(
+        &mut self,
+        hints: &mut Vec<Rule>,
+        reading: &mut Reading,
+        instruction: &Ins,
+        first: u32,
+        wanted: &Wanted,
+    ) -> Result<(), Memory> {
+        let Some(within) = reading.now else {
+            return Ok(());
+        };
+        let cond = &instruction.cond;
+        let Some(region) = self.hint_region(&within, cond, wanted.outward)? else {
+            return Ok(());
+        };
+        match instruction.act {
+            FlatAct::Accept => self.put_hint(hints, region, ACCEPT, wanted)?,
+            FlatAct::Drop => self.put_hint(hints, region, DROP, wanted)?,
+            FlatAct::Hold(passes) => {
+                let colour = if passes { ACCEPT } else { DROP };
+                return self.put_hint(&mut reading.held, region, colour, wanted);
+            }
+            FlatAct::Jump(to) => {
+                let place = to.saturating_sub(first) as usize;
+                self.put_coming(&mut reading.comings, place, region)?;
+            }
+            _ => return Ok(()),
+        }
+        if cond.lits().is_empty() {
+            reading.now = None;
+        }
+        Ok(())
+    }
+
+    /// Appends a rule, if it is wanted and there aren't too many.
     fn put_hint(
         &mut self,
         hints: &mut Vec<Rule>,
-        cond: &Cond,
+        region: Region,
         colour: u32,
-        only_new: bool,
+        wanted: &Wanted,
     ) -> Result<(), Memory> {
-        let Some(region) = self.hint_region(cond)? else {
+        if hints.len() >= MOST_HINTS {
             return Ok(());
-        };
-        if !only_new {
+        }
+        if !wanted.only_new {
             hints.push(Rule { region, colour })?;
             return Ok(());
         }
@@ -192,5 +319,49 @@ impl Policy {
             hints.push(Rule { region, colour })?;
         }
         Ok(())
+    }
+
+    /// Notes the source's rules for new packets: searches begin with them.
+    pub fn note_hints(&mut self, flat: &Flat) -> Result<(), Memory> {
+        let mut coming = Vec::new(self.alloc);
+        self.put_hints(&mut coming, flat, flat.arrive.as_slice(), true)?;
+        let delivered = self.everything().with(DST, self.local);
+        self.put_hints_within(&mut coming, flat, flat.deliver.as_slice(), true, &delivered)?;
+        let foreign = self.foreign()?;
+        let forwarded = self.everything().with(DST, foreign);
+        self.put_hints_within(&mut coming, flat, flat.forward.as_slice(), true, &forwarded)?;
+        self.coming = coming;
+        let mut sending = Vec::new(self.alloc);
+        self.put_hints(&mut sending, flat, flat.send.as_slice(), true)?;
+        self.sending = sending;
+        Ok(())
+    }
+
+    /// The source's rules for new packets that come in.
+    pub fn coming_hints(&self) -> Result<Vec<Rule>, Memory> {
+        Ok(Vec::from_slice(self.alloc, &self.coming)?)
+    }
+
+    /// The source's rules for new packets of the host's own.
+    pub fn sending_hints(&self) -> Result<Vec<Rule>, Memory> {
+        Ok(Vec::from_slice(self.alloc, &self.sending)?)
+    }
+
+    /// The source's rules for new packets that come in from some entries, which aren't asked then.
+    pub fn hints_from(&mut self, entries: Side) -> Result<Vec<Rule>, Memory> {
+        let mut hints = Vec::new(self.alloc);
+        let full = self.space.full(ENTRY);
+        for place in 0..self.coming.len() {
+            let Some(rule) = self.coming.get(place).copied() else {
+                break;
+            };
+            if self.space.meets(rule.region.side(ENTRY), entries)? {
+                hints.push(Rule {
+                    region: rule.region.with(ENTRY, full),
+                    colour: rule.colour,
+                })?;
+            }
+        }
+        Ok(hints)
     }
 }

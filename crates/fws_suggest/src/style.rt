@@ -1,14 +1,11 @@
 //! How the texts of the four systems write sides.
 
 use crate::cubes::{FlagCube, put_cubes};
-use crate::fields::{DPORT, DST, FLAGS, ICMP, PROTO, SPORT};
 use crate::forms::Measure;
-use crate::memo::Pairs;
-use crate::region::Region;
 use crate::settings::Settings;
-use crate::sides::Side;
-use crate::space::Space;
-use crate::words::{Lists, word_at};
+use fws_diagram::{
+    DPORT, DST, FLAGS, ICMP, Lists, PROTO, Pairs, Region, SPORT, Side, Space, word_at,
+};
 use fws_iv::Iv;
 use fws_num::Memory;
 use std::alloc::Global;

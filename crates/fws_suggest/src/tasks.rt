@@ -1,18 +1,14 @@
 //! What lists are sought for.
 
 use crate::problems::{ACCEPT, DROP, Policy};
-use crate::region::List;
+use crate::rules::List;
 use crate::solving::{Colour, Task, solve};
-use crate::space::Diagram;
-use crate::stop::Stop;
 use crate::style::Style;
 use crate::tidying::tidied;
+use fws_diagram::{Diagram, Stop};
 use fws_net::End;
 use fws_num::Memory;
 use std::alloc::Global;
-
-/// How many steps the search for one list may take.
-const STEPS: u64 = 60_000_000;
 
 /// A colour that costs nothing besides.
 pub fn plain_colour(number: u32) -> Colour {
@@ -43,15 +39,14 @@ pub fn task_for(
         colours,
         defaults: Vec::from_slice(alloc, defaults)?,
         hints: Vec::new(alloc),
-        unhinted: Vec::new(alloc),
-        budget: STEPS,
     })
 }
 
 /// The list that is found, in an order in which a reader would look for its rules. It gives up where none is.
 pub fn solved(policy: &mut Policy, style: &mut Style, task: &Task) -> Result<List, Stop> {
     let alloc = policy.alloc;
-    let Some(list) = solve(alloc, &mut policy.space, style, task)? else {
+    let budget = policy.steps_for_list();
+    let Some(list) = solve(alloc, &mut policy.space, style, task, budget)? else {
         return Err(Stop::Late);
     };
     let rules = tidied(alloc, &policy.space, &list.rules)?;

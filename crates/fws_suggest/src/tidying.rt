@@ -1,8 +1,7 @@
 //! Rules in an order in which a reader would look for them.
 
-use crate::fields::{ENTRY, FIELDS, STATE};
-use crate::region::Rule;
-use crate::space::Space;
+use crate::rules::Rule;
+use fws_diagram::{ENTRY, FIELDS, STATE, Space};
 use fws_num::Memory;
 use std::alloc::Global;
 
@@ -20,7 +19,7 @@ struct Order {
 /// By what a rule is ordered.
 fn order_of(space: &Space, rule: &Rule) -> Order {
     let state = rule.region.side(STATE);
-    let is_established = state != space.full(STATE) && !space.sides.covers(state, 0, 1);
+    let is_established = state != space.full(STATE) && !space.covers(state, 0, 1);
     let mut tests = 0u32;
     for field in 0..FIELDS {
         if rule.region.side(field) != space.full(field) {
@@ -31,7 +30,7 @@ fn order_of(space: &Space, rule: &Rule) -> Order {
     let first = if entry == space.full(ENTRY) {
         0
     } else {
-        match space.sides.bounds(entry).first() {
+        match space.bounds(entry).first() {
             Some(from) => from.saturating_add(1),
             None => 0,
         }

@@ -1,13 +1,10 @@
 //! A rule as wide as what is allowed lets it be.
 
-use crate::fields::PROTO;
 use crate::forms::{Sought, cost_of};
 use crate::plan::{ORDERS, bonus};
-use crate::region::Region;
 use crate::solving::{Colour, Task};
-use crate::space::{Diagram, Space};
-use crate::stop::Stop;
 use crate::style::Style;
+use fws_diagram::{Diagram, Mask, PROTO, Region, Side, Space, Stop};
 
 /// A rule that was found: where it decides, what it costs, and how many paths it decides.
 #[derive(Clone, Copy)]
@@ -80,8 +77,8 @@ fn within_protocols(
     style: &mut Style,
     wish: &Wish,
     region: &Region,
-    most: crate::sides::Side,
-) -> Result<crate::sides::Side, Stop> {
+    most: Side,
+) -> Result<Side, Stop> {
     let needed = style.protocols_for(space, region)?;
     let limit = match needed {
         Some(limit) => limit,
@@ -159,7 +156,7 @@ pub(crate) fn best_of_colours(
     style: &mut Style,
     task: &Task,
     wish: &Wish,
-    mask: crate::masks::Mask,
+    mask: Mask,
     region: &Region,
     orders: usize,
 ) -> Result<Option<(Found, Colour)>, Stop> {

@@ -1,4 +1,0 @@
-use Rattle.fws_suggest.proofs.space.Space.+allow_below.Given as goal
-
-abbrev pub decreases-allow_below : goal.decreases-allow_below
-decreases-allow_below l = l.left

@@ -1,4 +1,0 @@
-use Rattle.fws_suggest.proofs.space.Space.+allowed_below.Given as goal
-
-abbrev pub decreases-allowed_below : goal.decreases-allowed_below
-decreases-allowed_below l = l.left

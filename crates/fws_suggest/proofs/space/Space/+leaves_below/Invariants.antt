@@ -1,4 +1,0 @@
-use Rattle.fws_suggest.proofs.space.Space.+leaves_below.Given as goal
-
-abbrev pub decreases-leaves_below : goal.decreases-leaves_below
-decreases-leaves_below l = l.left

@@ -1,4 +1,0 @@
-use Rattle.fws_suggest.proofs.space.Space.+met_below.Given as goal
-
-abbrev pub decreases-met_below : goal.decreases-met_below
-decreases-met_below l = l.left

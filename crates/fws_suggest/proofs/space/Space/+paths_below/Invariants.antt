@@ -1,4 +1,0 @@
-use Rattle.fws_suggest.proofs.space.Space.+paths_below.Given as goal
-
-abbrev pub decreases-paths_below : goal.decreases-paths_below
-decreases-paths_below l = l.left

@@ -1,4 +1,0 @@
-use Rattle.fws_suggest.proofs.space.Space.+relabelled_below.Given as goal
-
-abbrev pub decreases-relabelled_below : goal.decreases-relabelled_below
-decreases-relabelled_below l = l.left

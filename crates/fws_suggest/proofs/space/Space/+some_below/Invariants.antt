@@ -1,4 +1,0 @@
-use Rattle.fws_suggest.proofs.space.Space.+some_below.Given as goal
-
-abbrev pub decreases-some_below : goal.decreases-some_below
-decreases-some_below l = l.left
