@@ -64,6 +64,24 @@ fn without(policy: &mut Policy, diagram: Diagram, rules: &[Rule]) -> Result<Diag
     policy.space.met(diagram, passes, Meeting::Either)
 }
 
+/// What may become of packets as they come in, where anything may of those that are forwarded and dropped by these rules as they leave.
+pub(crate) fn unless_dropped_later(
+    policy: &mut Policy,
+    diagram: Diagram,
+    rules: &[Rule],
+) -> Result<Diagram, Stop> {
+    if !policy.forwarding || rules.is_empty() {
+        return Ok(diagram);
+    }
+    let painted = policy.painted(rules, ACCEPT)?;
+    let drops = policy.where_it_is(painted, ACCEPT)?;
+    let departures = policy.departures();
+    let delivered = policy.everything().with(DST, policy.local);
+    let drops = policy.space.put(drops, &departures, Mask::NONE)?;
+    let drops = policy.space.put(drops, &delivered, Mask::NONE)?;
+    policy.space.met(diagram, drops, Meeting::Either)
+}
+
 /// Leaves new packets that rules for packets that come in drop out of what follows.
 fn leave_out(policy: &mut Policy, rules: &[Rule]) -> Result<(), Stop> {
     let arriving = policy.arriving;

@@ -9,6 +9,7 @@ use crate::writer::Writer;
 use fws_net::End;
 use fws_num::{Memory, Text, put_dec, put_quad};
 use fws_suggest::{DST, ENTRY, Exit, PROTO, Policy, Rule, Stop};
+use std::alloc::Global;
 
 /// The number that stands for all protocols.
 const ANY_PROTOCOL: u32 = 256;
@@ -114,50 +115,86 @@ fn put_protocol_or_all(out: &mut Text, protocol: u32) -> Result<(), Memory> {
     put_protocol(out, protocol)
 }
 
-/// Appends an end from which answers come.
-fn put_sender(out: &mut Text, end: End) -> Result<(), Memory> {
-    put_quad(out, end.addr)?;
+/// The rule by which answers are translated back where they leave.
+#[derive(Drop)]
+struct Back {
+    /// The instance's number.
+    number: u32,
+    /// The interface where they come in.
+    inner: u32,
+    /// The interface where they leave.
+    outer: u32,
+    /// Their protocol, or all.
+    protocol: u32,
+    /// The addresses that they come from, and a port behind a blank where they come from one alone.
+    senders: Text,
+}
+
+/// An end from which answers come.
+fn sender_of(alloc: Global, end: End) -> Result<Text, Memory> {
+    let mut out = Text::new(alloc);
+    put_quad(&mut out, end.addr)?;
     if let Some(port) = end.port {
         out.put(b" ")?;
-        put_dec(out, u64::from(port))?;
+        put_dec(&mut out, u64::from(port))?;
     }
+    Ok(out)
+}
+
+/// Puts a rule behind others, or adds its sender to one that asks for the same else. No rule for all protocols asks for a port.
+fn put_back(backs: &mut Vec<Back>, back: Back) -> Result<(), Memory> {
+    for other in backs.iter_mut() {
+        let is_alike = other.number == back.number
+            && other.inner == back.inner
+            && other.outer == back.outer
+            && other.protocol == ANY_PROTOCOL
+            && back.protocol == ANY_PROTOCOL;
+        if is_alike {
+            other.senders.put(b",")?;
+            return other.senders.put(back.senders.as_slice());
+        }
+    }
+    backs.push(back)?;
     Ok(())
 }
 
-/// The rule by which answers of a protocol are translated back, where they leave by an interface.
-fn reply_text(writer: &Writer, reply: Reply, protocol: u32, outer: u32) -> Result<Text, Memory> {
-    let mut text = nat(writer.alloc, reply.number)?;
+/// The text of a rule by which answers are translated back.
+fn back_text(writer: &Writer, back: &Back) -> Result<Text, Memory> {
+    let mut text = nat(writer.alloc, back.number)?;
     text.put(b" ")?;
-    put_protocol_or_all(&mut text, protocol)?;
+    put_protocol_or_all(&mut text, back.protocol)?;
     text.put(b" from ")?;
-    put_sender(&mut text, reply.end)?;
+    text.put(back.senders.as_slice())?;
     text.put(b" to any out ")?;
-    writer.put_option(&mut text, b"recv", reply.inner)?;
+    writer.put_option(&mut text, b"recv", back.inner)?;
     text.put(b" ")?;
-    writer.put_option(&mut text, b"xmit", outer)?;
+    writer.put_option(&mut text, b"xmit", back.outer)?;
     text.put(b" not tagged 1")?;
     Ok(text)
 }
 
-/// Appends the rules by which answers of a protocol are translated back, where they leave; whether there are some.
+/// Puts the rules by which answers of a protocol are translated back, where they leave.
 fn put_reply(
-    script: &mut Script,
-    writer: &Writer,
+    backs: &mut Vec<Back>,
     policy: &mut Policy,
     home: &Home,
     reply: Reply,
     protocol: u32,
-) -> Result<bool, Stop> {
+) -> Result<(), Stop> {
     let entries = policy.space.values(ENTRY, home.entries)?;
-    let mut has_some = false;
     for outer in 2..policy.entries {
         if outer != reply.inner && entries.has(outer) {
-            let text = reply_text(writer, reply, protocol, outer)?;
-            script.put(text.as_slice())?;
-            has_some = true;
+            let back = Back {
+                number: reply.number,
+                inner: reply.inner,
+                outer,
+                protocol,
+                senders: sender_of(policy.alloc, reply.end)?,
+            };
+            put_back(backs, back)?;
         }
     }
-    Ok(has_some)
+    Ok(())
 }
 
 /// Whether answers of a protocol, or of all, come from an end.
@@ -169,31 +206,38 @@ fn answers_by(policy: &Policy, home: &Home, end: End, protocol: u32) -> Result<b
     Ok(protocol != ANY_PROTOCOL && protocols.has(protocol))
 }
 
-/// Appends the rules by which answers from an end to which packets were redirected are translated back, where they leave; whether
-/// there are some.
+/// Puts the rules by which answers from an end to which packets were redirected are translated back, where they leave.
 fn put_replies_from(
-    script: &mut Script,
-    writer: &Writer,
+    backs: &mut Vec<Back>,
     policy: &mut Policy,
     home: &Home,
     end: End,
-) -> Result<bool, Stop> {
+) -> Result<(), Stop> {
     let Some(inner) = way_to(policy, end)? else {
-        return Ok(false);
+        return Ok(());
     };
     let reply = Reply {
         number: colour_of(home.instance).saturating_add(1),
         end,
         inner,
     };
-    let mut has_some = false;
     for protocol in [6u32, 17, ANY_PROTOCOL] {
         if answers_by(policy, home, end, protocol)? {
-            let puts_some = put_reply(script, writer, policy, home, reply, protocol)?;
-            has_some = has_some || puts_some;
+            put_reply(backs, policy, home, reply, protocol)?;
         }
     }
-    Ok(has_some)
+    Ok(())
+}
+
+/// The rules by which answers to redirected packets are translated back.
+fn backs_of(policy: &mut Policy, found: &Instances) -> Result<Vec<Back>, Stop> {
+    let mut backs = Vec::new(policy.alloc);
+    for home in &found.homes {
+        if let Some(Some(end)) = policy.destinations.get(home.place).copied() {
+            put_replies_from(&mut backs, policy, home, end)?;
+        }
+    }
+    Ok(backs)
 }
 
 /// Appends the rules by which answers to redirected packets are translated back; whether there are some.
@@ -203,12 +247,10 @@ pub(crate) fn put_replies(
     policy: &mut Policy,
     found: &Instances,
 ) -> Result<bool, Stop> {
-    let mut has_some = false;
-    for home in &found.homes {
-        if let Some(Some(end)) = policy.destinations.get(home.place).copied() {
-            let puts_some = put_replies_from(script, writer, policy, home, end)?;
-            has_some = has_some || puts_some;
-        }
+    let backs = backs_of(policy, found)?;
+    for back in &backs {
+        let text = back_text(writer, back)?;
+        script.put(text.as_slice())?;
     }
-    Ok(has_some)
+    Ok(!backs.is_empty())
 }

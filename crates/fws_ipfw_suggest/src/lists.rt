@@ -6,7 +6,7 @@ use fws_num::{Memory, Text, put_dec};
 use fws_suggest::{ACCEPT, DROP, ENTRY, List, Phrases, Policy, Rule, Stop, Style};
 use std::alloc::Global;
 
-/// Appends what is put ahead of `check-state`.
+/// Appends what is put ahead of `check-state`. What isn't dropped goes on at the mark.
 pub(crate) fn put_ahead(
     script: &mut Script,
     writer: &Writer,
@@ -14,13 +14,14 @@ pub(crate) fn put_ahead(
     style: &mut Style,
     rules: &[Rule],
     way: Way,
+    mark: Mark,
 ) -> Result<(), Stop> {
     for rule in rules {
         let body = writer.body(policy, style, &rule.region, way)?;
         if rule.colour == DROP {
             script.put_all(b"deny", &body, b"")?;
         } else {
-            script.put_skips(Mark::Check, &body)?;
+            script.put_skips(mark, &body)?;
         }
     }
     Ok(())

@@ -7,8 +7,7 @@ use std::alloc::Global;
 /// How many numbers rules have.
 const MOST_RULES: usize = 60000;
 
-/// A rule without its number: what stands ahead of where it goes on, and whether it goes on at `check-state` or at the end of the
-/// rules that translate packets that come in.
+/// A rule without its number: what stands ahead of where it goes on, and at which place it goes on, if it does.
 #[derive(Drop)]
 struct Line {
     action: Text,
@@ -21,6 +20,10 @@ struct Line {
 pub(crate) enum Mark {
     /// The rule `check-state`.
     Check,
+    /// The first rule behind the list of what is dropped as packets come in.
+    Listed,
+    /// The first rule behind the list of what is dropped as packets leave.
+    Left,
     /// The first rule behind those that translate packets that come in.
     Translated,
 }
@@ -35,6 +38,8 @@ pub(crate) struct Script {
     pub(crate) numbers: usize,
     lines: Vec<Line>,
     check: usize,
+    listed: usize,
+    left: usize,
     translated: usize,
 }
 
@@ -70,6 +75,8 @@ impl Script {
             numbers: 0,
             lines: Vec::new(alloc),
             check: 0,
+            listed: 0,
+            left: 0,
             translated: 0,
         }
     }
@@ -123,6 +130,16 @@ impl Script {
         Ok(())
     }
 
+    /// Says that the next rule is the first behind the list of what is dropped as packets come in.
+    pub(crate) fn end_list(&mut self) {
+        self.listed = self.lines.len();
+    }
+
+    /// Says that the next rule is the first behind the list of what is dropped as packets leave.
+    pub(crate) fn end_leaving_list(&mut self) {
+        self.left = self.lines.len();
+    }
+
     /// Says that the next rule is the first behind those that translate what comes in.
     pub(crate) fn end_translations(&mut self) {
         self.translated = self.lines.len();
@@ -148,6 +165,8 @@ impl Script {
     /// The place at which a rule goes on.
     fn place_of(&self, mark: Option<Mark>) -> usize {
         match mark {
+            Some(Mark::Listed) => self.listed,
+            Some(Mark::Left) => self.left,
             Some(Mark::Translated) => self.translated,
             _ => self.check,
         }

@@ -153,9 +153,15 @@ fn put_texts(
     if !site.one_pass && united.is_none() {
         put_found(texts, found(alloc, tables, site, hints, Form::Working)?)?;
     }
+    if count_of(&united) > MANY {
+        return put_found(texts, united);
+    }
     let tight = found(alloc, tables, site, hints, Form::Tight)?;
     put_shorter_first(texts, united, tight)
 }
+
+/// With so many lines one list for both directions is enough.
+const MANY: usize = 100;
 
 /// Texts of ipfw that may do what the tables say, best first: none where the search gave up. Nothing is promised of them. An
 /// error is want of memory.

@@ -1,11 +1,11 @@
 //! Lists in which a rule that translates ends the pass.
 
-use crate::ahead::{ahead, leaving_ahead};
+use crate::ahead::{ahead, leaving_ahead, unless_dropped_later};
 use crate::diagrams::colour_of;
 use crate::ends::{by_destination, images};
 use crate::instances::{Instances, by_instances, instances_of, put_instances};
 use crate::lists::{asks_host, put_ahead, put_list, put_rules};
-use crate::script::Script;
+use crate::script::{Mark, Script};
 use crate::sending::put_sources;
 use crate::writer::{Way, Writer};
 use fws_net::{Outcome, Site};
@@ -16,12 +16,11 @@ use fws_suggest::{
 };
 use std::alloc::Global;
 
-/// What is put for packets that come in.
+/// What is put for packets that come in, but for their list.
 #[derive(Drop)]
 struct Incoming {
     before: Vec<Rule>,
     found: Instances,
-    list: List,
 }
 
 /// What is put for packets that leave.
@@ -139,26 +138,26 @@ fn leaving_list(policy: &mut Policy, style: &mut Style, diagram: Diagram) -> Res
     solved(policy, style, &task)
 }
 
-/// The list for packets that come in, by the instances that are found.
-fn list_by(policy: &mut Policy, style: &mut Style, found: &Instances) -> Result<List, Stop> {
-    let diagram = coming(policy, found)?;
+/// The list for packets that come in, by the instances that are found, where these rules drop packets as they leave.
+fn list_by(
+    policy: &mut Policy,
+    style: &mut Style,
+    found: &Instances,
+    leaving: &[Rule],
+) -> Result<List, Stop> {
+    let mut diagram = coming(policy, found)?;
+    if policy.destinations.len() == 1 {
+        // what leaves has the destination that it came with
+        diagram = unless_dropped_later(policy, diagram, leaving)?;
+    }
     coming_list(policy, style, found.maps.len(), diagram)
 }
 
-/// What is put for packets that come in.
-fn coming_plan(
-    policy: &mut Policy,
-    style: &mut Style,
-    established: Established,
-) -> Result<Incoming, Stop> {
+/// What is put for packets that come in, but for their list.
+fn coming_plan(policy: &mut Policy, established: Established) -> Result<Incoming, Stop> {
     let before = ahead(policy, established.ahead)?;
     let found = instances_of(policy)?;
-    let list = list_by(policy, style, &found)?;
-    Ok(Incoming {
-        before,
-        found,
-        list,
-    })
+    Ok(Incoming { before, found })
 }
 
 /// What is put for packets that leave. It gives up where two that must fare differently have become one.
@@ -205,17 +204,18 @@ fn put_lists(
     inward: &mut Style,
     outward: &mut Style,
     coming: &Incoming,
+    list: &List,
     going: &Outgoing,
 ) -> Result<(), Stop> {
     script.put_check()?;
     let passes_out = going.list.default == ACCEPT && going.list.rules.is_empty();
-    if passes_out && coming.list.default == ACCEPT {
-        let rules = &coming.list.rules;
+    if passes_out && list.default == ACCEPT {
+        let rules = &list.rules;
         put_rules(script, writer, policy, inward, rules, Way::Coming, 0)?;
         script.put(b"allow ip from any to any keep-state")?;
         return Ok(());
     }
-    put_list(script, writer, policy, inward, &coming.list, Way::Coming, 0)?;
+    put_list(script, writer, policy, inward, list, Way::Coming, 0)?;
     let more = colour_of(coming.found.configs.len());
     put_list(
         script,
@@ -237,12 +237,32 @@ fn put_both(
     outward: &mut Style,
     established: Established,
 ) -> Result<(), Stop> {
-    let coming = coming_plan(policy, inward, established)?;
+    let coming = coming_plan(policy, established)?;
     let going = going_plan(policy, outward, established)?;
+    let list = list_by(policy, inward, &coming.found, &going.before)?;
     put_start(script, writer, policy, &coming, &going)?;
-    put_ahead(script, writer, policy, inward, &coming.before, Way::Coming)?;
-    put_ahead(script, writer, policy, outward, &going.before, Way::Leaving)?;
-    put_lists(script, writer, policy, inward, outward, &coming, &going)
+    let (arriving, leaving) = (&coming.before, &going.before);
+    put_ahead(
+        script,
+        writer,
+        policy,
+        inward,
+        arriving,
+        Way::Coming,
+        Mark::Check,
+    )?;
+    put_ahead(
+        script,
+        writer,
+        policy,
+        outward,
+        leaving,
+        Way::Leaving,
+        Mark::Check,
+    )?;
+    put_lists(
+        script, writer, policy, inward, outward, &coming, &list, &going,
+    )
 }
 
 /// Appends lists for both directions, by the way to write what comes in.

@@ -5,8 +5,8 @@ use crate::ends::images;
 use crate::instances::{Instances, by_instances, written_by};
 use fws_net::End;
 use fws_suggest::{
-    DPORT, DST, Diagram, List, Mask, Meeting, PROTO, Policy, Region, Rule, SRC, Side, Stop, Style,
-    end_colours, solved, task_for,
+    DPORT, DST, Diagram, FLAGS, ICMP, List, Mask, Meeting, PROTO, Policy, Reach, Region, Rule, SRC,
+    Side, Stop, Style, end_colours, solved, task_for,
 };
 
 /// Rules that translate, and what packets are behind them.
@@ -19,9 +19,9 @@ pub(crate) struct Translated {
 }
 
 /// Which instances may translate packets that come in: a colour is the place of one and one more, 0 for none.
-fn inward(policy: &mut Policy, found: &Instances, is_strict: bool) -> Result<Diagram, Stop> {
+fn inward(policy: &mut Policy, found: &Instances, reach: Reach) -> Result<Diagram, Stop> {
     let arriving = policy.arriving;
-    let allowed = policy.redirections(arriving, is_strict)?;
+    let allowed = policy.redirections(arriving, reach)?;
     let none = policy.space.only(0)?;
     let count = policy.destinations.len();
     let stays = parted(policy, allowed, none, Mask::NONE, count)?;
@@ -47,9 +47,9 @@ fn inward_rules(
     policy: &mut Policy,
     style: &mut Style,
     found: &Instances,
-    is_strict: bool,
+    reach: Reach,
 ) -> Result<Vec<Rule>, Stop> {
-    let diagram = inward(policy, found, is_strict)?;
+    let diagram = inward(policy, found, reach)?;
     match inward_list(policy, style, diagram, 1, found.maps.len()) {
         Ok(list) => return Ok(list.rules),
         Err(Stop::Memory) => return Err(Stop::Memory),
@@ -107,9 +107,9 @@ fn redirecting(
     policy: &mut Policy,
     style: &mut Style,
     found: &Instances,
-    is_strict: bool,
+    reach: Reach,
 ) -> Result<Vec<Rule>, Stop> {
-    let wide = inward_rules(policy, style, found, is_strict)?;
+    let wide = inward_rules(policy, style, found, reach)?;
     tightened(policy, found, &wide)
 }
 
@@ -136,10 +136,10 @@ fn redirected_so(
     style: &mut Style,
     found: &Instances,
     direct: Diagram,
-    is_strict: bool,
+    reach: Reach,
     is_tagged: bool,
 ) -> Result<Translated, Stop> {
-    let rules = redirecting(policy, style, found, is_strict)?;
+    let rules = redirecting(policy, style, found, reach)?;
     let behind = behind(policy, found, direct, &rules, is_tagged)?;
     Ok(Translated {
         rules,
@@ -162,8 +162,14 @@ pub(crate) fn redirected(
             is_tagged: false,
         });
     }
-    for (is_strict, is_tagged) in [(false, false), (false, true), (true, false)] {
-        let way = redirected_so(policy, style, found, direct, is_strict, is_tagged)?;
+    let ways = [
+        (Reach::Wide, false),
+        (Reach::Near, false),
+        (Reach::Near, true),
+        (Reach::Strict, false),
+    ];
+    for (reach, is_tagged) in ways {
+        let way = redirected_so(policy, style, found, direct, reach, is_tagged)?;
         if !policy.fails(way.behind)? {
             return Ok(way);
         }
@@ -246,6 +252,13 @@ fn sending_list(policy: &mut Policy, style: &mut Style, diagram: Diagram) -> Res
     solved(policy, style, &task)
 }
 
+/// A diagram that doesn't ask for flags and ICMP types where that may be: later packets of a connection have other ones.
+fn without_details(policy: &mut Policy, diagram: Diagram) -> Result<Diagram, Stop> {
+    let flat = policy.space.project(diagram, FLAGS, Meeting::Both)?;
+    let flat = policy.space.project(flat, ICMP, Meeting::Both)?;
+    Ok(if policy.fails(flat)? { diagram } else { flat })
+}
+
 /// How sources are translated, in a way.
 fn sent_so(
     policy: &mut Policy,
@@ -255,6 +268,7 @@ fn sent_so(
     is_strict: bool,
 ) -> Result<Translated, Stop> {
     let diagram = sendings(policy, behind, own, is_strict)?;
+    let diagram = without_details(policy, diagram)?;
     let list = sending_list(policy, style, diagram)?;
     let seen = seen_leaving(policy, own, &list.rules)?;
     Ok(Translated {

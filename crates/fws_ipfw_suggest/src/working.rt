@@ -1,7 +1,7 @@
 //! Translations ahead of `check-state`, and filters behind it: packets are translated and translated back before a connection is
 //! looked up.
 
-use crate::ahead::{ahead, leaving_ahead};
+use crate::ahead::{ahead, leaving_ahead, unless_dropped_later};
 use crate::answers::{put_answers, put_replies};
 use crate::diagrams::colour_of;
 use crate::instances::{Instances, instances_of, put_instances};
@@ -13,8 +13,8 @@ use crate::writer::{Way, Writer};
 use fws_net::Site;
 use fws_num::{Memory, Text};
 use fws_suggest::{
-    ACCEPT, DROP, DST, Diagram, Established, List, Phrases, Policy, Rule, Settings, Stop, Style,
-    solved, verdict_task,
+    ACCEPT, DROP, DST, Diagram, ENTRY, Established, List, Meeting, Phrases, Policy, Rule, Settings,
+    Stop, Style, solved, verdict_task,
 };
 use std::alloc::Global;
 
@@ -31,6 +31,8 @@ struct Incoming {
 struct Outgoing {
     before: Vec<Rule>,
     translated: Translated,
+    /// Whether packets get the tag as they come in, whether they are new or established: what is asked ahead of `check-state` asks for it.
+    tags_all: bool,
 }
 
 /// What is put behind `check-state`.
@@ -39,6 +41,8 @@ struct Filters {
     inward: List,
     /// The list for the host's own packets; none where all of them pass.
     own: Option<List>,
+    /// Whether packets from loopback pass as they come in, and are asked as the host's own are.
+    passes_loopback: bool,
 }
 
 /// The action of a rule that translates by an instance, and may tag what it translates.
@@ -89,14 +93,27 @@ fn put_translations(
     Ok(())
 }
 
-/// The list for packets that come in, behind their translation.
-fn coming_list(policy: &mut Policy, style: &mut Style, behind: Diagram) -> Result<List, Stop> {
+/// The list for packets that come in, behind their translation, where these rules drop packets as they leave: but for those from loopback,
+/// where these are asked as they leave.
+fn coming_list(
+    policy: &mut Policy,
+    style: &mut Style,
+    behind: Diagram,
+    leaving: &[Rule],
+    passes_loopback: bool,
+) -> Result<List, Stop> {
     let mut region = policy.arrivals();
+    if passes_loopback {
+        let loopback = policy.space.range(ENTRY, 1, 1)?;
+        let others = policy.space.minus(policy.arriving, loopback)?;
+        region = region.with(ENTRY, others);
+    }
     if !policy.forwarding {
         region = region.with(DST, policy.local);
     }
     let verdict = policy.verdict(behind)?;
     let diagram = policy.space.keep(verdict, &region)?;
+    let diagram = unless_dropped_later(policy, diagram, leaving)?;
     let mut task = verdict_task(policy.alloc, diagram, &[DROP, ACCEPT])?;
     task.hints = policy.coming_hints()?;
     solved(policy, style, &task)
@@ -139,20 +156,58 @@ fn leaving(policy: &mut Policy, behind: Diagram) -> Result<Diagram, Stop> {
     policy.space.paint(behind, &delivered)
 }
 
-/// What is dropped of packets that leave, ahead of `check-state`. It gives up where that depends on where they come from.
+/// What is dropped of packets that leave, ahead of `check-state`. It gives up where that depends on where they come from and the tag is put
+/// on new packets alone.
 fn going_before(
     policy: &mut Policy,
     style: &mut Style,
     established: Option<Diagram>,
     behind: Diagram,
+    may_ask: bool,
 ) -> Result<Vec<Rule>, Stop> {
     let seen = leaving(policy, behind)?;
     let cut = leaving_ahead(policy, style, established, seen)?;
-    // here the tag is put on new packets alone
-    if asks_host(policy, &cut.rules) {
+    if !may_ask && asks_host(policy, &cut.rules) {
         return Err(Stop::Late);
     }
     Ok(cut.rules)
+}
+
+/// What is asked of the host's own packets, and where that is meant of those from loopback as of these.
+fn own_verdict(
+    policy: &mut Policy,
+    verdict: Diagram,
+    with_loopback: bool,
+) -> Result<Diagram, Stop> {
+    let departures = policy.departures();
+    let own = policy.space.keep(verdict, &departures)?;
+    if !with_loopback {
+        return Ok(own);
+    }
+    let foreign = policy.foreign()?;
+    let loopback = policy.space.range(ENTRY, 1, 1)?;
+    let passing = policy.everything().with(ENTRY, loopback).with(DST, foreign);
+    let through = policy.space.keep(verdict, &passing)?;
+    let both = policy.space.meet(own, through)?;
+    let all = policy.space.project(both, ENTRY, Meeting::Both)?;
+    policy.space.keep(all, &departures)
+}
+
+/// Whether packets from loopback pass as they come in and are asked where they leave, as the host's own are: where all pass that are
+/// delivered, and not all that are forwarded.
+fn may_pass_loopback(policy: &mut Policy, behind: Diagram) -> Result<bool, Stop> {
+    let verdict = policy.verdict(behind)?;
+    let loopback = policy.space.range(ENTRY, 1, 1)?;
+    let all = policy.everything().with(ENTRY, loopback);
+    let delivered = all.with(DST, policy.local);
+    if !policy.forwarding
+        || policy.space.is_allowed(verdict, &all, ACCEPT)?
+        || !policy.space.is_allowed(verdict, &delivered, ACCEPT)?
+    {
+        return Ok(false);
+    }
+    let own = own_verdict(policy, verdict, true)?;
+    Ok(!policy.fails(own)?)
 }
 
 /// How the sources of packets are translated.
@@ -160,10 +215,10 @@ fn going_translated(
     policy: &mut Policy,
     style: &mut Style,
     behind: Diagram,
+    passes_loopback: bool,
 ) -> Result<Translated, Stop> {
     let verdict = policy.verdict(behind)?;
-    let departures = policy.departures();
-    let own = policy.space.keep(verdict, &departures)?;
+    let own = own_verdict(policy, verdict, passes_loopback)?;
     sent(policy, style, behind, own)
 }
 
@@ -173,10 +228,17 @@ fn going_plan(
     style: &mut Style,
     established: Established,
     behind: Diagram,
+    passes_loopback: bool,
+    may_ask: bool,
 ) -> Result<Outgoing, Stop> {
-    let before = going_before(policy, style, established.behind, behind)?;
-    let translated = going_translated(policy, style, behind)?;
-    Ok(Outgoing { before, translated })
+    let before = going_before(policy, style, established.behind, behind, may_ask)?;
+    let translated = going_translated(policy, style, behind, passes_loopback)?;
+    let tags_all = may_ask && (asks_host(policy, &before) || asks_host(policy, &translated.rules));
+    Ok(Outgoing {
+        before,
+        translated,
+        tags_all,
+    })
 }
 
 /// What is put behind `check-state`.
@@ -185,11 +247,16 @@ fn filters_of(
     inward: &mut Style,
     outward: &mut Style,
     behind: Diagram,
-    seen: Diagram,
+    going: &Outgoing,
+    passes_loopback: bool,
 ) -> Result<Filters, Stop> {
-    let list = coming_list(policy, inward, behind)?;
-    let own = own_list(policy, outward, seen)?;
-    Ok(Filters { inward: list, own })
+    let list = coming_list(policy, inward, behind, &going.before, passes_loopback)?;
+    let own = own_list(policy, outward, going.translated.behind)?;
+    Ok(Filters {
+        inward: list,
+        own,
+        passes_loopback,
+    })
 }
 
 /// Appends what stands ahead of `check-state` for packets that come in.
@@ -205,7 +272,21 @@ fn put_coming(
     let redirecting = coming.found.configs.len();
     script.numbers = redirecting;
     put_sources(script, policy, writer.site, redirecting)?;
-    put_ahead(script, writer, policy, style, &coming.before, Way::Coming)?;
+    if going.tags_all {
+        script.put(TAGGING)?;
+    }
+    let before = &coming.before;
+    put_ahead(
+        script,
+        writer,
+        policy,
+        style,
+        before,
+        Way::Coming,
+        Mark::Listed,
+    )?;
+    // replies are translated back ahead of `check-state`
+    script.end_list();
     let translated = &coming.translated;
     put_translations(script, writer, policy, style, translated, Way::Coming, 0)?;
     let rules = &going.translated.rules;
@@ -223,7 +304,17 @@ fn put_going(
     found: &Instances,
     going: &Outgoing,
 ) -> Result<bool, Stop> {
-    put_ahead(script, writer, policy, style, &going.before, Way::Leaving)?;
+    let before = &going.before;
+    put_ahead(
+        script,
+        writer,
+        policy,
+        style,
+        before,
+        Way::Leaving,
+        Mark::Left,
+    )?;
+    script.end_leaving_list();
     let has_replies = put_replies(script, writer, policy, found)?;
     let translated = &going.translated;
     let more = colour_of(found.maps.len());
@@ -236,7 +327,7 @@ fn put_going(
         Way::Leaving,
         more,
     )?;
-    Ok(has_replies || asks_host(policy, &translated.rules))
+    Ok(!going.tags_all && (has_replies || asks_host(policy, &translated.rules)))
 }
 
 /// Appends the rules for the host's own packets, and for those that have passed as they came in.
@@ -253,6 +344,17 @@ fn put_own(
     put_list(script, writer, policy, style, list, Way::Leaving, 0)
 }
 
+/// Appends the rule that lets packets from loopback pass as they come in, ahead of a tag.
+fn put_loopback(script: &mut Script, writer: &Writer) -> Result<(), Memory> {
+    let mut passing = Text::of(writer.alloc, b"allow ip from any to any in ")?;
+    writer.put_option(&mut passing, b"recv", 1)?;
+    passing.put(b" keep-state")?;
+    script.put(passing.as_slice())
+}
+
+/// The rule that tags what comes in.
+const TAGGING: &[u8] = b"count tag 1 ip from any to any in";
+
 /// Appends what stands behind `check-state`, where something asks for the tag or nothing does.
 fn put_filters(
     script: &mut Script,
@@ -262,10 +364,14 @@ fn put_filters(
     outward: &mut Style,
     filters: &Filters,
     asks: bool,
+    are_tagged: bool,
 ) -> Result<(), Stop> {
     script.put_check()?;
-    if asks || filters.own.is_some() {
-        script.put(b"count tag 1 ip from any to any in")?;
+    if filters.passes_loopback {
+        put_loopback(script, writer)?;
+    }
+    if !are_tagged && (asks || filters.passes_loopback || filters.own.is_some()) {
+        script.put(TAGGING)?;
     }
     let list = &filters.inward;
     put_list(script, writer, policy, inward, list, Way::Coming, 0)?;
@@ -289,12 +395,28 @@ fn put_both(
 ) -> Result<(), Stop> {
     let coming = coming_plan(policy, inward, established)?;
     let behind = coming.translated.behind;
-    let going = going_plan(policy, outward, established, behind)?;
-    let seen = going.translated.behind;
-    let filters = filters_of(policy, inward, outward, behind, seen)?;
+    // answers from hosts to which packets are redirected are known by having no tag
+    let may_ask = coming.found.homes.is_empty();
+    let mut passes = may_pass_loopback(policy, behind)?;
+    let mut going = going_plan(policy, outward, established, behind, passes, may_ask)?;
+    if passes && (going.tags_all || asks_host(policy, &going.translated.rules)) {
+        // packets from loopback have no tag then
+        passes = false;
+        going = going_plan(policy, outward, established, behind, passes, may_ask)?;
+    }
+    let filters = filters_of(policy, inward, outward, behind, &going, passes)?;
     put_coming(script, writer, policy, inward, &coming, &going)?;
     let asks = put_going(script, writer, policy, outward, &coming.found, &going)?;
-    put_filters(script, writer, policy, inward, outward, &filters, asks)
+    put_filters(
+        script,
+        writer,
+        policy,
+        inward,
+        outward,
+        &filters,
+        asks,
+        going.tags_all,
+    )
 }
 
 /// Appends all rules, by the way to write what comes in.

@@ -1,6 +1,8 @@
 //! What stands in the chains of a suggestion.
 
+use fws_num::Memory;
 use fws_suggest::{Diagram, List, Marked, Rule};
+use std::alloc::Global;
 
 /// What is dropped ahead of translations.
 #[derive(Drop)]
@@ -43,6 +45,20 @@ pub(crate) struct Filtered {
     pub(crate) list: List,
 }
 
+impl Filtered {
+    /// The same chain.
+    pub(crate) fn copy(&self, alloc: Global) -> Result<Filtered, Memory> {
+        Ok(Filtered {
+            has_established: self.has_established,
+            list: List {
+                rules: Vec::from_slice(alloc, &self.list.rules)?,
+                default: self.list.default,
+                cost: self.list.cost,
+            },
+        })
+    }
+}
+
 /// How addresses are translated.
 #[derive(Drop)]
 pub(crate) struct Translations {
@@ -57,6 +73,12 @@ pub(crate) struct Translations {
 /// The chains of the table filter.
 #[derive(Drop)]
 pub(crate) struct Filters {
+    /// The rules that INPUT and FORWARD ask first, both in one chain; none where there is no such chain.
+    pub(crate) common: Vec<Rule>,
+    /// Whether a rule for established packets stands first in that chain.
+    pub(crate) has_established: bool,
+    /// Whether the rules of OUTPUT stand in a chain that FORWARD calls first, for what comes from loopback.
+    pub(crate) shares_output: bool,
     /// INPUT.
     pub(crate) input: Filtered,
     /// FORWARD.

@@ -43,6 +43,17 @@ fn met_at(policy: &mut Policy, hook: Hook) -> Result<(Region, Side), Memory> {
     })
 }
 
+/// The source's rules that decide what arrives, wherever it goes.
+pub(crate) fn hints_of_arriving(
+    policy: &mut Policy,
+    source: &Flat,
+    only_new: bool,
+) -> Result<Vec<Rule>, Memory> {
+    let mut hints = Vec::new(policy.alloc);
+    policy.put_hints(&mut hints, source, source.arrive.as_slice(), only_new)?;
+    Ok(hints)
+}
+
 /// The source's rules that decide what a chain meets, ahead of it too.
 fn hints_at(
     policy: &mut Policy,
@@ -63,17 +74,12 @@ fn hints_at(
     Ok(hints)
 }
 
-/// The list of a chain for what is met there.
-fn list_at(
-    policy: &mut Policy,
-    hook: Hook,
-    diagram: Diagram,
-    source: &Flat,
-    only_new: bool,
-) -> Result<List, Stop> {
-    let mut task = verdict_task(policy.alloc, diagram, &[DROP, ACCEPT])?;
-    task.hints = hints_at(policy, hook, source, only_new)?;
+/// The list of a chain for what is asked of it.
+fn list_at(policy: &mut Policy, hook: Hook, asked: Asked, source: &Flat) -> Result<List, Stop> {
+    let mut task = verdict_task(policy.alloc, asked.diagram, &[DROP, ACCEPT])?;
+    task.hints = hints_at(policy, hook, source, asked.only_new)?;
     let mut style = style_of(policy, hook)?;
+    style.settings.calls_chains = asked.calls_chains;
     solved(policy, &mut style, &task)
 }
 
@@ -87,6 +93,17 @@ fn closed(policy: &Policy) -> Filtered {
             cost: 0,
         },
     }
+}
+
+/// What a chain has to say.
+#[derive(Clone, Copy)]
+pub(crate) struct Asked {
+    /// What is allowed of what it meets.
+    pub(crate) diagram: Diagram,
+    /// Whether new packets alone are meant, since all established ones are accepted.
+    pub(crate) only_new: bool,
+    /// Whether rules count as if what takes several lines led to chains of its own.
+    pub(crate) calls_chains: bool,
 }
 
 /// What a chain has to say of packets of both states, where some established ones may not be accepted.
@@ -107,32 +124,56 @@ fn both_states(
     Ok(Some(policy.by_state(new, tracked)?))
 }
 
-/// The chain, by the verdict on new packets and on established ones.
-pub(crate) fn filtered(
+/// What a chain has to say, by the verdict on new packets and on established ones.
+pub(crate) fn asked_at(
     policy: &mut Policy,
     hook: Hook,
     fresh: Diagram,
     established: Option<Diagram>,
+    calls_chains: bool,
+) -> Result<Asked, Stop> {
+    let (region, _universe) = met_at(policy, hook)?;
+    let new = policy.space.keep(fresh, &region)?;
+    Ok(match both_states(policy, &region, new, established)? {
+        Some(diagram) => Asked {
+            diagram,
+            only_new: false,
+            calls_chains,
+        },
+        None => Asked {
+            diagram: new,
+            only_new: true,
+            calls_chains,
+        },
+    })
+}
+
+/// The chain that says what it has to.
+pub(crate) fn answered(
+    policy: &mut Policy,
+    hook: Hook,
+    asked: Asked,
+    source: &Flat,
+) -> Result<Filtered, Stop> {
+    let list = list_at(policy, hook, asked, source)?;
+    let drops = list.default == DROP || list.rules.iter().any(|rule| rule.colour == DROP);
+    Ok(Filtered {
+        has_established: asked.only_new && drops,
+        list,
+    })
+}
+
+/// The chain that says what it has to, where a chain that is never met drops everything.
+pub(crate) fn filtered(
+    policy: &mut Policy,
+    hook: Hook,
+    asked: Asked,
     source: &Flat,
 ) -> Result<Filtered, Stop> {
     if hook == Hook::Forward && !policy.forwarding {
         return Ok(closed(policy));
     }
-    let (region, _universe) = met_at(policy, hook)?;
-    let new = policy.space.keep(fresh, &region)?;
-    if let Some(both) = both_states(policy, &region, new, established)? {
-        let list = list_at(policy, hook, both, source, false)?;
-        return Ok(Filtered {
-            has_established: false,
-            list,
-        });
-    }
-    let list = list_at(policy, hook, new, source, true)?;
-    let drops = list.default == DROP || list.rules.iter().any(|rule| rule.colour == DROP);
-    Ok(Filtered {
-        has_established: drops,
-        list,
-    })
+    answered(policy, hook, asked, source)
 }
 
 /// How the chain's rules are written.

@@ -1,5 +1,6 @@
 //! The text of the tables mangle, nat and filter.
 
+use crate::chained::Sheet;
 use crate::chains::{Filtered, Filters, Redirected, Translations};
 use crate::filter::{Hook, style_of};
 use crate::options::words;
@@ -8,9 +9,7 @@ use crate::text::{Lines, end_target, mark_target, put_chain, put_line};
 use crate::translation::nat_settings;
 use fws_net::End;
 use fws_num::{Memory, Text};
-use fws_suggest::{
-    ACCEPT, DROP, DST, ENTRY, Marked, Phrases, Policy, Rule, Settings, Side, Stop, Style,
-};
+use fws_suggest::{DROP, DST, ENTRY, Marked, Phrases, Policy, Rule, Settings, Side, Stop, Style};
 
 /// The end at a place of a list.
 fn end_at(ends: &[Option<End>], place: u32) -> Option<End> {
@@ -75,62 +74,45 @@ fn put_redirected_marks(
     Ok(())
 }
 
-/// Appends rules that drop or accept.
-fn put_verdicts(
-    writer: &Writer,
-    policy: &mut Policy,
-    style: &mut Style,
-    lines: &mut Lines,
-    chain: &[u8],
-    rules: &[Rule],
-) -> Result<(), Stop> {
-    for rule in rules {
-        let tests = writer.tests(policy, style, &rule.region)?;
-        let target: &[u8] = if rule.colour == ACCEPT {
-            b"ACCEPT"
-        } else {
-            b"DROP"
-        };
-        lines.put(chain, &tests, target)?;
-    }
-    Ok(())
-}
-
 /// Appends the rules of the table mangle, written in this way.
 fn put_mangle_rules(
     writer: &Writer,
     policy: &mut Policy,
     style: &mut Style,
-    lines: &mut Lines,
+    sheet: &mut Sheet,
     translations: &Translations,
 ) -> Result<(), Stop> {
     let drops = translations.before.rules.as_slice();
     let redirected = &translations.redirected;
-    put_entry_marks(writer, policy, style, lines, &translations.sent.marks)?;
+    let mut lines = Lines::new(writer.alloc);
+    put_entry_marks(writer, policy, style, &mut lines, &translations.sent.marks)?;
     if redirected.is_tagged {
         let drops_behind = !drops.is_empty();
         put_redirected_marks(
             writer,
             policy,
             style,
-            lines,
+            &mut lines,
             &redirected.arriving,
             drops_behind,
         )?;
     }
-    put_verdicts(writer, policy, style, lines, b"PREROUTING", drops)
+    sheet.put_rules(writer, policy, style, &mut lines, b"PREROUTING", drops)?;
+    sheet.put_lines(&lines)?;
+    sheet.put_all_waiting(writer, policy, style)
 }
 
 /// The rules of the table mangle.
-fn mangle_lines(
+fn mangle_sheet(
     writer: &Writer,
     policy: &mut Policy,
-    lines: &mut Lines,
     translations: &Translations,
-) -> Result<(), Stop> {
+) -> Result<Sheet, Stop> {
     let everywhere = policy.space.full(DST);
     let mut style = policy.style(Settings::iptables(), everywhere)?;
-    put_mangle_rules(writer, policy, &mut style, lines, translations)
+    let mut sheet = Sheet::new(writer.alloc);
+    put_mangle_rules(writer, policy, &mut style, &mut sheet, translations)?;
+    Ok(sheet)
 }
 
 /// Whether one mark would have to stand for two things.
@@ -139,30 +121,31 @@ fn are_marks_mixed(translations: &Translations) -> bool {
     redirected.is_tagged && (!translations.sent.marks.is_empty() || !redirected.own.is_empty())
 }
 
-/// Appends the table mangle, if it has rules.
+/// Appends the table mangle, if it has rules, and gives their number.
 fn put_mangle(
     writer: &Writer,
     out: &mut Text,
     policy: &mut Policy,
     translations: &Translations,
-) -> Result<(), Stop> {
+) -> Result<usize, Stop> {
     if are_marks_mixed(translations) {
         return Err(Stop::Late);
     }
-    let mut lines = Lines::new(writer.alloc);
-    mangle_lines(writer, policy, &mut lines, translations)?;
-    Ok(put_mangle_text(out, &lines)?)
+    let sheet = mangle_sheet(writer, policy, translations)?;
+    put_mangle_text(out, &sheet)?;
+    Ok(sheet.count)
 }
 
 /// Appends the text of the table mangle, if it has rules.
-fn put_mangle_text(out: &mut Text, lines: &Lines) -> Result<(), Memory> {
-    if lines.is_empty() {
+fn put_mangle_text(out: &mut Text, sheet: &Sheet) -> Result<(), Memory> {
+    if sheet.count == 0 {
         return Ok(());
     }
     put_line(out, b"# Ahead of all else packets are marked or dropped.")?;
     put_line(out, b"*mangle")?;
     put_chain(out, b"PREROUTING", true)?;
-    out.put(lines.text.as_slice())?;
+    out.put(sheet.heads.as_slice())?;
+    out.put(sheet.body.as_slice())?;
     put_line(out, b"COMMIT")
 }
 
@@ -307,13 +290,13 @@ fn put_sources(
     put_nat_chain(&marked, policy, lines, &chain, &sent.leaving)
 }
 
-/// Appends the table nat, if it has rules.
+/// Appends the table nat, if it has rules, and gives their number.
 fn put_nat(
     writer: &Writer,
     out: &mut Text,
     policy: &mut Policy,
     translations: &Translations,
-) -> Result<(), Stop> {
+) -> Result<usize, Stop> {
     let settings = nat_settings(policy);
     let mut lines = Lines::new(writer.alloc);
     put_redirections(
@@ -324,7 +307,8 @@ fn put_nat(
         settings,
     )?;
     put_sources(writer, policy, &mut lines, translations, settings)?;
-    Ok(put_nat_text(out, &lines)?)
+    put_nat_text(out, &lines)?;
+    Ok(lines.count)
 }
 
 /// Appends the text of the table nat, if it has rules.
@@ -349,35 +333,130 @@ fn put_established(writer: &Writer, lines: &mut Lines, name: &[u8]) -> Result<()
     lines.put(name, &tests, b"ACCEPT")
 }
 
-/// The rules of a chain of the table filter.
-fn filter_lines(
-    writer: &Writer,
-    policy: &mut Policy,
-    lines: &mut Lines,
-    hook: Hook,
-    name: &[u8],
-    chain: &Filtered,
-) -> Result<(), Stop> {
-    if chain.has_established {
-        put_established(writer, lines, name)?;
-    }
-    let mut style = style_of(policy, hook)?;
-    put_verdicts(writer, policy, &mut style, lines, name, &chain.list.rules)
+/// What is said of a chain of the table filter.
+#[derive(Clone, Copy)]
+struct Heading<'a> {
+    /// Its name.
+    name: &'a [u8],
+    /// What it meets.
+    text: &'a [u8],
 }
 
-/// Appends the rules of a chain of the table filter behind a heading, if there are any.
+/// The name of the chain that INPUT and FORWARD call.
+const ARRIVING: &[u8] = b"ARRIVING";
+
+/// The name of the chain that OUTPUT calls, and FORWARD for what comes from loopback.
+const OWN: &[u8] = b"OWN";
+
+/// Appends the rule by which FORWARD calls the rules of OUTPUT for what comes from loopback.
+fn put_own_call(writer: &Writer, policy: &mut Policy, lines: &mut Lines) -> Result<(), Stop> {
+    let loopback = policy.space.range(ENTRY, 1, 1)?;
+    let region = policy.everything().with(ENTRY, loopback);
+    let mut style = style_of(policy, Hook::Forward)?;
+    let tests = writer.tests(policy, &mut style, &region)?;
+    Ok(lines.put(b"FORWARD", &tests, OWN)?)
+}
+
+/// Appends a rule by which a chain calls another one for all packets.
+fn put_call(writer: &Writer, lines: &mut Lines, chain: &[u8], called: &[u8]) -> Result<(), Memory> {
+    let everything = Phrases::new(writer.alloc)?;
+    lines.put(chain, &everything, called)
+}
+
+/// Appends the rules of a chain of the table filter behind a heading, if there are any, and the chains that it calls.
 fn put_filter_chain(
     writer: &Writer,
-    out: &mut Text,
+    sheet: &mut Sheet,
     policy: &mut Policy,
     hook: Hook,
-    name: &[u8],
-    heading: &[u8],
+    heading: Heading,
     chain: &Filtered,
+    lines: Lines,
+) -> Result<(), Stop> {
+    let mut lines = lines;
+    if chain.has_established {
+        put_established(writer, &mut lines, heading.name)?;
+    }
+    let mut style = style_of(policy, hook)?;
+    let rules = chain.list.rules.as_slice();
+    sheet.put_rules(writer, policy, &mut style, &mut lines, heading.name, rules)?;
+    sheet.put_group(heading.text, &lines)?;
+    sheet.put_all_waiting(writer, policy, &mut style)
+}
+
+/// The first lines of INPUT.
+fn input_lines(writer: &Writer, filters: &Filters) -> Result<Lines, Memory> {
+    let mut lines = Lines::new(writer.alloc);
+    if !filters.common.is_empty() {
+        put_call(writer, &mut lines, b"INPUT", ARRIVING)?;
+    }
+    Ok(lines)
+}
+
+/// The first lines of FORWARD.
+fn forward_lines(writer: &Writer, policy: &mut Policy, filters: &Filters) -> Result<Lines, Stop> {
+    let mut lines = Lines::new(writer.alloc);
+    if filters.shares_output {
+        put_own_call(writer, policy, &mut lines)?;
+    }
+    if !filters.common.is_empty() {
+        put_call(writer, &mut lines, b"FORWARD", ARRIVING)?;
+    }
+    Ok(lines)
+}
+
+/// Appends what the host itself sends: OUTPUT, or the chain that it calls.
+fn put_output(
+    writer: &Writer,
+    sheet: &mut Sheet,
+    policy: &mut Policy,
+    filters: &Filters,
 ) -> Result<(), Stop> {
     let mut lines = Lines::new(writer.alloc);
-    filter_lines(writer, policy, &mut lines, hook, name, chain)?;
-    Ok(put_group(out, heading, &lines)?)
+    let mut heading = Heading {
+        name: b"OUTPUT",
+        text: b"# What the host itself sends.",
+    };
+    if filters.shares_output {
+        sheet.declare(OWN)?;
+        put_call(writer, &mut lines, b"OUTPUT", OWN)?;
+        heading.name = OWN;
+    }
+    put_filter_chain(
+        writer,
+        sheet,
+        policy,
+        Hook::Output,
+        heading,
+        &filters.output,
+        lines,
+    )
+}
+
+/// Appends the chain that INPUT and FORWARD call, if there is one.
+fn put_common_chain(
+    writer: &Writer,
+    sheet: &mut Sheet,
+    policy: &mut Policy,
+    filters: &Filters,
+) -> Result<(), Stop> {
+    if filters.common.is_empty() {
+        return Ok(());
+    }
+    sheet.declare(ARRIVING)?;
+    let mut lines = Lines::new(writer.alloc);
+    if filters.has_established {
+        put_established(writer, &mut lines, ARRIVING)?;
+    }
+    let everywhere = policy.space.full(DST);
+    let mut style = policy.style(Settings::iptables(), everywhere)?;
+    let rules = filters.common.as_slice();
+    sheet.put_rules(writer, policy, &mut style, &mut lines, ARRIVING, rules)?;
+    sheet.put_group(
+        b"# What arrives, whether it is delivered or forwarded.",
+        &lines,
+    )?;
+    sheet.put_all_waiting(writer, policy, &mut style)
 }
 
 /// Appends the head of the table filter, with the policies of its chains.
@@ -388,62 +467,112 @@ fn put_policies(out: &mut Text, filters: &Filters) -> Result<(), Memory> {
     put_chain(out, b"OUTPUT", filters.output.list.default != DROP)
 }
 
-/// Appends the table filter.
+/// The rules of the table filter.
+fn filter_sheet(writer: &Writer, policy: &mut Policy, filters: &Filters) -> Result<Sheet, Stop> {
+    let mut sheet = Sheet::new(writer.alloc);
+    put_filter_chains(writer, &mut sheet, policy, filters)?;
+    Ok(sheet)
+}
+
+/// Appends the chains of the table filter.
+fn put_filter_chains(
+    writer: &Writer,
+    sheet: &mut Sheet,
+    policy: &mut Policy,
+    filters: &Filters,
+) -> Result<(), Stop> {
+    put_common_chain(writer, sheet, policy, filters)?;
+    let heading = Heading {
+        name: b"INPUT",
+        text: b"# What is delivered to the host itself.",
+    };
+    let lines = input_lines(writer, filters)?;
+    put_filter_chain(
+        writer,
+        sheet,
+        policy,
+        Hook::Input,
+        heading,
+        &filters.input,
+        lines,
+    )?;
+    let heading = Heading {
+        name: b"FORWARD",
+        text: b"# What is forwarded.",
+    };
+    let lines = forward_lines(writer, policy, filters)?;
+    put_filter_chain(
+        writer,
+        sheet,
+        policy,
+        Hook::Forward,
+        heading,
+        &filters.forward,
+        lines,
+    )?;
+    put_output(writer, sheet, policy, filters)
+}
+
+/// The text of the table filter.
+fn filter_text(writer: &Writer, policy: &mut Policy, filters: &Filters) -> Result<Version, Stop> {
+    let sheet = filter_sheet(writer, policy, filters)?;
+    let mut text = Text::new(writer.alloc);
+    put_policies(&mut text, filters)?;
+    text.put(sheet.heads.as_slice())?;
+    text.put(sheet.body.as_slice())?;
+    put_line(&mut text, b"COMMIT")?;
+    Ok(Version {
+        text,
+        count: sheet.count,
+    })
+}
+
+/// A text of the table filter.
+#[derive(Drop)]
+struct Version {
+    /// The text.
+    text: Text,
+    /// How many rules it has.
+    count: usize,
+}
+
+/// Appends the table filter in the version of its chains that has fewest rules, and gives their number.
 fn put_filter(
     writer: &Writer,
     out: &mut Text,
     policy: &mut Policy,
-    filters: &Filters,
-) -> Result<(), Stop> {
-    put_policies(out, filters)?;
-    put_filter_chain(
-        writer,
-        out,
-        policy,
-        Hook::Input,
-        b"INPUT",
-        b"# What is delivered to the host itself.",
-        &filters.input,
-    )?;
-    put_filter_chain(
-        writer,
-        out,
-        policy,
-        Hook::Forward,
-        b"FORWARD",
-        b"# What is forwarded.",
-        &filters.forward,
-    )?;
-    put_filter_chain(
-        writer,
-        out,
-        policy,
-        Hook::Output,
-        b"OUTPUT",
-        b"# What the host itself sends.",
-        &filters.output,
-    )?;
-    Ok(put_line(out, b"COMMIT")?)
-}
-
-/// Appends lines behind a heading, if there are any.
-fn put_group(out: &mut Text, heading: &[u8], lines: &Lines) -> Result<(), Memory> {
-    if lines.is_empty() {
-        return Ok(());
+    versions: &[Filters],
+) -> Result<usize, Stop> {
+    let mut best: Option<Version> = None;
+    for filters in versions {
+        let version = filter_text(writer, policy, filters)?;
+        let is_shorter = match &best {
+            Some(before) => version.count <= before.count,
+            None => true,
+        };
+        if is_shorter {
+            best = Some(version);
+        }
     }
-    put_line(out, heading)?;
-    out.put(lines.text.as_slice())
+    match &best {
+        Some(best) => {
+            out.put(best.text.as_slice())?;
+            Ok(best.count)
+        }
+        None => Err(Stop::Late),
+    }
 }
 
-/// Appends the tables.
+/// Appends the tables, of the table filter the version that has fewest rules, and gives the number of all rules.
 pub(crate) fn put_tables(
     writer: &Writer,
     out: &mut Text,
     policy: &mut Policy,
     translations: &Translations,
-    filters: &Filters,
-) -> Result<(), Stop> {
-    put_mangle(writer, out, policy, translations)?;
-    put_nat(writer, out, policy, translations)?;
-    put_filter(writer, out, policy, filters)
+    versions: &[Filters],
+) -> Result<usize, Stop> {
+    let mangle = put_mangle(writer, out, policy, translations)?;
+    let nat = put_nat(writer, out, policy, translations)?;
+    let filter = put_filter(writer, out, policy, versions)?;
+    Ok(mangle.saturating_add(nat).saturating_add(filter))
 }

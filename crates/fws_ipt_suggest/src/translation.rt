@@ -4,9 +4,9 @@ use crate::chains::{Ahead, Redirected, Sent};
 use fws_net::{Outcome, Site};
 use fws_num::Memory;
 use fws_suggest::{
-    ACCEPT, DROP, DST, Diagram, ENTRY, FIELDS, List, Mask, Meeting, Policy, Region, Rule, Settings,
-    Side, Space, Stop, Style, Task, end_colours, marks_of, plain_colour, solved, split_by_class,
-    task_for,
+    ACCEPT, DROP, DST, Diagram, ENTRY, FIELDS, List, Mask, Meeting, Policy, Reach, Region, Rule,
+    Settings, Side, Space, Stop, Style, Task, end_colours, marks_of, plain_colour, solved,
+    split_by_class, task_for,
 };
 use std::alloc::Global;
 
@@ -71,29 +71,56 @@ fn dropping_list(
     }
 }
 
-/// The list of what is dropped ahead of translations, written in this way.
-fn ahead_list_by(policy: &mut Policy, style: &mut Style, diagram: Diagram) -> Result<List, Stop> {
-    if let Some(list) = dropping_list(policy, style, diagram)? {
-        return Ok(list);
-    }
+/// The list of what is dropped ahead of translations, by rules that drop and rules that accept: none where there is none.
+fn mixed_list(
+    policy: &mut Policy,
+    style: &mut Style,
+    diagram: Diagram,
+) -> Result<Option<List>, Stop> {
     let task = ahead_task(policy.alloc, diagram, &[DROP, ACCEPT])?;
-    solved(policy, style, &task)
+    match solved(policy, style, &task) {
+        Ok(list) => Ok(Some(list)),
+        Err(Stop::Memory) => Err(Stop::Memory),
+        Err(Stop::Late) => Ok(None),
+    }
 }
 
-/// The list of what is dropped ahead of translations: by rules that drop alone, or where these are ugly with rules that accept.
+/// The list of what is dropped ahead of translations, written in this way.
+fn ahead_list_by(policy: &mut Policy, style: &mut Style, diagram: Diagram) -> Result<List, Stop> {
+    let dropping = dropping_list(policy, style, diagram)?;
+    let mixed = mixed_list(policy, style, diagram)?;
+    match (dropping, mixed) {
+        (Some(dropping), Some(mixed)) => Ok(if mixed.cost < dropping.cost {
+            mixed
+        } else {
+            dropping
+        }),
+        (Some(dropping), None) => Ok(dropping),
+        (None, Some(mixed)) => Ok(mixed),
+        (None, None) => Err(Stop::Late),
+    }
+}
+
+/// The list of what is dropped ahead of translations: by rules that drop alone, or with rules that accept where that is shorter.
 fn ahead_list(policy: &mut Policy, diagram: Diagram) -> Result<List, Stop> {
     let everywhere = policy.space.full(DST);
     let mut style = policy.style(Settings::iptables(), everywhere)?;
     ahead_list_by(policy, &mut style, diagram)
 }
 
-/// What becomes of new packets ahead of translations: those that are dropped may be so there, all others pass.
-fn new_ahead(policy: &mut Policy, original: Diagram) -> Result<Diagram, Stop> {
+/// What becomes of new packets ahead of translations: those that are dropped may be so there, or are where that is asked; all
+/// others pass.
+fn new_ahead(policy: &mut Policy, original: Diagram, drops_all: bool) -> Result<Diagram, Stop> {
     let accept = policy.space.only(ACCEPT)?;
+    let dropped = if drops_all {
+        policy.space.only(DROP)?
+    } else {
+        Mask::ALL
+    };
     let mut table = Vec::new(policy.alloc);
     for outcome in &policy.outcomes {
         table.push(match outcome {
-            Outcome::Drop => Mask::ALL,
+            Outcome::Drop => dropped,
             _ => accept,
         })?;
     }
@@ -106,8 +133,9 @@ fn droppable(
     original: Diagram,
     established: Option<Diagram>,
     clashes: Option<Diagram>,
+    drops_all: bool,
 ) -> Result<Diagram, Stop> {
-    let mut new = new_ahead(policy, original)?;
+    let mut new = new_ahead(policy, original, drops_all)?;
     if let Some(clashes) = clashes {
         new = policy.space.meet(new, clashes)?;
     }
@@ -134,14 +162,16 @@ fn leave_out(policy: &mut Policy, original: Diagram, rules: &[Rule]) -> Result<(
 }
 
 /// What is dropped ahead of translations: established packets as the diagram says, and new ones, of which the original says what
-/// becomes of them, where nothing but dropping is allowed by `clashes`. New packets that are dropped so are left out of what follows.
+/// becomes of them, where nothing but dropping is allowed by `clashes`, or all of those that are dropped. New packets that are dropped
+/// so are left out of what follows.
 pub(crate) fn ahead(
     policy: &mut Policy,
     original: Diagram,
     established: Option<Diagram>,
     clashes: Option<Diagram>,
+    drops_all: bool,
 ) -> Result<Ahead, Stop> {
-    let diagram = droppable(policy, original, established, clashes)?;
+    let diagram = droppable(policy, original, established, clashes, drops_all)?;
     let list = ahead_list(policy, diagram)?;
     leave_out(policy, original, &list.rules)?;
     Ok(Ahead { rules: list.rules })
@@ -151,6 +181,7 @@ pub(crate) fn ahead(
 pub(crate) fn nat_settings(policy: &Policy) -> Settings {
     let mut settings = Settings::iptables();
     settings.has_ranges = !policy.maps_networks();
+    settings.calls_chains = false;
     settings
 }
 
@@ -159,9 +190,9 @@ fn redirecting(
     policy: &mut Policy,
     entries: Side,
     shows_exits: bool,
-    is_strict: bool,
+    reach: Reach,
 ) -> Result<Vec<Rule>, Stop> {
-    let diagram = policy.redirections(entries, is_strict)?;
+    let diagram = policy.redirections(entries, reach)?;
     let settings = nat_settings(policy);
     let settings = if shows_exits {
         settings.with_exits()
@@ -183,10 +214,10 @@ struct Redirections {
 }
 
 /// How destinations are translated of arriving packets, and of the host's own.
-fn both_lists(policy: &mut Policy, is_strict: bool) -> Result<Redirections, Stop> {
+fn both_lists(policy: &mut Policy, reach: Reach) -> Result<Redirections, Stop> {
     let (coming, host) = (policy.arriving, policy.host);
-    let arriving = redirecting(policy, coming, false, is_strict)?;
-    let own = redirecting(policy, host, true, is_strict)?;
+    let arriving = redirecting(policy, coming, false, reach)?;
+    let own = redirecting(policy, host, true, reach)?;
     Ok(Redirections { arriving, own })
 }
 
@@ -207,10 +238,10 @@ fn behind(
 /// How destinations are translated, plainly: nothing where two packets that must fare differently become one.
 fn redirected_by(
     policy: &mut Policy,
-    is_strict: bool,
+    reach: Reach,
     is_tagged: bool,
 ) -> Result<Option<Redirected>, Stop> {
-    let found = both_lists(policy, is_strict)?;
+    let found = both_lists(policy, reach)?;
     match behind(policy, &found, is_tagged)? {
         Some(behind) => Ok(Some(Redirected {
             arriving: found.arriving,
@@ -228,12 +259,12 @@ fn dropped_ahead(
     original: Diagram,
     established: Option<Diagram>,
 ) -> Result<Option<Ahead>, Stop> {
-    let found = both_lists(policy, false)?;
+    let found = both_lists(policy, Reach::Near)?;
     let Some(tagged) = behind(policy, &found, true)? else {
         return Ok(None);
     };
     let clashes = policy.clashes(tagged)?;
-    match ahead(policy, original, established, Some(clashes)) {
+    match ahead(policy, original, established, Some(clashes), false) {
         Ok(ahead) => Ok(Some(ahead)),
         Err(Stop::Late) => Ok(None),
         Err(Stop::Memory) => Err(Stop::Memory),
@@ -251,7 +282,7 @@ fn redirected_behind(
     let Some(ahead) = dropped_ahead(policy, original, established)? else {
         return Ok(None);
     };
-    let found = redirected_by(policy, false, false)?;
+    let found = redirected_by(policy, Reach::Near, false)?;
     if found.is_some() {
         before.rules = ahead.rules;
     } else {
@@ -276,16 +307,18 @@ pub(crate) fn redirected(
             behind,
         });
     }
-    if let Some(found) = redirected_by(policy, false, false)? {
-        return Ok(found);
+    for reach in [Reach::Wide, Reach::Near] {
+        if let Some(found) = redirected_by(policy, reach, false)? {
+            return Ok(found);
+        }
     }
     if let Some(found) = redirected_behind(policy, original, established, before)? {
         return Ok(found);
     }
-    if let Some(found) = redirected_by(policy, false, true)? {
+    if let Some(found) = redirected_by(policy, Reach::Near, true)? {
         return Ok(found);
     }
-    match redirected_by(policy, true, false)? {
+    match redirected_by(policy, Reach::Strict, false)? {
         Some(found) => Ok(found),
         None => Err(Stop::Late),
     }

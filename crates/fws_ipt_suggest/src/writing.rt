@@ -3,7 +3,8 @@
 ghost use Rattle.fws_net.specs.Routes.{IsSound};
 
 use crate::chains::{Ahead, Filters, Translations};
-use crate::filter::{Hook, filtered};
+use crate::common::{Base, put_shared, with_output_shared};
+use crate::filter::{Asked, Hook, asked_at, filtered};
 use crate::rules::Writer;
 use crate::tables::put_tables;
 use crate::text::put_line;
@@ -11,18 +12,19 @@ use crate::translation::{ahead, redirected, sent};
 use fws_flat::Flat;
 use fws_net::{Lang, Site};
 use fws_num::{Memory, Text};
-use fws_suggest::{Diagram, Policy, Stop};
+use fws_suggest::{Diagram, Established, Policy, Stop};
 use fws_tree::Tables;
 use std::alloc::Global;
 
-/// What is dropped ahead of translations, as far as established packets ask for it.
+/// What is dropped ahead of translations, as far as established packets ask for it; then all new ones too, where that is asked.
 fn before_translations(
     policy: &mut Policy,
     original: Diagram,
     established: Option<Diagram>,
+    drops_all: bool,
 ) -> Result<Ahead, Stop> {
     if established.is_some() {
-        return ahead(policy, original, established, None);
+        return ahead(policy, original, established, None, drops_all);
     }
     Ok(Ahead {
         rules: Vec::new(policy.alloc),
@@ -34,9 +36,10 @@ fn translations_of(
     policy: &mut Policy,
     site: &Site,
     established: Option<Diagram>,
+    drops_all: bool,
 ) -> Result<Translations, Stop> {
     let original = policy.fresh;
-    let mut before = before_translations(policy, original, established)?;
+    let mut before = before_translations(policy, original, established, drops_all)?;
     let redirected = redirected(policy, original, established, &mut before)?;
     let sent = sent(policy, site, redirected.behind)?;
     Ok(Translations {
@@ -46,22 +49,134 @@ fn translations_of(
     })
 }
 
-/// The chains of the table filter.
-fn filters_of(
+/// What the chains of the table filter are asked for.
+#[derive(Clone, Copy)]
+struct Questions {
+    input: Asked,
+    forward: Asked,
+    output: Asked,
+}
+
+/// What the chains are asked for, where rules count so.
+fn questions_of(
+    policy: &mut Policy,
+    fresh: Diagram,
+    established: Option<Diagram>,
+    calls_chains: bool,
+) -> Result<Questions, Stop> {
+    Ok(Questions {
+        input: asked_at(policy, Hook::Input, fresh, established, calls_chains)?,
+        forward: asked_at(policy, Hook::Forward, fresh, established, calls_chains)?,
+        output: asked_at(policy, Hook::Output, fresh, established, calls_chains)?,
+    })
+}
+
+/// The chains of the table filter, each by itself.
+fn base_of(policy: &mut Policy, questions: Questions, hints: &Flat) -> Result<Base, Stop> {
+    let input = filtered(policy, Hook::Input, questions.input, hints)?;
+    let forward = filtered(policy, Hook::Forward, questions.forward, hints)?;
+    let output = filtered(policy, Hook::Output, questions.output, hints)?;
+    let filters = Filters {
+        common: Vec::new(policy.alloc),
+        has_established: false,
+        shares_output: false,
+        input,
+        forward,
+        output,
+    };
+    Ok(Base {
+        filters,
+        input: questions.input,
+        forward: questions.forward,
+    })
+}
+
+/// Puts versions of the chains with what some have in common, and at last as they are.
+fn put_versions(
+    policy: &mut Policy,
+    base: Base,
+    hints: &Flat,
+    versions: &mut Vec<Filters>,
+) -> Result<(), Memory> {
+    match put_shared(policy, &base, hints, versions) {
+        Ok(()) | Err(Stop::Late) => {}
+        Err(Stop::Memory) => return Err(Memory),
+    }
+    let Base {
+        filters,
+        input: _,
+        forward: _,
+    } = base;
+    versions.push(filters)?;
+    Ok(())
+}
+
+/// The chains in which FORWARD calls the rules of OUTPUT, where that is right and found.
+fn sharing_output(
+    policy: &mut Policy,
+    base: &Base,
+    output: Asked,
+    hints: &Flat,
+) -> Result<Option<Base>, Stop> {
+    if policy.space.size() > MOST_WORDS {
+        return Ok(None);
+    }
+    with_output_shared(policy, base, output, hints)
+}
+
+/// The most words of diagrams with which it is tried whether FORWARD may call the rules of OUTPUT.
+const MOST_WORDS: usize = 500_000;
+
+/// Puts versions of the chains, with the rules of OUTPUT shared and without.
+fn put_all_versions(
+    policy: &mut Policy,
+    plain: Base,
+    output: Asked,
+    hints: &Flat,
+    versions: &mut Vec<Filters>,
+) -> Result<(), Memory> {
+    match sharing_output(policy, &plain, output, hints) {
+        Ok(Some(shared)) => put_versions(policy, shared, hints, versions)?,
+        Ok(None) | Err(Stop::Late) => {}
+        Err(Stop::Memory) => return Err(Memory),
+    }
+    put_versions(policy, plain, hints, versions)
+}
+
+/// Puts versions of the chains whose lists are sought as if nothing led to chains of its own; nothing where the search gave up.
+fn put_flat_versions(
+    policy: &mut Policy,
+    fresh: Diagram,
+    established: Option<Diagram>,
+    hints: &Flat,
+    versions: &mut Vec<Filters>,
+) -> Result<(), Stop> {
+    let questions = questions_of(policy, fresh, established, false)?;
+    let plain = base_of(policy, questions, hints)?;
+    put_all_versions(policy, plain, questions.output, hints, versions)?;
+    Ok(())
+}
+
+/// Versions of the chains of the table filter: each by itself, and with what some have in common.
+fn versions_of(
     policy: &mut Policy,
     behind: Diagram,
     established: Option<Diagram>,
     hints: &Flat,
-) -> Result<Filters, Stop> {
+) -> Result<Vec<Filters>, Stop> {
     let fresh = policy.verdict(behind)?;
-    let input = filtered(policy, Hook::Input, fresh, established, hints)?;
-    let forward = filtered(policy, Hook::Forward, fresh, established, hints)?;
-    let output = filtered(policy, Hook::Output, fresh, established, hints)?;
-    Ok(Filters {
-        input,
-        forward,
-        output,
-    })
+    let questions = questions_of(policy, fresh, established, true)?;
+    let plain = base_of(policy, questions, hints)?;
+    let mut versions = Vec::new(policy.alloc);
+    // what is left is for writing them
+    let before = policy.hold_back(3);
+    put_all_versions(policy, plain, questions.output, hints, &mut versions)?;
+    let flat = put_flat_versions(policy, fresh, established, hints, &mut versions);
+    policy.let_go(before);
+    match flat {
+        Ok(()) | Err(Stop::Late) => Ok(versions),
+        Err(Stop::Memory) => Err(Stop::Memory),
+    }
 }
 
 /// Appends the head: what the text is, and which interface is which where the site has names of its own for them.
@@ -92,40 +207,95 @@ fn put_interface_line(out: &mut Text, name: &Text, at_site: &Text) -> Result<(),
     put_line(out, b".")
 }
 
-/// Appends the text that is found of a policy. It gives up where there is none.
-fn put_found(
-    out: &mut Text,
+/// A text.
+#[derive(Drop)]
+struct Suggestion {
+    /// The text.
+    text: Text,
+    /// How many rules it has.
+    count: usize,
+}
+
+/// The text that is found of a policy. It gives up where there is none.
+fn found(
     policy: &mut Policy,
-    tables: &Tables,
+    established: Established,
     site: &Site,
     hints: &Flat,
-) -> Result<(), Stop> {
-    let established = policy.established(&tables.est, false)?;
-    let translations = translations_of(policy, site, established.ahead)?;
+    drops_all: bool,
+) -> Result<Suggestion, Stop> {
+    let translations = translations_of(policy, site, established.ahead, drops_all)?;
     let behind = translations.redirected.behind;
-    let filters = filters_of(policy, behind, established.behind, hints)?;
+    let versions = versions_of(policy, behind, established.behind, hints)?;
     let writer = Writer {
         alloc: policy.alloc,
         site,
         entries: policy.entries,
         marks: &[],
     };
-    put_head(out, site)?;
-    put_tables(&writer, out, policy, &translations, &filters)
+    let mut text = Text::new(policy.alloc);
+    put_head(&mut text, site)?;
+    let count = put_tables(&writer, &mut text, policy, &translations, &versions)?;
+    Ok(Suggestion { text, count })
 }
 
-/// Appends the text that is found of tables. It gives up where there is none.
-fn put_suggested(
-    alloc: Global,
-    out: &mut Text,
+/// Puts a text among others by how many rules it has, behind those with as many; nothing where the search gave up.
+fn put_found(all: &mut Vec<Suggestion>, found: Result<Suggestion, Stop>) -> Result<(), Memory> {
+    match found {
+        Ok(found) => {
+            let place = all
+                .iter()
+                .filter(|before| before.count <= found.count)
+                .count();
+            if place <= all.len() {
+                all.insert(place, found)?;
+            }
+            Ok(())
+        }
+        Err(Stop::Late) => Ok(()),
+        Err(Stop::Memory) => Err(Memory),
+    }
+}
+
+/// Puts the text in which all is dropped as it arrives, whether it is new or established, where that can be told of some of what is
+/// established.
+fn put_whole(
+    all: &mut Vec<Suggestion>,
+    policy: &mut Policy,
     tables: &Tables,
     site: &Site,
     hints: &Flat,
-) -> Result<(), Stop>
+) -> Result<(), Stop> {
+    let established = policy.established(&tables.est, true)?;
+    if established.ahead.is_some() {
+        let whole = found(policy, established, site, hints, true);
+        put_found(all, whole)?;
+    }
+    Ok(())
+}
+
+/// The texts that are found of tables, those with fewest rules first.
+fn all_found(
+    alloc: Global,
+    tables: &Tables,
+    site: &Site,
+    hints: &Flat,
+) -> Result<Vec<Suggestion>, Stop>
     requires { IsSound site.now }
 {
     let mut policy = Policy::new(alloc, tables, site)?;
-    put_found(out, &mut policy, tables, site, hints)
+    let original = policy.fresh;
+    let established = policy.established(&tables.est, false)?;
+    let mut all = Vec::new(alloc);
+    let before = policy.hold_back(2);
+    let plain = found(&mut policy, established, site, hints, false);
+    policy.let_go(before);
+    put_found(&mut all, plain)?;
+    policy.fresh = original;
+    match put_whole(&mut all, &mut policy, tables, site, hints) {
+        Ok(()) | Err(Stop::Late) => Ok(all),
+        Err(Stop::Memory) => Err(Stop::Memory),
+    }
 }
 
 /// Texts of iptables that may do what the tables say, best first: none where the search gave up. Nothing is promised of them.
@@ -139,9 +309,13 @@ pub fn suggest(
     requires { IsSound site.now }
 {
     let mut texts = Vec::new(alloc);
-    let mut text = Text::new(alloc);
-    match put_suggested(alloc, &mut text, tables, site, hints) {
-        Ok(()) => texts.push(text)?,
+    match all_found(alloc, tables, site, hints) {
+        Ok(all) => {
+            for found in all {
+                let Suggestion { text, count: _ } = found;
+                texts.push(text)?;
+            }
+        }
         Err(Stop::Late) => {}
         Err(Stop::Memory) => return Err(Memory),
     }

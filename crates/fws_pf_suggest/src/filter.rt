@@ -1,6 +1,7 @@
 //! What is passed and blocked.
 
 use crate::draft::{Filter, Found};
+use crate::free::Free;
 use crate::sending::{by_tags, solved_by};
 use fws_suggest::{
     ACCEPT, DROP, DST, Diagram, ENTRY, FLAGS, List, Marked, Mask, Meeting, PROTO, Policy, Region,
@@ -93,6 +94,7 @@ fn coming_list(
     verdict: Diagram,
     leaving: Diagram,
     marks: &[Marked],
+    free: &Free,
     is_one: bool,
 ) -> Result<Found, Stop> {
     let universe = if policy.forwarding {
@@ -100,7 +102,8 @@ fn coming_list(
     } else {
         policy.local
     };
-    let region = policy.arrivals().with(DST, universe);
+    let entries = free.others(policy)?;
+    let region = policy.everything().with(ENTRY, entries).with(DST, universe);
     let mut coming = policy.space.keep(verdict, &region)?;
     if is_one {
         if !marks.is_empty() {
@@ -148,9 +151,10 @@ pub(crate) fn filtered(
     verdict: Diagram,
     leaving: Diagram,
     marks: &[Marked],
+    free: &Free,
     is_one: bool,
 ) -> Result<Filter, Stop> {
-    let coming = coming_list(policy, verdict, leaving, marks, is_one)?;
+    let coming = coming_list(policy, verdict, leaving, marks, free, is_one)?;
     let least = policy.space.least_mask(leaving);
     let all_leave = policy.space.has(least, ACCEPT) && marks.is_empty();
     let leaving = if is_one || all_leave {

@@ -3,6 +3,7 @@
 
 mod draft;
 mod filter;
+mod free;
 mod names;
 mod parts;
 mod sending;

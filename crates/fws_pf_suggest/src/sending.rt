@@ -1,10 +1,11 @@
 //! How destinations and sources are translated.
 
 use crate::draft::Translations;
+use crate::free::Free;
 use fws_net::End;
 use fws_suggest::{
-    ACCEPT, DROP, DST, Diagram, ENTRY, FLAGS, ICMP, List, Marked, Mask, Meeting, Policy, Rule, SRC,
-    Settings, Side, Stop, Task, end_colours, marks_of, solved, split_by_class, task_for,
+    ACCEPT, DROP, DST, Diagram, ENTRY, FLAGS, ICMP, List, Marked, Mask, Meeting, Policy, Reach,
+    Rule, SRC, Settings, Side, Stop, Task, end_colours, marks_of, solved, split_by_class, task_for,
 };
 
 /// The end at a place of a list.
@@ -44,9 +45,9 @@ fn without_details(policy: &mut Policy, diagram: Diagram) -> Result<Diagram, Sto
 }
 
 /// The rules for destinations.
-fn redirecting(policy: &mut Policy, is_strict: bool) -> Result<Vec<Rule>, Stop> {
+fn redirecting(policy: &mut Policy, reach: Reach) -> Result<Vec<Rule>, Stop> {
     let arriving = policy.arriving;
-    let diagram = policy.redirections(arriving, is_strict)?;
+    let diagram = policy.redirections(arriving, reach)?;
     let diagram = without_details(policy, diagram)?;
     let colours = end_colours(policy.alloc, &policy.destinations)?;
     let task = task_for(policy.alloc, diagram, colours, &[0])?;
@@ -61,10 +62,10 @@ fn redirecting(policy: &mut Policy, is_strict: bool) -> Result<Vec<Rule>, Stop> 
 fn redirected_by(
     policy: &mut Policy,
     translations: &mut Translations,
-    is_strict: bool,
+    reach: Reach,
     is_tagged: bool,
 ) -> Result<Option<Diagram>, Stop> {
-    let rules = redirecting(policy, is_strict)?;
+    let rules = redirecting(policy, reach)?;
     let arriving = policy.arriving;
     let narrow = policy.narrowed(&rules, arriving)?;
     let found = policy.behind(&narrow, is_tagged)?;
@@ -83,8 +84,14 @@ pub(crate) fn redirect(
     if policy.destinations.len() == 1 {
         return policy.direct();
     }
-    for (is_strict, is_tagged) in [(false, false), (false, true), (true, false)] {
-        if let Some(behind) = redirected_by(policy, translations, is_strict, is_tagged)? {
+    let ways = [
+        (Reach::Wide, false),
+        (Reach::Near, false),
+        (Reach::Near, true),
+        (Reach::Strict, false),
+    ];
+    for (reach, is_tagged) in ways {
+        if let Some(behind) = redirected_by(policy, translations, reach, is_tagged)? {
             return Ok(behind);
         }
     }
@@ -94,12 +101,12 @@ pub(crate) fn redirect(
 /// What of the host's packets may be written over: where that is asked nothing over those that are dropped.
 fn own_sendings(
     policy: &mut Policy,
+    free: &Free,
     sendings: Diagram,
     verdict: Diagram,
     is_strict: bool,
 ) -> Result<Diagram, Stop> {
-    let departures = policy.departures();
-    let own = policy.space.keep(sendings, &departures)?;
+    let own = free.sent(policy, sendings)?;
     if !is_strict {
         return Ok(own);
     }
@@ -111,14 +118,19 @@ fn own_sendings(
 }
 
 /// What of packets that are forwarded may be written over.
-fn forwarded_sendings(policy: &mut Policy, sendings: Diagram) -> Result<Diagram, Stop> {
+fn forwarded_sendings(
+    policy: &mut Policy,
+    free: &Free,
+    sendings: Diagram,
+) -> Result<Diagram, Stop> {
     if !policy.forwarding {
         let anything = policy.space.anything()?;
         return Ok(anything);
     }
     let foreign = policy.foreign()?;
-    let passing = policy.arrivals().with(DST, foreign);
-    policy.space.keep(sendings, &passing)
+    let entries = free.others(policy)?;
+    let forwarded = policy.everything().with(ENTRY, entries).with(DST, foreign);
+    policy.space.keep(sendings, &forwarded)
 }
 
 /// The host's own packets that are sent from an end as the filter sees them: `here` is what becomes of them.
@@ -211,13 +223,14 @@ fn sending_rules(policy: &mut Policy, seen: Diagram) -> Result<Sending, Stop> {
 fn sent_by(
     policy: &mut Policy,
     translations: &mut Translations,
+    free: &Free,
     sendings: Diagram,
     verdict: Diagram,
     is_strict: bool,
     tags_sent: bool,
 ) -> Result<Option<Diagram>, Stop> {
-    let forwarded = forwarded_sendings(policy, sendings)?;
-    let own = own_sendings(policy, sendings, verdict, is_strict)?;
+    let forwarded = forwarded_sendings(policy, free, sendings)?;
+    let own = own_sendings(policy, free, sendings, verdict, is_strict)?;
     let both = policy.space.meet(forwarded, own)?;
     let seen = without_details(policy, both)?;
     let found = sending_rules(policy, seen)?;
@@ -236,17 +249,28 @@ fn sent_by(
 pub(crate) fn send(
     policy: &mut Policy,
     translations: &mut Translations,
+    free: &Free,
     behind: Diagram,
 ) -> Result<Diagram, Stop> {
     let verdict = policy.verdict(behind)?;
-    let departures = policy.departures();
-    let own = policy.space.keep(verdict, &departures)?;
+    let own = free.leaving(policy, verdict)?;
+    if policy.fails(own)? {
+        return Err(Stop::Late);
+    }
     if policy.sources.len() == 1 {
         return Ok(own);
     }
     let sendings = policy.sendings(behind)?;
     for (is_strict, tags_sent) in [(false, false), (true, false), (true, true)] {
-        if let Some(seen) = sent_by(policy, translations, sendings, own, is_strict, tags_sent)? {
+        if let Some(seen) = sent_by(
+            policy,
+            translations,
+            free,
+            sendings,
+            own,
+            is_strict,
+            tags_sent,
+        )? {
             return Ok(seen);
         }
     }

@@ -2,6 +2,7 @@
 
 use crate::draft::{Filter, Found, Translations};
 use crate::filter::not_opening;
+use crate::free::Free;
 use crate::names::Names;
 use crate::parts::parts_of;
 use crate::sending::{end_at, nat_settings};
@@ -453,16 +454,28 @@ fn put_leaving(
     put_rules(names, out, policy, &mut style, &leaving.list, &way)
 }
 
+/// Appends the statement that passes all on interfaces, if there are any.
+fn put_free(names: &mut Names, out: &mut Lines, free: &Free) -> Result<(), Memory> {
+    if free.numbers.is_empty() {
+        return Ok(());
+    }
+    out.put(b"pass quick on ")?;
+    free.put_names(names, &mut out.text)?;
+    out.end(b" all flags any keep state")
+}
+
 /// Appends the statements that filter.
 fn put_filter(
     names: &mut Names,
     out: &mut Lines,
     policy: &mut Policy,
     translations: &Translations,
+    free: &Free,
     filter: &Filter,
 ) -> Result<(), Stop> {
     out.head(b"\n# nothing passes that isn't passed below")?;
     out.end(b"block all")?;
+    put_free(names, out, free)?;
     out.head(if filter.is_one {
         b"\n# what passes"
     } else {
@@ -486,6 +499,7 @@ pub(crate) fn statements(
     names: &mut Names,
     policy: &mut Policy,
     translations: &Translations,
+    free: &Free,
     filter: &Filter,
 ) -> Result<Lines, Stop> {
     let mut out = Lines::new(names.alloc);
@@ -494,6 +508,6 @@ pub(crate) fn statements(
     }
     put_nat(names, &mut out, policy, translations)?;
     put_rdr(names, &mut out, policy, translations)?;
-    put_filter(names, &mut out, policy, translations, filter)?;
+    put_filter(names, &mut out, policy, translations, free, filter)?;
     Ok(out)
 }

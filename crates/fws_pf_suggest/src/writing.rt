@@ -4,6 +4,7 @@ ghost use Rattle.fws_net.specs.Routes.{IsSound};
 
 use crate::draft::{Filter, Translations};
 use crate::filter::filtered;
+use crate::free::{Free, free_interfaces};
 use crate::names::Names;
 use crate::sending::{redirect, send};
 use crate::text::statements;
@@ -29,9 +30,13 @@ struct Behind {
 }
 
 /// How addresses are translated, and what is left to be filtered.
-fn translated(policy: &mut Policy, translations: &mut Translations) -> Result<Behind, Stop> {
+fn translated(
+    policy: &mut Policy,
+    translations: &mut Translations,
+    free: &Free,
+) -> Result<Behind, Stop> {
     let behind = redirect(policy, translations)?;
-    let leaving = send(policy, translations, behind)?;
+    let leaving = send(policy, translations, free, behind)?;
     let verdict = policy.verdict(behind)?;
     Ok(Behind { verdict, leaving })
 }
@@ -41,6 +46,7 @@ fn attempt(
     policy: &mut Policy,
     site: &Site,
     translations: &Translations,
+    free: &Free,
     behind: Behind,
     is_one: bool,
 ) -> Result<Tried, Stop> {
@@ -49,9 +55,10 @@ fn attempt(
         behind.verdict,
         behind.leaving,
         &translations.marks,
+        free,
         is_one,
     )?;
-    written(policy, site, translations, &filter)
+    written(policy, site, translations, free, &filter)
 }
 
 /// The text of a filter behind translations.
@@ -59,10 +66,11 @@ fn written(
     policy: &mut Policy,
     site: &Site,
     translations: &Translations,
+    free: &Free,
     filter: &Filter,
 ) -> Result<Tried, Stop> {
     let mut names = Names::new(policy.alloc, site)?;
-    let lines = statements(&mut names, policy, translations, filter)?;
+    let lines = statements(&mut names, policy, translations, free, filter)?;
     let mut text = Text::new(policy.alloc);
     put_all(&mut text, &names, lines.text.as_slice())?;
     Ok(Tried {
@@ -81,67 +89,31 @@ fn put_all(out: &mut Text, names: &Names, statements: &[u8]) -> Result<(), Memor
     out.put(statements)
 }
 
-/// Puts a text behind the others, or ahead of them where it has fewer statements than all of them.
-fn put_text(texts: &mut Vec<Text>, fewest: &mut usize, tried: Tried) -> Result<(), Memory> {
-    if tried.count < *fewest {
-        *fewest = tried.count;
-        texts.insert(0, tried.text)?;
-    } else {
-        texts.push(tried.text)?;
-    }
-    Ok(())
-}
-
-/// Puts the text with a filter of one list, or of two, among the others, if there is one.
-fn put_attempt(
-    texts: &mut Vec<Text>,
-    fewest: &mut usize,
-    policy: &mut Policy,
-    site: &Site,
-    translations: &Translations,
-    behind: Behind,
-    is_one: bool,
-) -> Result<(), Memory> {
-    match attempt(policy, site, translations, behind, is_one) {
-        Ok(tried) => put_text(texts, fewest, tried),
+/// Puts a text among others by how many statements it has, behind those with as many; nothing where the search gave up.
+fn put_tried(all: &mut Vec<Tried>, tried: Result<Tried, Stop>) -> Result<(), Memory> {
+    match tried {
+        Ok(tried) => {
+            let place = all
+                .iter()
+                .filter(|before| before.count <= tried.count)
+                .count();
+            if place <= all.len() {
+                all.insert(place, tried)?;
+            }
+            Ok(())
+        }
         Err(Stop::Late) => Ok(()),
         Err(Stop::Memory) => Err(Memory),
     }
 }
 
-/// Puts the texts that are found of a policy, that of fewest statements first.
+/// Puts the texts with a filter of one list, and of two, among the others.
 fn put_texts(
-    texts: &mut Vec<Text>,
+    all: &mut Vec<Tried>,
     policy: &mut Policy,
     site: &Site,
-    translations: &mut Translations,
+    free: &Free,
 ) -> Result<(), Stop> {
-    let behind = translated(policy, translations)?;
-    let mut fewest = usize::MAX;
-    put_attempt(texts, &mut fewest, policy, site, translations, behind, true)?;
-    put_attempt(
-        texts,
-        &mut fewest,
-        policy,
-        site,
-        translations,
-        behind,
-        false,
-    )?;
-    Ok(())
-}
-
-/// Appends what texts are found of the policy of tables. It gives up where established packets are dropped, which pf can't ask.
-fn put_found(
-    texts: &mut Vec<Text>,
-    policy: &mut Policy,
-    tables: &Tables,
-    site: &Site,
-) -> Result<(), Stop> {
-    let established = policy.established(&tables.est, false)?;
-    if established.ahead.is_some() || established.behind.is_some() {
-        return Err(Stop::Late);
-    }
     let mut translations = Translations {
         redirected: Vec::new(policy.alloc),
         tags_redirected: false,
@@ -149,22 +121,77 @@ fn put_found(
         tags_sent: false,
         marks: Vec::new(policy.alloc),
     };
-    put_texts(texts, policy, site, &mut translations)
+    let behind = translated(policy, &mut translations, free)?;
+    for is_one in [true, false] {
+        let tried = attempt(policy, site, &translations, free, behind, is_one);
+        put_tried(all, tried)?;
+    }
+    Ok(())
 }
 
-/// Appends what texts are found of tables.
-fn put_suggested(
-    alloc: Global,
-    texts: &mut Vec<Text>,
-    tables: &Tables,
+/// As `put_texts`, with nothing put where the search gave up.
+fn put_if_found(
+    all: &mut Vec<Tried>,
+    policy: &mut Policy,
     site: &Site,
-    hints: &Flat,
-) -> Result<(), Stop>
+    free: &Free,
+) -> Result<(), Memory> {
+    match put_texts(all, policy, site, free) {
+        Ok(()) | Err(Stop::Late) => Ok(()),
+        Err(Stop::Memory) => Err(Memory),
+    }
+}
+
+/// As `put_if_found`, within half of the steps that are left.
+fn put_within(
+    all: &mut Vec<Tried>,
+    policy: &mut Policy,
+    site: &Site,
+    free: &Free,
+) -> Result<(), Memory> {
+    let before = policy.hold_back(2);
+    let put = put_if_found(all, policy, site, free);
+    policy.let_go(before);
+    put
+}
+
+/// Puts the texts that are found of a policy, with interfaces on which all passes and without.
+fn put_ways(all: &mut Vec<Tried>, policy: &mut Policy, site: &Site) -> Result<(), Stop> {
+    let is_small = policy.space.size() < FEW_WORDS;
+    let direct = policy.direct()?;
+    let verdict = policy.verdict(direct)?;
+    let loopback = free_interfaces(policy, verdict, false)?;
+    let wide = free_interfaces(policy, verdict, true)?;
+    if !loopback.numbers.is_empty() {
+        put_within(all, policy, site, &loopback)?;
+    }
+    if wide.numbers.len() > loopback.numbers.len() && is_small {
+        put_within(all, policy, site, &wide)?;
+    }
+    if all.is_empty() || is_small {
+        let none = Free::none(policy);
+        put_if_found(all, policy, site, &none)?;
+    }
+    Ok(())
+}
+
+/// The most words of diagrams with which more ways are tried once a text is found.
+const FEW_WORDS: usize = 20_000;
+
+/// The texts that are found of tables, those with fewest statements first. It gives up where established packets are dropped, which
+/// pf can't ask.
+fn all_found(alloc: Global, tables: &Tables, site: &Site, hints: &Flat) -> Result<Vec<Tried>, Stop>
     requires { IsSound site.now }
 {
     let mut policy = Policy::new(alloc, tables, site)?;
     policy.note_hints(hints)?;
-    put_found(texts, &mut policy, tables, site)
+    let established = policy.established(&tables.est, false)?;
+    if established.ahead.is_some() || established.behind.is_some() {
+        return Err(Stop::Late);
+    }
+    let mut all = Vec::new(alloc);
+    put_ways(&mut all, &mut policy, site)?;
+    Ok(all)
 }
 
 /// Texts of pf that may do what the tables say, best first: none where the search gave up. Nothing is promised of them. An
@@ -178,8 +205,15 @@ pub fn suggest(
     requires { IsSound site.now }
 {
     let mut texts = Vec::new(alloc);
-    match put_suggested(alloc, &mut texts, tables, site, hints) {
-        Ok(()) | Err(Stop::Late) => Ok(texts),
-        Err(Stop::Memory) => Err(Memory),
+    match all_found(alloc, tables, site, hints) {
+        Ok(all) => {
+            for tried in all {
+                let Tried { text, count: _ } = tried;
+                texts.push(text)?;
+            }
+        }
+        Err(Stop::Late) => {}
+        Err(Stop::Memory) => return Err(Memory),
     }
+    Ok(texts)
 }

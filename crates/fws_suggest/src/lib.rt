@@ -43,7 +43,7 @@ pub use measures::{Flags, Ports};
 pub use naming::interface_name;
 pub use phrases::Phrases;
 pub use prefixes::{is_network, network_of};
-pub use problems::{ACCEPT, DROP, Established, Exit, Policy};
+pub use problems::{ACCEPT, DROP, Established, Exit, Policy, Reach};
 pub use rules::{List, Rule};
 pub use settings::{Settings, System};
 pub use solving::{Colour, Task};

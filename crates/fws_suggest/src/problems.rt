@@ -7,8 +7,8 @@ use crate::rules::Rule;
 use crate::settings::Settings;
 use crate::style::Style;
 use fws_diagram::{
-    Cuts, DPORT, DST, Diagram, ENTRY, FLAGS, ICMP, Mask, Meeting, Region, SPORT, SRC, Side, Space,
-    Stop,
+    Cuts, DPORT, DST, Diagram, ENTRY, FLAGS, ICMP, Mask, Meeting, PROTO, Region, SPORT, SRC, Side,
+    Space, Stop,
 };
 use fws_iv::{Iv, Ivs};
 use fws_net::{End, Outcome, Site, local_set, route_set};
@@ -32,6 +32,17 @@ pub struct Exit {
     pub entry: u32,
     /// The destinations.
     pub side: Side,
+}
+
+/// Where packets that are dropped may be sent ahead of that.
+#[derive(Clone, Copy, Debug, PartialEq, Eq)]
+pub enum Reach {
+    /// Nowhere.
+    Strict,
+    /// Where an accepted packet with the same protocol, destination and port goes.
+    Near,
+    /// And where one with the same destination goes, unless a port is written there.
+    Wide,
 }
 
 /// The tables of a policy at a site, as diagrams.
@@ -458,17 +469,16 @@ impl Policy {
     }
 
     /// Which destinations may be written over those of packets from these entries: a colour is the place of a destination. What
-    /// is dropped may be left as it is and, where it isn't strict, may go where an accepted packet with its protocol, destination
-    /// and port goes.
-    pub fn redirections(&mut self, entries: Side, is_strict: bool) -> Result<Diagram, Stop> {
+    /// is dropped may be left as it is, or may go as far as the reach allows.
+    pub fn redirections(&mut self, entries: Side, reach: Reach) -> Result<Diagram, Stop> {
         let kept = self.space.only(0)?;
         let sent = self.sent()?;
         let region = self.everything().with(ENTRY, entries);
-        if is_strict {
+        if reach == Reach::Strict {
             let whole = self.replaced(sent, Mask::NONE, kept)?;
             return self.space.keep(whole, &region);
         }
-        let near = self.near(sent, entries, kept)?;
+        let near = self.near(sent, entries, kept, reach)?;
         // Where packets are accepted nothing of this is added.
         let drops = self.dropping()?;
         let more = self.space.meet(near, drops)?;
@@ -497,8 +507,14 @@ impl Policy {
         self.translated(fresh, &table)
     }
 
-    /// Where packets from these entries may go as one with the same protocol, destination and port does.
-    fn near(&mut self, sent: Diagram, entries: Side, kept: Mask) -> Result<Diagram, Stop> {
+    /// Where packets from these entries may go as one with the same protocol, destination and port does, or as far as the reach allows.
+    fn near(
+        &mut self,
+        sent: Diagram,
+        entries: Side,
+        kept: Mask,
+        reach: Reach,
+    ) -> Result<Diagram, Stop> {
         let others = self.space.others(ENTRY, entries)?;
         let outside = self.everything().with(ENTRY, others);
         let within = self.space.put(sent, &outside, Mask::NONE)?;
@@ -506,9 +522,32 @@ impl Policy {
         for field in [ENTRY, SRC, SPORT, FLAGS, ICMP] {
             near = self.space.project(near, field, Meeting::Either)?;
         }
+        if reach == Reach::Wide {
+            near = self.with_addresses(near)?;
+        }
         let wide = self.with_blocks(near, sent)?;
         let stays = self.space.leaf(kept)?;
         self.space.met(wide, stays, Meeting::Either)
+    }
+
+    /// A diagram of destinations in which one that has no port is allowed besides for all packets with the address of some that go there.
+    fn with_addresses(&mut self, near: Diagram) -> Result<Diagram, Stop> {
+        let mut masks = Vec::new(self.alloc);
+        for place in 0..self.destinations.len() {
+            let has_port = match self.destination_at(place) {
+                Some(end) => end.port.is_some(),
+                None => true,
+            };
+            masks.push(if has_port {
+                Mask::NONE
+            } else {
+                self.space.only(colour_of(place))?
+            })?;
+        }
+        let mut wide = self.translated(near, &masks)?;
+        wide = self.space.project(wide, PROTO, Meeting::Either)?;
+        wide = self.space.project(wide, DPORT, Meeting::Either)?;
+        self.space.met(near, wide, Meeting::Either)
     }
 
     /// A diagram of destinations in which a mapped network is allowed besides for all of a block of which some packet goes there.

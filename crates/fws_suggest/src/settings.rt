@@ -52,6 +52,8 @@ pub struct Settings {
     pub names_exits: bool,
     /// The list is that of packets that go out, where an entry is asked by `recv`.
     pub is_outward: bool,
+    /// Rules of a list may lead to lists that ask for the rest of what they ask.
+    pub calls_chains: bool,
     /// What another default than the first costs.
     pub default_penalty: u64,
     /// What a negated address costs.
@@ -82,6 +84,7 @@ impl Settings {
             widens: true,
             names_exits: false,
             is_outward: false,
+            calls_chains: true,
             default_penalty: 600,
             negation: 350,
             range: 150,
@@ -109,6 +112,7 @@ impl Settings {
             widens: false,
             names_exits: false,
             is_outward: false,
+            calls_chains: false,
             default_penalty: 600,
             negation: 350,
             range: 150,
@@ -136,6 +140,7 @@ impl Settings {
             widens: false,
             names_exits: false,
             is_outward: false,
+            calls_chains: false,
             default_penalty: 600,
             negation: 200,
             range: 150,
@@ -163,6 +168,7 @@ impl Settings {
             widens: false,
             names_exits: false,
             is_outward: false,
+            calls_chains: false,
             default_penalty: 600,
             negation: 350,
             range: 150,

@@ -6,7 +6,10 @@ use crate::solving::Budget;
 use fws_tree::{Node, Tables};
 
 /// How many steps may be taken whatever the size.
-const LEAST: u64 = 2_000_000;
+const LEAST: u64 = 8_000_000;
+
+/// How many of these may be taken for shorter lists, once there is one.
+const LEAST_ENOUGH: u64 = 400_000;
 
 /// How many steps may be taken for each node of the tables and each interval of its parts.
 const EACH: u64 = 3000;
@@ -14,7 +17,7 @@ const EACH: u64 = 3000;
 /// How many steps may be taken at most.
 const MOST: u64 = 150_000_000;
 
-/// Of how many steps one is taken for shorter lists, once there is one.
+/// Of how many of the others one is taken for shorter lists.
 const SHARE: u64 = 5;
 
 /// How many nodes there are, and intervals of their parts.
@@ -48,9 +51,24 @@ impl Policy {
     /// How many steps the search for the next list may take.
     pub(crate) fn steps_for_list(&self) -> Budget {
         let left = self.space.last_step().saturating_sub(self.space.steps());
+        let more = self.steps.saturating_sub(LEAST) / SHARE;
         Budget {
             most: (left / 4).saturating_mul(3),
-            enough: self.steps / SHARE,
+            enough: more.saturating_add(LEAST_ENOUGH),
         }
+    }
+
+    /// Holds one of so many parts of the steps that are left back, until `let_go` is called with what this gives.
+    pub fn hold_back(&mut self, parts: u64) -> u64 {
+        let before = self.space.last_step();
+        let left = before.saturating_sub(self.space.steps());
+        let kept = left.checked_div(parts).unwrap_or(0);
+        self.space.set_limit(before.saturating_sub(kept));
+        before
+    }
+
+    /// Lets searches take the steps that were held back.
+    pub fn let_go(&mut self, before: u64) {
+        self.space.set_limit(before);
     }
 }
