@@ -2,7 +2,7 @@
 
 use crate::ground::Ground;
 use crate::kinds::{Kind, Why};
-use crate::lists::rules_of;
+use crate::lists::rules_and_uses;
 use fws_events::read_events;
 use fws_net::{Cause, ReadAnswer, SiteAnswer, SiteCause, read_site};
 use fws_num::Memory;
@@ -11,7 +11,10 @@ use fws_trace::{LineAnswer, read_conns, read_packets};
 use std::alloc::Global;
 
 /// How many bytes are read in the time that a rule takes which a list of pf makes.
-const RULE: usize = 200;
+const RULE: usize = 30;
+
+/// How many bytes are read in the time that a use of a macro may take.
+const USE: usize = 1000;
 
 /// Where a text is refused.
 #[derive(Clone, Copy, Debug, PartialEq, Eq)]
@@ -26,7 +29,7 @@ pub(crate) struct Judge<'a> {
     pub(crate) alloc: Global,
     pub(crate) kind: Kind,
     pub(crate) ground: Option<&'a Ground>,
-    /// How many bytes may still be read. A rule of pf that a list makes counts as many.
+    /// How many bytes may still be read. A rule of pf that a list makes, and a use of a macro, count as many.
     pub(crate) left: usize,
 }
 
@@ -124,8 +127,11 @@ impl Judge<'_> {
     fn work(&self, text: &[u8]) -> Result<usize, Memory> {
         let bytes = text.len().saturating_add(1);
         if self.kind.is_pf() {
-            let rules = rules_of(self.alloc, text)?;
-            return Ok(bytes.saturating_add(rules.saturating_mul(RULE)));
+            let (rules, uses) = rules_and_uses(self.alloc, text)?;
+            let more = rules
+                .saturating_mul(RULE)
+                .saturating_add(uses.saturating_mul(USE));
+            return Ok(bytes.saturating_add(more));
         }
         Ok(bytes)
     }

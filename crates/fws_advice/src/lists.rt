@@ -1,12 +1,13 @@
-//! How many rules the lists of a text of pf stand for, about: what reading it costs goes by these, not by its bytes alone.
+//! How many rules the lists of a text of pf stand for, and how many uses of macros it has, about: what reading it costs goes by
+//! these, not by its bytes alone.
 
 use crate::bytes::{behind, byte_at, is_space, part};
 use fws_num::Memory;
 use std::alloc::Global;
 use std::collections::HashMap;
 
-/// More than any text may stand for.
-const MANY: usize = 1_000_000;
+/// The most rules that a text may stand for. A statement that makes more is refused before any of them is made.
+const MOST: usize = 200_000;
 
 /// The key of a macro's name. Names with one key count as one macro.
 fn key_of(name: &[u8]) -> u32 {
@@ -22,8 +23,10 @@ fn key_of(name: &[u8]) -> u32 {
 struct Lists {
     /// How many values macros stand for, by the keys of their names.
     macros: HashMap<u32, usize>,
-    /// How many rules the statements ahead make.
+    /// How many rules the statements before make.
     rules: usize,
+    /// How many uses of macros they have.
+    uses: usize,
     /// How many rules this statement makes.
     product: usize,
     /// How many values it has.
@@ -52,17 +55,26 @@ impl Lists {
             return;
         }
         let size = self.size(word);
+        if behind(word, b"$").is_some() {
+            self.uses = self.uses.saturating_add(1);
+        }
         self.values = self.values.saturating_add(size);
         match self.listed {
             Some(count) => self.listed = Some(count.saturating_add(size)),
-            None => self.product = self.product.saturating_mul(size).min(MANY),
+            None => self.product = self
+                .product
+                .saturating_mul(size)
+                .min(MOST.saturating_add(1)),
         }
     }
 
     /// Takes the end of a list.
     fn close(&mut self) {
         if let Some(count) = self.listed {
-            self.product = self.product.saturating_mul(count.max(1)).min(MANY);
+            self.product = self
+                .product
+                .saturating_mul(count.max(1))
+                .min(MOST.saturating_add(1));
         }
         self.listed = None;
     }
@@ -74,7 +86,11 @@ impl Lists {
                 let size = self.product.max(self.values);
                 self.macros.insert(key, size)?;
             }
-            None => self.rules = self.rules.saturating_add(self.product),
+            None => {
+                if self.product <= MOST {
+                    self.rules = self.rules.saturating_add(self.product);
+                }
+            }
         }
         self.product = 1;
         self.values = 0;
@@ -111,11 +127,12 @@ fn ends_word(c: u8) -> bool {
     is_space(c) || matches!(c, b',' | b'"' | b'{' | b'}' | b'=')
 }
 
-/// How many rules a text of pf stands for, about.
-pub(crate) fn rules_of(alloc: Global, text: &[u8]) -> Result<usize, Memory> {
+/// How many rules a text of pf stands for, and how many uses of macros it has, about.
+pub(crate) fn rules_and_uses(alloc: Global, text: &[u8]) -> Result<(usize, usize), Memory> {
     let mut lists = Lists {
         macros: HashMap::new(alloc),
         rules: 0,
+        uses: 0,
         product: 1,
         values: 0,
         listed: None,
@@ -137,5 +154,5 @@ pub(crate) fn rules_of(alloc: Global, text: &[u8]) -> Result<usize, Memory> {
         }
     }
     lists.end()?;
-    Ok(lists.rules)
+    Ok((lists.rules, lists.uses))
 }
