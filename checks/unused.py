@@ -137,7 +137,7 @@ def without(lines, rules):
 def of_cases(work):
     """The configurations that the cases of `dead` name, with their sites, as files below a folder."""
     cases = quick.all_cases()
-    asked = [case for case in cases if case.words[:1] == ['dead'] and case.status == 0]
+    asked = [case for case in cases if case.words[:1] == ['dead'] and len(case.words) == 4 and case.status == 0]
     for name, text in quick.files_of(asked, cases).items():
         path = os.path.join(work, name)
         os.makedirs(os.path.dirname(path), exist_ok=True)
