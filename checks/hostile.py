@@ -211,11 +211,11 @@ def wrong_memory(answer, whole):
 def wrong_device(answer, whole, words, call, interrupted):
     if wrong_beside(answer.told):
         return wrong_beside(answer.told)
-    if is_same(answer, whole) and interrupted:
+    if is_same(answer, whole) and (interrupted or call == 'tell'):
         return None
     if call == 'write' and answer.status == 5 and whole.text.startswith(answer.text) and answer.text != whole.text:
         return None
-    if call != 'write' and answer.status == 4 and answer.text in unread(words):
+    if call in ('open', 'read') and answer.status == 4 and answer.text in unread(words):
         return None
     return '%s where a call failed' % shown(answer)
 
@@ -234,7 +234,8 @@ def try_memory(faults, tally, jobs, short):
 
 
 def try_devices(faults, tally, short):
-    errors = {'open': (errno.EACCES, errno.EMFILE), 'read': (errno.EIO, errno.EINTR), 'write': (errno.EIO, errno.ENOSPC, errno.EINTR)}
+    full = errno.EIO, errno.ENOSPC, errno.EINTR
+    errors = {'open': (errno.EACCES, errno.EMFILE), 'read': (errno.EIO, errno.EINTR), 'write': full, 'tell': full}
     for words in COMMANDS[:SHORT_COMMANDS if short else None]:
         whole, _ = faults.run(words)
         for call in errors:

@@ -1,6 +1,7 @@
 /* Spoils one call of the program into which it is loaded ahead of the C library; checks/hostile.py compiles it and says how.
 
-   HOSTILE_CALL    which calls are counted, from 1: "allocate" (malloc, calloc and realloc), "open", "read" or "write"
+   HOSTILE_CALL    which calls are counted, from 1: "allocate" (malloc, calloc and realloc), "open", "read", "write" or, for writes to
+                   standard error, "tell"
    HOSTILE_NUMBER  the number of the call that is spoilt; 0 for none
    HOSTILE_ERROR   the number of the error with which it fails
    HOSTILE_PIECE   the most bytes that a read or a write takes; 0 for as many as are asked
@@ -100,5 +101,5 @@ ssize_t read(int descriptor, void *bytes, size_t count)
 
 ssize_t write(int descriptor, const void *bytes, size_t count)
 {
-    return is_spoilt("write") ? -1 : syscall(SYS_write, descriptor, bytes, taken(count));
+    return is_spoilt(descriptor == STDERR_FILENO ? "tell" : "write") ? -1 : syscall(SYS_write, descriptor, bytes, taken(count));
 }
