@@ -13,6 +13,7 @@ pub mod Merging
 pub mod Moved
 pub mod Noted
 pub mod Pasts
+pub mod Parted
 pub mod Passed
 pub mod Putting
 pub mod Reached

@@ -10,6 +10,7 @@ pub mod Joined
 pub mod Looks
 pub mod Moving
 pub mod MovingLaws
+pub mod Parts
 pub mod Passing
 pub mod Reaching
 pub mod Runs

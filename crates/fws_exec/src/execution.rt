@@ -17,6 +17,7 @@ ghost use Rattle.fws_exec.specs.Stages.{nowhere, passed, class_outcome};
 use crate::closed::open_parts;
 use crate::errand::Ground;
 use crate::idle::without_idle_tags;
+use crate::parts::{Job, execute_job};
 use crate::sheet::Sheet;
 use crate::spot::{Class, Spot, Stage};
 use crate::stages::Purpose;
@@ -100,7 +101,7 @@ pub(crate) fn executed(
 
 /// The tree of what becomes of each packet of the site on the sides where this code stands in the place of the code of `f`; other
 /// packets are dropped.
-fn execute_code(
+pub(crate) fn execute_code(
     alloc: Global,
     code: &[Ins],
     f: &Flat,
@@ -157,10 +158,25 @@ pub fn execute_within(
 {
     match without_idle_tags(alloc, f)? {
         Some(code) => {
-            let tree = execute_code(alloc, code.as_slice(), f, site, state, sides)?;
+            let job = Job {
+                code: code.as_slice(),
+                f,
+                site,
+                state,
+            };
+            let tree = execute_job(alloc, &job, sides)?;
             Ok(tree)
         }
-        None => execute_code(alloc, f.code.as_slice(), f, site, state, sides),
+        None => execute_job(
+            alloc,
+            &Job {
+                code: f.code.as_slice(),
+                f,
+                site,
+                state,
+            },
+            sides,
+        ),
     }
 }
 

@@ -20,6 +20,7 @@ mod marks;
 mod merge;
 mod moving;
 mod noting;
+mod parts;
 mod pass;
 mod progress;
 mod reaching;
