@@ -58,6 +58,11 @@ fn is_run_past(code: &[Ins], place: u32, other: u32) -> bool {
     }
 }
 
+/// Whether the instruction may be in a run. Nothing hangs on it but time.
+fn may_run(ins: &Ins) -> bool {
+    is_plain(ins) && bound_by(ins.act, u32::MAX) > 0
+}
+
 /// Whether the address may miss the set, or its negation, everywhere between two numbers unless the end is written over it. Nothing
 /// hangs on it but time.
 fn misses(end: Option<End>, lo: u32, hi: u32, set: &Ivs, negated: bool) -> bool {
@@ -232,21 +237,21 @@ impl Sheet {
         Ok(())
     }
 
-    /// Whether the class with this number may pass the instruction at the place by itself: only such as rules did something to,
-    /// since others meet again behind most conditions. Nothing hangs on it but time.
+    /// Whether the class with this number may pass the instruction at the place by itself: where the instruction may be in a run, only
+    /// a class to which rules did something, since others meet again behind most conditions. Nothing hangs on it but time.
     fn may_leap(&self, errand: &Errand<'_, '_>, number: u32, place: u32) -> bool {
-        let class = match self.roll.classes.get(number as usize) {
-            Some(class) => class,
+        let ins = match errand.code.get(place as usize) {
+            Some(ins) => ins,
             None => return false,
         };
-        if !class.progress.is_marked() {
-            return false;
-        }
         match (
+            self.roll.classes.get(number as usize),
             self.hulls.get(number as usize),
-            errand.code.get(place as usize),
         ) {
-            (Some(hull), Some(ins)) => class.progress.may_miss_all(hull, &ins.cond),
+            (Some(class), Some(hull)) => {
+                (class.progress.is_marked() || !may_run(ins))
+                    && class.progress.may_miss_all(hull, &ins.cond)
+            }
             _ => false,
         }
     }
