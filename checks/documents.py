@@ -1,7 +1,7 @@
 """python3 -B checks/documents.py, at the top of the repository
 
-Checks README.md, CONTRIBUTING.md, CHANGELOG.md, crates/README.md, checks/cases/README.md and docs/*.md; checks/documents.sh says
-how it is called and what it prints. What is checked:
+Checks README.md, CONTRIBUTING.md, CHANGELOG.md, crates/README.md, checks/cases/README.md and docs/*.md but the page of the definitions;
+checks/documents.sh says how it is called and what it prints. What is checked:
 
 - In a fenced block that has a line beginning `$ ./fws` or `$ tools/`, each line beginning `$ ` is a command, and the lines
   behind it, up to the next command or the end of the block, are exactly what it writes to standard output. Other blocks are
@@ -9,10 +9,9 @@ how it is called and what it prints. What is checked:
 - A text in backquotes that begins `usage: ` is what the program writes without words; and each form that `--help` lists
   stands in the page of the commands in backquotes, with `./fws` and without brackets.
 - The manual page and the completions say what `--help` says; checks/spoken.py has the particulars.
-- The map: each file crates/*/specs/*.antt but Lib.antt is named in the table below "Where the definitions are" of
-  docs/ARCHITECTURE.md.
-- Each path that is named in backquotes is there, in the map and elsewhere. `path_of` says which words are paths, and
-  where a file lies whose folder isn't written.
+- The page of the definitions is what checks/definitions.py writes.
+- Each path that is named in backquotes is there. `path_of` says which words are paths, and where a file lies whose folder isn't
+  written.
 - The list of crates, which are the items of crates/README.md that begin with the name of one, has each crate of crates.txt
   once, and above those that it uses; and each word in backquotes that has the form of a crate's name is one.
 - Numbers that can be counted, as `COUNTED` lists them, and the line of the toolchain.
@@ -26,13 +25,12 @@ import shlex
 import subprocess
 import sys
 
+import definitions
 from spoken import check_spoken
 
 COMMANDS = 'docs/COMMANDS.md'
 CLAIMS = 'docs/CLAIMS.md'
-ARCHITECTURE = 'docs/ARCHITECTURE.md'
 CRATE_LIST = 'crates/README.md'
-MAP = '## Where the definitions are'
 NAMES = ['README.md', 'CONTRIBUTING.md', 'CHANGELOG.md', CRATE_LIST, 'checks/cases/README.md']  # beside those of docs/
 PROGRAM = 'crates/fws/out/fws'
 SECONDS = 120  # that a command may take
@@ -73,10 +71,9 @@ class Tally:
 
 
 class Passage:
-    """A paragraph, an item of a list, a heading or a row of a table, with the heading above it."""
+    """A paragraph, an item of a list, a heading or a row of a table."""
 
-    def __init__(self, heading, line, text):
-        self.heading = heading
+    def __init__(self, line, text):
         self.line = line
         self.text = text
 
@@ -95,8 +92,7 @@ class Passage:
 class Block:
     """The lines of a fenced block; `line` is the number of the first of them."""
 
-    def __init__(self, heading, line):
-        self.heading = heading
+    def __init__(self, line):
         self.line = line
         self.lines = []
 
@@ -115,11 +111,11 @@ class Document:
 
     def divide(self):
         prose = []
-        heading, block, passage = '', None, None
+        block, passage = None, None
         for number, line in enumerate(self.text.split('\n'), 1):
             prose.append('')
             if line.startswith('```'):
-                block = None if block else Block(heading, number + 1)
+                block = None if block else Block(number + 1)
                 passage = None
                 if block:
                     self.blocks.append(block)
@@ -129,10 +125,8 @@ class Document:
                 passage = None
             else:
                 prose[-1] = line
-                if line.startswith('#'):
-                    heading = line
                 if passage is None or BEGINS_PASSAGE.match(line):
-                    passage = Passage(heading, number, line)
+                    passage = Passage(number, line)
                     self.passages.append(passage)
                 else:
                     passage.text += '\n' + line
@@ -302,16 +296,8 @@ def check_paths(tally, documents):
                     word, '' if path == word else ', looked for as ' + path))
 
 
-def check_map(tally, architecture):
-    """Each file of definitions stands in the map."""
-    rows = [passage for passage in architecture.passages if passage.heading == MAP and passage.text.startswith('|')]
-    if not tally.check(rows, ARCHITECTURE, 1, 'no table below "%s"' % MAP):
-        return
-    names = crates()
-    named = {path for row in rows for path, _, _ in paths_of(row, names)}
-    for path in sorted(ALL_PATHS):
-        if re.match(r'crates/[^/]+/specs/.*\.antt$', path) and os.path.basename(path) != 'Lib.antt':
-            tally.check(path in named, ARCHITECTURE, rows[-1].line, '%s is not in the map' % path)
+def check_definitions(tally):
+    tally.check(definitions.is_written(), definitions.PAGE, 1, 'not what `python3 -B checks/definitions.py --write` writes')
 
 
 # Crates
@@ -434,12 +420,12 @@ def check_examples(tally, documents):
 
 def main():
     tally = Tally()
-    documents = [Document(name) for name in NAMES + sorted(glob.glob('docs/*.md'))]
-    architecture = next(document for document in documents if document.name == ARCHITECTURE)
+    written = sorted(set(glob.glob('docs/*.md')) - {definitions.PAGE})
+    documents = [Document(name) for name in NAMES + written]
     crate_list = next(document for document in documents if document.name == CRATE_LIST)
     check_commands(tally, documents)
     check_paths(tally, documents)
-    check_map(tally, architecture)
+    check_definitions(tally)
     check_crates(tally, documents, crate_list)
     check_numbers(tally, documents)
     check_toolchain(tally, documents)

@@ -1,6 +1,6 @@
 #!/usr/bin/env bash
 # Checks README.md, CONTRIBUTING.md, CHANGELOG.md, crates/README.md, checks/cases/README.md and docs/*.md against the
-# repository and the built program: what commands are shown to write, the map of the definitions, paths, crates,
+# repository and the built program: what commands are shown to write, the page of the definitions, paths, crates,
 # numbers that can be counted, and examples; and the manual page and the completions against what ./fws --help says.
 # Prints a line `FILE:LINE: ..` for each thing that is wrong, and last how many checks there were and how many went
 # wrong. Exit status 1 where one did.
