@@ -9,7 +9,8 @@ checks/documents.sh says how it is called and what it prints. What is checked:
 - A text in backquotes that begins `usage: ` is what the program writes without words; and each form that `--help` lists
   stands in the page of the commands in backquotes, with `./fws` and without brackets.
 - The manual page and the completions say what `--help` says; checks/spoken.py has the particulars.
-- The page of the definitions is what checks/definitions.py writes.
+- The page of the definitions is what checks/definitions.py writes, and the page of the claims names functions and clauses that
+  are there, in short sentences (checks/claims.py).
 - Each path that is named in backquotes is there. `path_of` says which words are paths, and where a file lies whose folder isn't
   written.
 - The list of crates, which are the items of crates/README.md that begin with the name of one, has each crate of crates.txt
@@ -26,6 +27,7 @@ import subprocess
 import sys
 
 import definitions
+from claims import check_claims
 from spoken import check_spoken
 
 COMMANDS = 'docs/COMMANDS.md'
@@ -423,9 +425,11 @@ def main():
     written = sorted(set(glob.glob('docs/*.md')) - {definitions.PAGE})
     documents = [Document(name) for name in NAMES + written]
     crate_list = next(document for document in documents if document.name == CRATE_LIST)
+    claims = next(document for document in documents if document.name == CLAIMS)
     check_commands(tally, documents)
     check_paths(tally, documents)
     check_definitions(tally)
+    check_claims(tally, claims)
     check_crates(tally, documents, crate_list)
     check_numbers(tally, documents)
     check_toolchain(tally, documents)
