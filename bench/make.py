@@ -87,8 +87,8 @@ tabled: N rules, each of which uses the same table of N addresses.
 own: N rules that name every address of the host; in ipfw too.
 circled: N tables, of which each has an address and the next one, and the last one the first, and a rule for each.
 
-Of these, decided, redirected, translated, tagged, overridden, expanded, tabled and own are written for OpenBSD's pf too, with the same
-tables; where the others translate, a `match` rule writes. And this one is in OpenBSD's pf alone:
+Of these, decided, redirected, translated, tagged, overridden, expanded, chained, tabled, own and circled are written for OpenBSD's pf
+too, with the same tables; where the others translate, a `match` rule writes. And this one is in OpenBSD's pf alone:
 
 held: N rules, 255 at most, of which each redirects a port to a host of its own, held till the pass ends, and puts one of 50 tags, by
 which what goes out is passed.
@@ -702,7 +702,8 @@ FILES = {
            'tabled': tabled_pf, 'own': own_pf, 'overridden': overridden_pf, 'chained': chained_pf, 'circled': circled_pf,
            'repeated': repeated_pf, 'joined': joined_pf, 'defined': defined_pf, 'typed': typed_pf, 'passed': passed_pf},
     'openbsd': {'decided': decided_pf, 'redirected': redirected_openbsd, 'translated': translated_openbsd, 'tagged': tagged_pf,
-                'expanded': expanded_pf, 'tabled': tabled_pf, 'own': own_pf, 'overridden': overridden_pf, 'held': held_openbsd},
+                'expanded': expanded_pf, 'tabled': tabled_pf, 'own': own_pf, 'overridden': overridden_pf, 'chained': chained_pf,
+                'circled': circled_pf, 'held': held_openbsd},
     'ios': {'applied': applied_ios, 'bordered': bordered_ios, 'mapped': mapped_ios, 'asked': asked_ios},
 }
 

@@ -117,9 +117,17 @@ for family in redirected translated tagged; do
     doubled openbsd "$family" 1000
 done
 rules_in openbsd held 1.5 200
-for family in decided overridden redirected translated tagged; do
+rules_in openbsd circled 0.5 1000
+doubled openbsd circled 1000
+python3 "$top/bench/make.py" 400 expanded openbsd >"$work/file" || exit 1
+measure expanded 400 3 300 "$program" synth openbsd "$site" "$work/file" new
+for family in decided overridden redirected translated tagged circled; do
     python3 "$top/bench/ratio.py" openbsd "$family" 1000 1.3 "$program" "$site" pf || status=1
 done
+python3 "$top/bench/ratio.py" openbsd chained 800 1.3 "$program" "$site" pf || status=1
+python3 "$top/bench/ratio.py" openbsd expanded 400 1.3 "$program" "$site" pf || status=1
+python3 "$top/bench/ratio.py" openbsd tabled 4000 1.3 "$program" "$site" pf || status=1
+python3 "$top/bench/ratio.py" openbsd own 2000 1.3 "$program" "$work/site.992" pf || status=1
 
 echo 'family uses seconds megabytes'
 for family in repeated joined defined typed; do

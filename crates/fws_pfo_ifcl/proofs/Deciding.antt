@@ -1,5 +1,5 @@
 -- The rules of the tail decide as its rules do.
-use Rattle.std.proofs.Common.{◌≡◌, ℕ, suc, ◌+◌, ◌-◌, ◌<◌, ◌≤◌, ◌⊎◌, inl, inr, Bool, true, false, not, cond, ◌&&◌, ◌||◌, Option, Some, None, is_some, List, [], ◌∷◌, ◌++◌, length, get_or, take, drop, take-suc, arith, refl, sym, ap, ◌∙◌, subst, length-append, append_assoc, append-nil}
+use Rattle.std.proofs.Common.{◌≡◌, ℕ, suc, ◌+◌, ◌≤◌, ◌⊎◌, inl, inr, Bool, true, false, not, cond, ◌&&◌, ◌||◌, Option, Some, None, is_some, List, [], ◌∷◌, ◌++◌, length, drop, arith, refl, sym, ap, ◌∙◌, subst, length-append, append_assoc, append-nil}
 use Rattle.std.proofs.lemmas.Bool.{false≢true, and_parts, or_parts}
 use Rattle.std.specs.List.{list_all, list_any}
 use Rattle.fws_net.specs.declared.condition.Lit.{Lit}
@@ -8,9 +8,9 @@ use Rattle.fws_net.specs.declared.outcome.End.{End}
 use Rattle.fws_net.specs.declared.packet.Packet.{Packet}
 use Rattle.fws_net.specs.declared.site.Site.{Site}
 use Rattle.fws_net.specs.declared.transit.Transit.{Transit}
+use Rattle.fws_net.specs.declared.view.View.{View}
 use Rattle.fws_net.specs.Conditions.{holds}
 use Rattle.fws_net.specs.Transits.{with_verdict}
-use Rattle.fws_ifcl.specs.declared.diagram.Rule.{Rule}
 use Rattle.fws_ifcl.specs.declared.step.ChainEnd.TheVariants.{Accepted, Dropped}
 use Rattle.fws_ifcl.specs.Walk.{stage_end}
 use Rattle.fws_draw.specs.Places.{run, Stands}
@@ -22,7 +22,9 @@ use Rattle.fws_pfo.specs.declared.config.PfoKind.TheVariants.{Pass, Block, Match
 use Rattle.fws_pfo.specs.declared.config.PfoRule.{PfoRule}
 use Rattle.fws_pfo.specs.Soundness.{passes, decides_nothing, rule_fits}
 use Rattle.fws_pfo.specs.Walk.{moved, acted_by, held_by, ended, rules_walk}
-use Rattle.fws_pfo_ifcl.specs.Blocks.{acting, decision, writing, writes_at_once, changes_sight, behind_changes, tail_place, deciding, decides_first, decides_last, quick_rules, slow_rules, tail_rules}
+use Rattle.fws_pfo_ifcl.specs.declared.ruling.Ruling.{Ruling}
+use Rattle.fws_pfo_ifcl.specs.Blocks.{acting, decision, writing, writes_at_once, changes_sight, behind_changes, tail_place, ruling_by, deciding, decides_first, decides_last, quick_rulings, slow_rulings, tail_rulings, ruling_rules, tail_rules}
+use Rattle.fws_pfo_ifcl.specs.Rulings.{Said, unsaid, dropping, passing, said, first_said, StandFor}
 use Rattle.fws_pfo_ifcl.proofs.Acts.{acting_accepts, acting_drops}
 use Rattle.fws_pfo_ifcl.proofs.Courses.{Course}
 use Rattle.fws_pfo_ifcl.proofs.Shown.{IsAlike, Agree, agree_by, end_by, holds_same, moved_alike, verdict_alike, writing_done, writing_changes, ended_passed, ended_blocked}
@@ -84,44 +86,6 @@ untouched outward rs n (inr h) =
 
 pub tail_untouched : (outward : Bool) (rs : List PfoRule) → Untouched outward (drop (tail_place outward rs) rs)
 tail_untouched outward rs = untouched outward rs (tail_place outward rs) (found outward 0 0 rs)
-
--- a further rule ahead of those that aren't quick
-pub slow_more : (outward : Bool) (at : ℕ) (rs : List PfoRule) (r : PfoRule)
-    → slow_rules outward at (rs ++ r ∷ [])
-    ≡ deciding (decides_last outward r) outward at r ++ slow_rules outward (at + length (deciding (decides_last outward r) outward at r)) rs
-slow_more outward at [] r =
-    let same : at + 0 ≡ at = omega arith in
-    ap (λ n. deciding (decides_last outward r) outward n r) same ∙ sym (append-nil (deciding (decides_last outward r) outward at r))
-slow_more outward at (first ∷ rs) r =
-    let here = deciding (decides_last outward r) outward at r in
-    let next = at + length here in
-    let behind = slow_rules outward next rs in
-    let last = λ (n : ℕ). deciding (decides_last outward first) outward n first in
-    let more : slow_rules outward at (rs ++ r ∷ []) ≡ here ++ behind = slow_more outward at rs r in
-    let many : length (here ++ behind) ≡ length here + length behind = length-append here behind in
-    let place : at + length (here ++ behind) ≡ next + length behind = omega (arith, many) in
-    ap (λ l. l ++ last (at + length l)) more
-    ∙ ap (λ n. here ++ behind ++ last n) place
-    ∙ append_assoc here behind (last (next + length behind))
-
--- they are put from the last one on
-pub slow_put : (outward : Bool) (rs : List PfoRule) (i : ℕ) (r d : PfoRule) (a b o : List Rule) → 0 < i → i ≤ length rs → r ≡ get_or rs (i - 1) d
-    → b ≡ a ++ deciding (decides_last outward r) outward (length a) r → a ++ slow_rules outward (length a) (take i rs) ≡ o
-    → b ++ slow_rules outward (length b) (take (i - 1) rs) ≡ o
-slow_put outward rs i r d a b o lt le is put inv =
-    let on : i ≡ suc (i - 1) = omega (arith, lt) in
-    let less = take (i - 1) rs in
-    let here = deciding (decides_last outward r) outward (length a) r in
-    let long : length b ≡ length a + length here = ap length put ∙ length-append a here in
-    let more : slow_rules outward (length a) (take i rs) ≡ here ++ slow_rules outward (length a + length here) less =
-    ap (λ n. slow_rules outward (length a) (take n rs)) on
-    ∙ ap (slow_rules outward (length a)) (take-suc rs (i - 1) d (omega (arith, lt, le)))
-    ∙ slow_more outward (length a) less (get_or rs (i - 1) d)
-    ∙ ap (λ x. deciding (decides_last outward x) outward (length a) x ++ slow_rules outward (length a + length (deciding (decides_last outward x) outward (length a) x)) less) (sym is) in
-    ap (λ n. b ++ slow_rules outward n less) long
-    ∙ ap (λ l. l ++ slow_rules outward (length a + length here) less) put
-    ∙ append_assoc a here (slow_rules outward (length a + length here) less)
-    ∙ ap (λ l. a ++ l) (sym more) ∙ inv
 
 -- What the rules of the tail decide
 
@@ -187,90 +151,120 @@ filter_decides site p tags outward (r ∷ rs) t none fit held v =
     rule_decides p outward (is_met r.way outward) (holds r.cond (view_on site outward t)) r.quick r.kind r.tag r.to held v t (rules_walk site p outward rs)
     (quick_or site p outward rs t) (slow_or site p outward rs t) both.0 (fitting tags r fits.0).slow (filter_decides site p tags outward rs t both.1 fits.1)
 
--- Their rules in the diagram
+-- What is said of packets
 
--- a rule that decides, at a place behind which other rules decide so
-decided_walk : (outward : Bool) (w : Course New outward) (tags at : ℕ) (test : List Lit) (kind : PfoKind) (to : Option End) → cond_fits tags test ≡ true
-    → Stands w at (acting at test (decision outward to kind)) → (t u : Transit) → IsAlike tags t u → (o : Option Transit)
-    → Agree tags o (stage_end (run w (at + length (acting at test (decision outward to kind))) u))
-    → Agree tags (decided_by w.p outward to kind (holds test (view_on w.site outward t)) (with_verdict true t) o) (stage_end (run w at u))
-decided_walk outward w tags at test Pass to fit s t u h o next =
-    let past = at + length (acting at test (decision outward to Pass)) in
+-- what becomes of a packet by what is said of it, or by what is behind
+abbrev said_by : Packet → Bool → Transit → Option Transit → Said → Option Transit
+said_by p outward t o unsaid = o
+said_by p outward t o dropping = None
+said_by p outward t o (passing to) = Some (moved p outward to t)
+
+one_said : (b passes : Bool) (to : Option End) (p : Packet) (outward : Bool) (t : Transit) (o : Option Transit) (more : Said)
+    → cond b (said_by p outward t o (said passes to)) (said_by p outward t o more) ≡ said_by p outward t o (cond b (said passes to) more)
+one_said true passes to p outward t o more = refl
+one_said false passes to p outward t o more = refl
+
+-- by the rulings of rules, whatever they see
+ruling_first : (p : Packet) (outward : Bool) (v : View) (kind : PfoKind) (test : List Lit) (to : Option End) (rest : List Ruling) (t : Transit) (o : Option Transit)
+    → said_by p outward t o (first_said v (ruling_by kind test to ++ rest)) ≡ decided_by p outward to kind (holds test v) t (said_by p outward t o (first_said v rest))
+ruling_first p outward v Pass test to rest t o = sym (one_said (holds test v) true to p outward t o (first_said v rest))
+ruling_first p outward v Block test to rest t o = sym (one_said (holds test v) false to p outward t o (first_said v rest))
+ruling_first p outward v Match test to rest t o = refl
+
+deciding_first : (p : Packet) (outward : Bool) (v : View) (decides : Bool) (r : PfoRule) (rest : List Ruling) (t : Transit) (o : Option Transit)
+    → said_by p outward (with_verdict true t) o (first_said v (deciding decides r ++ rest))
+    ≡ choosing p outward decides (holds r.cond v) r.kind r.to t (said_by p outward (with_verdict true t) o (first_said v rest))
+deciding_first p outward v false r rest t o = refl
+deciding_first p outward v true r rest t o = ruling_first p outward v r.kind r.cond r.to rest (with_verdict true t) o
+
+-- conditions of rules that fit hold of packets that are alike
+quick_first : (site : Site) (p : Packet) (tags : ℕ) (outward : Bool) (rs : List PfoRule) (rest : List Ruling) (t u : Transit) → list_all (rule_fits tags) rs ≡ true → IsAlike tags t u
+    → (o : Option Transit)
+    → said_by p outward (with_verdict true t) o (first_said (view_on site outward u) (quick_rulings outward rs ++ rest))
+    ≡ quick_or site p outward rs t (said_by p outward (with_verdict true t) o (first_said (view_on site outward u) rest))
+quick_first site p tags outward [] rest t u fit h o = refl
+quick_first site p tags outward (r ∷ rs) rest t u fit h o =
+    let fits = and_parts (rule_fits tags r) (list_all (rule_fits tags) rs) fit in
+    let v = view_on site outward u in
+    let passed = with_verdict true t in
+    let decides = decides_first outward r in
+    let more = quick_rulings outward rs ++ rest in
+    ap (λ l. said_by p outward passed o (first_said v l)) (append_assoc (deciding decides r) (quick_rulings outward rs) rest)
+    ∙ deciding_first p outward v decides r more t o
+    ∙ ap (λ b. choosing p outward decides b r.kind r.to t (said_by p outward passed o (first_said v more))) (holds_same tags r.cond (fitting tags r fits.0).test site outward t u h)
+    ∙ ap (choosing p outward decides (holds r.cond (view_on site outward t)) r.kind r.to t) (quick_first site p tags outward rs rest t u fits.1 h o)
+
+slow_first : (site : Site) (p : Packet) (tags : ℕ) (outward : Bool) (rs : List PfoRule) (rest : List Ruling) (t u : Transit) → list_all (rule_fits tags) rs ≡ true → IsAlike tags t u
+    → (o : Option Transit)
+    → said_by p outward (with_verdict true t) o (first_said (view_on site outward u) (slow_rulings outward rs ++ rest))
+    ≡ slow_or site p outward rs t (said_by p outward (with_verdict true t) o (first_said (view_on site outward u) rest))
+slow_first site p tags outward [] rest t u fit h o = refl
+slow_first site p tags outward (r ∷ rs) rest t u fit h o =
+    let fits = and_parts (rule_fits tags r) (list_all (rule_fits tags) rs) fit in
+    let v = view_on site outward u in
+    let passed = with_verdict true t in
+    let decides = decides_last outward r in
+    let behind = said_by p outward passed o (first_said v rest) in
+    ap (λ l. said_by p outward passed o (first_said v l)) (append_assoc (slow_rulings outward rs) (deciding decides r) rest)
+    ∙ slow_first site p tags outward rs (deciding decides r ++ rest) t u fits.1 h o
+    ∙ ap (slow_or site p outward rs t)
+    (deciding_first p outward v decides r rest t o
+    ∙ ap (λ b. choosing p outward decides b r.kind r.to t behind) (holds_same tags r.cond (fitting tags r fits.0).test site outward t u h))
+
+-- Rules of rulings
+
+-- those of one, at a place behind which other rules decide so
+ruling_walk : (outward : Bool) (w : Course New outward) (tags at : ℕ) (test : List Lit) (passes : Bool) (to : Option End)
+    → Stands w at (acting at test (decision outward to passes)) → (t u : Transit) → IsAlike tags t u → (x o : Option Transit)
+    → Agree tags o (stage_end (run w (at + length (acting at test (decision outward to passes))) u))
+    → Agree tags (cond (holds test (view_on w.site outward u)) (said_by w.p outward (with_verdict true t) x (said passes to)) o) (stage_end (run w at u))
+ruling_walk outward w tags at test true to s t u h x o next =
+    let past = at + length (acting at test (decision outward to true)) in
     let b = holds test (view_on w.site outward u) in
-    subst (λ x. Agree tags (cond (holds test (view_on w.site outward t)) (Some (moved w.p outward to (with_verdict true t))) o) x)
+    subst (λ y. Agree tags (cond b (Some (moved w.p outward to (with_verdict true t))) o) y)
     (sym (ap stage_end (acting_accepts w at test (writing outward to) (writing_changes outward to) s u
     ∙ ap (λ y. cond b (Accepted y) (run w past u)) (writing_done w.p outward to u)) ∙ end_by b (Accepted (moved w.p outward to u)) (run w past u)))
-    (agree_by tags (holds test (view_on w.site outward t)) b (holds_same tags test fit w.site outward t u h) _ o _ (stage_end (run w past u))
-    (moved_alike tags w.p outward to (with_verdict true t) u (verdict_alike tags true t u h)) next)
-decided_walk outward w tags at test Block to fit s t u h o next =
+    (agree_by tags b b refl _ o _ (stage_end (run w past u)) (moved_alike tags w.p outward to (with_verdict true t) u (verdict_alike tags true t u h)) next)
+ruling_walk outward w tags at test false to s t u h x o next =
     let b = holds test (view_on w.site outward u) in
-    subst (λ x. Agree tags (cond (holds test (view_on w.site outward t)) None o) x)
+    subst (λ y. Agree tags (cond b None o) y)
     (sym (ap stage_end (acting_drops w at test s u) ∙ end_by b Dropped (run w (at + 1) u)))
-    (agree_by tags (holds test (view_on w.site outward t)) b (holds_same tags test fit w.site outward t u h) None o None (stage_end (run w (at + 1) u)) tt next)
-decided_walk outward w tags at test Match to fit s t u h o next =
-    let same : at + 0 ≡ at = omega arith in
-    subst (λ n. Agree tags o (stage_end (run w n u))) same next
+    (agree_by tags b b refl None o None (stage_end (run w (at + 1) u)) tt next)
 
-deciding_walk : (outward : Bool) (w : Course New outward) (tags at : ℕ) (decides : Bool) (r : PfoRule) → cond_fits tags r.cond ≡ true
-    → Stands w at (deciding decides outward at r) → (t u : Transit) → IsAlike tags t u → (o : Option Transit)
-    → Agree tags o (stage_end (run w (at + length (deciding decides outward at r)) u))
-    → Agree tags (choosing w.p outward decides (holds r.cond (view_on w.site outward t)) r.kind r.to t o) (stage_end (run w at u))
-deciding_walk outward w tags at false r fit s t u h o next =
+-- those of all
+rulings_walk : (outward : Bool) (w : Course New outward) (tags at : ℕ) (all : List Ruling) → Stands w at (tail_rules outward at all) → (t u : Transit) → IsAlike tags t u
+    → (o : Option Transit) → Agree tags o (stage_end (run w (at + length (tail_rules outward at all)) u))
+    → Agree tags (said_by w.p outward (with_verdict true t) o (first_said (view_on w.site outward u) all)) (stage_end (run w at u))
+rulings_walk outward w tags at [] s t u h o next =
     let same : at + 0 ≡ at = omega arith in
     subst (λ n. Agree tags o (stage_end (run w n u))) same next
-deciding_walk outward w tags at true r fit s t u h o next = decided_walk outward w tags at r.cond r.kind r.to fit s t u h o next
-
-quick_walk : (outward : Bool) (w : Course New outward) (tags at : ℕ) (rs : List PfoRule) → list_all (rule_fits tags) rs ≡ true
-    → Stands w at (quick_rules outward at rs) → (t u : Transit) → IsAlike tags t u → (o : Option Transit)
-    → Agree tags o (stage_end (run w (at + length (quick_rules outward at rs)) u))
-    → Agree tags (quick_or w.site w.p outward rs t o) (stage_end (run w at u))
-quick_walk outward w tags at [] fit s t u h o next =
-    let same : at + 0 ≡ at = omega arith in
-    subst (λ n. Agree tags o (stage_end (run w n u))) same next
-quick_walk outward w tags at (r ∷ rs) fit s t u h o next =
-    let fits = and_parts (rule_fits tags r) (list_all (rule_fits tags) rs) fit in
-    let here = deciding (decides_first outward r) outward at r in
+rulings_walk outward w tags at (one ∷ all) s t u h o next =
+    let v = view_on w.site outward u in
+    let passed = with_verdict true t in
+    let here = ruling_rules outward at one in
     let place = at + length here in
-    let more = quick_rules outward place rs in
+    let more = tail_rules outward place all in
     let parts = w.law.parts place here more s refl in
     let many : length (here ++ more) ≡ length here + length more = length-append here more in
     let same : at + length (here ++ more) ≡ place + length more = omega (arith, many) in
-    deciding_walk outward w tags at (decides_first outward r) r (fitting tags r fits.0).test parts.0 t u h (quick_or w.site w.p outward rs t o)
-    (quick_walk outward w tags place rs fits.1 parts.1 t u h o (subst (λ n. Agree tags o (stage_end (run w n u))) same next))
-
-slow_walk : (outward : Bool) (w : Course New outward) (tags at : ℕ) (rs : List PfoRule) → list_all (rule_fits tags) rs ≡ true
-    → Stands w at (slow_rules outward at rs) → (t u : Transit) → IsAlike tags t u → (o : Option Transit)
-    → Agree tags o (stage_end (run w (at + length (slow_rules outward at rs)) u))
-    → Agree tags (slow_or w.site w.p outward rs t o) (stage_end (run w at u))
-slow_walk outward w tags at [] fit s t u h o next =
-    let same : at + 0 ≡ at = omega arith in
-    subst (λ n. Agree tags o (stage_end (run w n u))) same next
-slow_walk outward w tags at (r ∷ rs) fit s t u h o next =
-    let fits = and_parts (rule_fits tags r) (list_all (rule_fits tags) rs) fit in
-    let ahead = slow_rules outward at rs in
-    let place = at + length ahead in
-    let last = deciding (decides_last outward r) outward place r in
-    let parts = w.law.parts place ahead last s refl in
-    let many : length (ahead ++ last) ≡ length ahead + length last = length-append ahead last in
-    let same : at + length (ahead ++ last) ≡ place + length last = omega (arith, many) in
-    slow_walk outward w tags at rs fits.1 parts.0 t u h
-    (choosing w.p outward (decides_last outward r) (holds r.cond (view_on w.site outward t)) r.kind r.to t o)
-    (deciding_walk outward w tags place (decides_last outward r) r (fitting tags r fits.0).test parts.1 t u h o
-    (subst (λ n. Agree tags o (stage_end (run w n u))) same next))
+    let rest = rulings_walk outward w tags place all parts.1 t u h o (subst (λ n. Agree tags o (stage_end (run w n u))) same next) in
+    subst (λ x. Agree tags x (stage_end (run w at u))) (one_said (holds one.cond v) one.passes one.to w.p outward passed o (first_said v all))
+    (ruling_walk outward w tags at one.cond one.passes one.to parts.0 t u h o (said_by w.p outward passed o (first_said v all)) rest)
 
 -- the tail, behind which what is held decides
-pub tail_walk : (outward : Bool) (w : Course New outward) (tags at : ℕ) (rs : List PfoRule) → list_all (rule_fits tags) rs ≡ true → Untouched outward rs
-    → Stands w at (tail_rules outward at rs) → (held : Option End) (t u : Transit) → IsAlike tags t u
-    → Agree tags (ended w.p outward held t) (stage_end (run w (at + length (tail_rules outward at rs)) u))
+pub tail_walk : (outward : Bool) (w : Course New outward) (tags at : ℕ) (rs : List PfoRule) (tail : List Ruling) → list_all (rule_fits tags) rs ≡ true → Untouched outward rs
+    → StandFor tail (tail_rulings outward rs) → Stands w at (tail_rules outward at tail) → (held : Option End) (t u : Transit) → IsAlike tags t u
+    → Agree tags (ended w.p outward held t) (stage_end (run w (at + length (tail_rules outward at tail)) u))
     → Agree tags (rules_walk w.site w.p outward rs held t) (stage_end (run w at u))
-tail_walk outward w tags at rs fit none s held t u h next =
-    let quick = quick_rules outward at rs in
-    let place = at + length quick in
-    let slow = slow_rules outward place rs in
-    let parts = w.law.parts place quick slow s refl in
-    let many : length (quick ++ slow) ≡ length quick + length slow = length-append quick slow in
-    let same : at + length (quick ++ slow) ≡ place + length slow = omega (arith, many) in
+tail_walk outward w tags at rs tail fit none stands s held t u h next =
+    let v = view_on w.site outward u in
+    let passed = with_verdict true t in
     let o = ended w.p outward held t in
-    subst (λ x. Agree tags x (stage_end (run w at u))) (sym (filter_decides w.site w.p tags outward rs t none fit held t.verdict))
-    (quick_walk outward w tags at rs fit parts.0 t u h (slow_or w.site w.p outward rs t o)
-    (slow_walk outward w tags place rs fit parts.1 t u h o (subst (λ n. Agree tags o (stage_end (run w n u))) same next)))
+    let slow = slow_rulings outward rs in
+    let same : said_by w.p outward passed o (first_said v tail) ≡ rules_walk w.site w.p outward rs held t =
+    ap (said_by w.p outward passed o) (stands v)
+    ∙ quick_first w.site w.p tags outward rs slow t u fit h o
+    ∙ ap (quick_or w.site w.p outward rs t)
+    (ap (λ l. said_by w.p outward passed o (first_said v l)) (sym (append-nil slow)) ∙ slow_first w.site w.p tags outward rs [] t u fit h o)
+    ∙ sym (filter_decides w.site w.p tags outward rs t none fit held t.verdict) in
+    subst (λ x. Agree tags x (stage_end (run w at u))) same (rulings_walk outward w tags at tail s t u h o next)

@@ -22,7 +22,8 @@ use Rattle.fws_pfo.specs.declared.config.PfoRule.{PfoRule}
 use Rattle.fws_pfo.specs.Soundness.{decides_nothing, rule_fits}
 use Rattle.fws_pfo.specs.Walk.{moved, acted_by, held_by, ended, rules_walk}
 use Rattle.fws_pfo_ifcl.specs.declared.frame.Frame.{Frame}
-use Rattle.fws_pfo_ifcl.specs.Blocks.{acting, only_tag, holding, writing, tagging, changes, ending, met_rule, met_rules, tail_place, tail_rules, held_rules, head_of, tail_of, ahead_rules, filter_rules}
+use Rattle.fws_pfo_ifcl.specs.declared.ruling.Ruling.{Ruling}
+use Rattle.fws_pfo_ifcl.specs.Blocks.{acting, only_tag, holding, writing, tagging, changes, ending, met_rule, met_rules, IsTail, tail_place, tail_rules, held_rules, head_of, tail_of, ahead_rules, filter_rules}
 use Rattle.fws_pfo_ifcl.specs.Ends.{same_end, end_held, end_of, with_end, gathered}
 use Rattle.fws_pfo_ifcl.proofs.Acts.{done, done_append, are_changes, changes_append, acting_walk, acting_accepts, acting_drops}
 use Rattle.fws_pfo_ifcl.proofs.Courses.{Course}
@@ -169,26 +170,27 @@ fits_split tags n rs fit =
     and_parts (list_all (rule_fits tags) (take n rs)) (list_all (rule_fits tags) (drop n rs))
     (sym (list_all-append (rule_fits tags) (take n rs) (drop n rs)) ∙ ap (list_all (rule_fits tags)) (take-append-drop n rs) ∙ fit)
 
-pub filter_walk : (f : Frame) (w : Course New f.outward) (at : ℕ) (rs : List PfoRule) → length f.ends < 2 ^ f.bits → gathered f.outward [] (head_of f.outward rs) ≡ f.ends
-    → list_all (rule_fits f.tags) rs ≡ true → Stands w at (filter_rules f at rs) → drop (at + length (filter_rules f at rs)) w.full ≡ []
+pub filter_walk : (f : Frame) (w : Course New f.outward) (at : ℕ) (rs : List PfoRule) (tail : List Ruling) → length f.ends < 2 ^ f.bits
+    → gathered f.outward [] (head_of f.outward rs) ≡ f.ends → list_all (rule_fits f.tags) rs ≡ true → IsTail f.outward rs tail
+    → Stands w at (filter_rules f at rs tail) → drop (at + length (filter_rules f at rs tail)) w.full ≡ []
     → (held : Option End) (t u : Transit) → Shows f false held t u → Agree f.tags (rules_walk w.site w.p f.outward rs held t) (stage_end (run w at u))
-filter_walk f w at rs room are fit s none held t u h =
+filter_walk f w at rs tail room are fit stands s none held t u h =
     let n = tail_place f.outward rs in
     let fits = fits_split f.tags n rs fit in
     let ahead = ahead_rules f at rs in
     let place = at + length ahead in
-    let tail = tail_rules f.outward place (tail_of f.outward rs) in
-    let later = at + length (ahead ++ tail) in
+    let middle = tail_rules f.outward place tail in
+    let later = at + length (ahead ++ middle) in
     let last = held_rules f later 1 f.ends in
-    let parts = w.law.parts later (ahead ++ tail) last s refl in
-    let both = w.law.parts place ahead tail parts.0 refl in
-    let many : length (ahead ++ tail) ≡ length ahead + length tail = length-append ahead tail in
-    let all : length (ahead ++ tail ++ last) ≡ length (ahead ++ tail) + length last = length-append (ahead ++ tail) last in
-    let same : later ≡ place + length tail = omega (arith, many) in
-    let final : at + length (ahead ++ tail ++ last) ≡ later + length last = omega (arith, all) in
+    let parts = w.law.parts later (ahead ++ middle) last s refl in
+    let both = w.law.parts place ahead middle parts.0 refl in
+    let many : length (ahead ++ middle) ≡ length ahead + length middle = length-append ahead middle in
+    let all : length (ahead ++ middle ++ last) ≡ length (ahead ++ middle) + length last = length-append (ahead ++ middle) last in
+    let same : later ≡ place + length middle = omega (arith, many) in
+    let final : at + length (ahead ++ middle ++ last) ≡ later + length last = omega (arith, all) in
     let behind : (more : Bool) (held : Option End) (t u : Transit) → Shows f more held t u → Agree f.tags (ended w.p f.outward held t) (stage_end (run w later u)) =
     held_walk f w room later parts.1 (subst (λ k. drop k w.full ≡ []) final none) in
     subst (λ list. Agree f.tags (rules_walk w.site w.p f.outward list held t) (stage_end (run w at u))) (take-append-drop n rs)
     (head_walk f w (tail_of f.outward rs) at false [] (head_of f.outward rs) are fits.0 both.0
-    (λ more held t u h. tail_walk f.outward w f.tags place (tail_of f.outward rs) fits.1 (tail_untouched f.outward rs) both.1 held t u h.alike
+    (λ more held t u h. tail_walk f.outward w f.tags place (tail_of f.outward rs) tail fits.1 (tail_untouched f.outward rs) stands both.1 held t u h.alike
     (subst (λ k. Agree f.tags (ended w.p f.outward held t) (stage_end (run w k u))) same (behind more held t u h))) held t u h)

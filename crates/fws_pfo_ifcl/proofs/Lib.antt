@@ -7,5 +7,7 @@ pub mod Filtering
 pub mod HeldWalk
 pub mod Numbered
 pub mod Passing
+pub mod Putting
 pub mod Shown
+pub mod Standing
 pub mod Tags

@@ -17,8 +17,9 @@ use Rattle.fws_pfo.specs.declared.config.PfoKind.{PfoKind}
 use Rattle.fws_pfo.specs.declared.config.PfoKind.TheVariants.{Pass, Block, Match}
 use Rattle.fws_pfo.specs.declared.config.PfoRule.{PfoRule}
 use Rattle.fws_pfo_ifcl.specs.declared.frame.Frame.{Frame}
-use Rattle.fws_pfo_ifcl.specs.Blocks.{writing, only_tag, changes, decision, ending, acting, met_rule, met_rules, tail_of, head_of, deciding, decides_first, decides_last, quick_rules, slow_rules, tail_rules, held_rule, held_rules, ahead_rules, filter_rules}
-use Rattle.fws_pfo_ifcl.specs.Diagram.{tracking, skipping, clearing, larger, frame_of, front_rules, pass_rules, chains_of, diagram_of}
+use Rattle.fws_pfo_ifcl.specs.declared.ruling.Ruling.{Ruling}
+use Rattle.fws_pfo_ifcl.specs.Blocks.{writing, only_tag, changes, decision, ending, acting, met_rule, met_rules, head_of, ruling_rules, tail_rules, held_rule, held_rules, ahead_rules, filter_rules}
+use Rattle.fws_pfo_ifcl.specs.Diagram.{tracking, skipping, clearing, larger, frame_of, front_rules, pass_rules, chains_of, drawn_of}
 use Rattle.fws_pfo_ifcl.specs.Ends.{end_of}
 use Rattle.fws_pfo_ifcl.specs.Held.{bits_of, telling, told}
 use Rattle.fws_pfo_ifcl.proofs.Acts.{is_change, are_changes, behind_guard, changes_append, taggings_change}
@@ -56,10 +57,9 @@ accepts_name_none (act ∷ list) all =
     ap (λ b. b && list_all names_none (list ++ acts.Accept ∷ [])) (change_names_none act both.0) ∙ accepts_name_none list both.1
 
 -- all acts of rules are such
-decision_none : (outward : Bool) (to : Option End) (kind : PfoKind) → list_all names_none (decision outward to kind) ≡ true
-decision_none outward to Pass = accepts_name_none (writing outward to) (writing_changes outward to)
-decision_none outward to Block = refl
-decision_none outward to Match = refl
+decision_none : (outward : Bool) (to : Option End) (passes : Bool) → list_all names_none (decision outward to passes) ≡ true
+decision_none outward to true = accepts_name_none (writing outward to) (writing_changes outward to)
+decision_none outward to false = refl
 
 ending_none : (f : Frame) (tag : Option ℕ) (to : Option End) (kind : PfoKind) → list_all names_none (ending f tag to kind) ≡ true
 ending_none f tag to Pass =
@@ -130,37 +130,16 @@ module _ (chains total : ℕ) (right : RightByParts chains total) where
 
   -- The tail
 
-  deciding_right : (outward decides : Bool) (at : ℕ) (r : PfoRule) → at + length (deciding decides outward at r) ≤ total → Right at (deciding decides outward at r)
-  deciding_right outward true at r le = acting_right at r.cond (decision outward r.to r.kind) (decision_none outward r.to r.kind) le
-  deciding_right outward false at r le = refl
-
-  quick_right : (outward : Bool) (at : ℕ) (rs : List PfoRule) → at + length (quick_rules outward at rs) ≤ total → Right at (quick_rules outward at rs)
-  quick_right outward at [] le = refl
-  quick_right outward at (r ∷ rs) le =
-      let here = deciding (decides_first outward r) outward at r in
+  tail_right : (outward : Bool) (at : ℕ) (all : List Ruling) → at + length (tail_rules outward at all) ≤ total → Right at (tail_rules outward at all)
+  tail_right outward at [] le = refl
+  tail_right outward at (one ∷ all) le =
+      let here = ruling_rules outward at one in
       let place = at + length here in
-      let rest = quick_rules outward place rs in
+      let rest = tail_rules outward place all in
       let many : length (here ++ rest) ≡ length here + length rest = length-append here rest in
-      right.joined at place here rest refl (deciding_right outward (decides_first outward r) at r (omega (arith, le, many)))
-      (quick_right outward place rs (omega (arith, le, many)))
-
-  slow_right : (outward : Bool) (at : ℕ) (rs : List PfoRule) → at + length (slow_rules outward at rs) ≤ total → Right at (slow_rules outward at rs)
-  slow_right outward at [] le = refl
-  slow_right outward at (r ∷ rs) le =
-      let ahead = slow_rules outward at rs in
-      let place = at + length ahead in
-      let last = deciding (decides_last outward r) outward place r in
-      let many : length (ahead ++ last) ≡ length ahead + length last = length-append ahead last in
-      right.joined at place ahead last refl (slow_right outward at rs (omega (arith, le, many)))
-      (deciding_right outward (decides_last outward r) place r (omega (arith, le, many)))
-
-  tail_right : (outward : Bool) (at : ℕ) (rs : List PfoRule) → at + length (tail_rules outward at rs) ≤ total → Right at (tail_rules outward at rs)
-  tail_right outward at rs le =
-      let quick = quick_rules outward at rs in
-      let place = at + length quick in
-      let slow = slow_rules outward place rs in
-      let many : length (quick ++ slow) ≡ length quick + length slow = length-append quick slow in
-      right.joined at place quick slow refl (quick_right outward at rs (omega (arith, le, many))) (slow_right outward place rs (omega (arith, le, many)))
+      right.joined at place here rest refl
+      (acting_right at one.cond (decision outward one.to one.passes) (decision_none outward one.to one.passes) (omega (arith, le, many)))
+      (tail_right outward place all (omega (arith, le, many)))
 
   -- Ends that are held
 
@@ -172,23 +151,23 @@ module _ (chains total : ℕ) (right : RightByParts chains total) where
       let rest = held_rules f place (suc n) ends in
       let many : length (here ++ rest) ≡ length here + length rest = length-append here rest in
       right.joined at place here rest refl
-      (acting_right at (told f.tags (bits_of f.bits n)) (decision f.outward (Some e) Pass) (decision_none f.outward (Some e) Pass) (omega (arith, le, many)))
+      (acting_right at (told f.tags (bits_of f.bits n)) (decision f.outward (Some e) true) (decision_none f.outward (Some e) true) (omega (arith, le, many)))
       (held_right f place (suc n) ends (omega (arith, le, many)))
 
   -- Passes
 
-  filter_right : (f : Frame) (at : ℕ) (rs : List PfoRule) → at + length (filter_rules f at rs) ≤ total → Right at (filter_rules f at rs)
-  filter_right f at rs le =
+  filter_right : (f : Frame) (at : ℕ) (rs : List PfoRule) (tail : List Ruling) → at + length (filter_rules f at rs tail) ≤ total → Right at (filter_rules f at rs tail)
+  filter_right f at rs tail le =
       let ahead = ahead_rules f at rs in
       let place = at + length ahead in
-      let tail = tail_rules f.outward place (tail_of f.outward rs) in
-      let later = at + length (ahead ++ tail) in
+      let middle = tail_rules f.outward place tail in
+      let later = at + length (ahead ++ middle) in
       let last = held_rules f later 1 f.ends in
-      let many : length (ahead ++ tail) ≡ length ahead + length tail = length-append ahead tail in
-      let all : length (ahead ++ tail ++ last) ≡ length (ahead ++ tail) + length last = length-append (ahead ++ tail) last in
-      right.joined at later (ahead ++ tail) last refl
-      (right.joined at place ahead tail refl (met_rules_right f false at (head_of f.outward rs) (omega (arith, le, many, all)))
-      (tail_right f.outward place (tail_of f.outward rs) (omega (arith, le, many, all))))
+      let many : length (ahead ++ middle) ≡ length ahead + length middle = length-append ahead middle in
+      let all : length (ahead ++ middle ++ last) ≡ length (ahead ++ middle) + length last = length-append (ahead ++ middle) last in
+      right.joined at later (ahead ++ middle) last refl
+      (right.joined at place ahead middle refl (met_rules_right f false at (head_of f.outward rs) (omega (arith, le, many, all)))
+      (tail_right f.outward place tail (omega (arith, le, many, all))))
       (held_right f later 1 f.ends (omega (arith, le, all)))
 
   clearing_right : (outward : Bool) (c : PfoConfig) (at : ℕ) → Right at (clearing outward c)
@@ -201,36 +180,36 @@ module _ (chains total : ℕ) (right : RightByParts chains total) where
   first_right true c = refl
   first_right false c = refl
 
-  all_right : (outward : Bool) (c : PfoConfig) → length (pass_rules outward c) ≤ total → Right 0 (pass_rules outward c)
-  all_right outward c le =
+  all_right : (tails : Bool → List Ruling) (outward : Bool) (c : PfoConfig) → length (pass_rules tails outward c) ≤ total → Right 0 (pass_rules tails outward c)
+  all_right tails outward c le =
       let first = tracking outward ++ skipping c in
       let clear = clearing outward c in
       let place = length first in
       let at = length (front_rules outward c) in
       let f = frame_of outward c in
-      let rules = filter_rules f at c.rules in
+      let rules = filter_rules f at c.rules (tails outward) in
       let long : length (first ++ clear ++ rules) ≡ at + length rules = length-append (first ++ clear) rules in
       right.joined 0 at (first ++ clear) rules (omega arith)
       (right.joined 0 place first clear (omega arith) (first_right outward c) (clearing_right outward c place))
-      (filter_right f at c.rules (omega (arith, le, long)))
+      (filter_right f at c.rules (tails outward) (omega (arith, le, long)))
 
 -- the rules of a pass are right among any number of chains
-rules_right : (law : RulesAreRightByParts) (chains : ℕ) (outward : Bool) (c : PfoConfig)
-    → rules_ok chains (length (pass_rules outward c)) 0 (pass_rules outward c) ≡ true
-rules_right law chains outward c =
-    let total = length (pass_rules outward c) in
-    all_right chains total (law chains total) outward c (omega arith)
+rules_right : (law : RulesAreRightByParts) (chains : ℕ) (tails : Bool → List Ruling) (outward : Bool) (c : PfoConfig)
+    → rules_ok chains (length (pass_rules tails outward c)) 0 (pass_rules tails outward c) ≡ true
+rules_right law chains tails outward c =
+    let total = length (pass_rules tails outward c) in
+    all_right chains total (law chains total) tails outward c (omega arith)
 
 -- so are those of both passes
-both_right : (law : RulesAreRightByParts) (chains : ℕ) (c : PfoConfig) → list_all (chain_ok chains) (chains_of c) ≡ true
-both_right law chains c =
-    ap (λ b. b && (rules_ok chains (length (pass_rules true c)) 0 (pass_rules true c) && true)) (rules_right law chains false c)
-    ∙ ap (λ b. b && true) (rules_right law chains true c)
+both_right : (law : RulesAreRightByParts) (chains : ℕ) (tails : Bool → List Ruling) (c : PfoConfig) → list_all (chain_ok chains) (chains_of tails c) ≡ true
+both_right law chains tails c =
+    ap (λ b. b && (rules_ok chains (length (pass_rules tails true c)) 0 (pass_rules tails true c) && true)) (rules_right law chains tails false c)
+    ∙ ap (λ b. b && true) (rules_right law chains tails true c)
 
 -- every number in the diagram is right
-pub diagram_ok : (law : RulesAreRightByParts) (c : PfoConfig) → ifcl_ok (diagram_of c) ≡ true
-diagram_ok law c = ap (λ b. b && true && true && true && true) (both_right law 2 c)
+pub diagram_ok : (law : RulesAreRightByParts) (tails : Bool → List Ruling) (c : PfoConfig) → ifcl_ok (drawn_of tails c) ≡ true
+diagram_ok law tails c = ap (λ b. b && true && true && true && true) (both_right law 2 tails c)
 
 -- no rule names a chain
-pub diagram_straight : (law : RulesAreRightByParts) (c : PfoConfig) → is_straight (diagram_of c) ≡ true
-diagram_straight law c = both_right law 0 c
+pub diagram_straight : (law : RulesAreRightByParts) (tails : Bool → List Ruling) (c : PfoConfig) → is_straight (drawn_of tails c) ≡ true
+diagram_straight law tails c = both_right law 0 tails c

@@ -27,8 +27,9 @@ use Rattle.fws_pfo.specs.declared.config.PfoConfig.{PfoConfig}
 use Rattle.fws_pfo.specs.Soundness.{rule_fits, is_fitting}
 use Rattle.fws_pfo.specs.Walk.{rules_walk, pass_walk, pass_of, walk}
 use Rattle.fws_pfo_ifcl.specs.declared.frame.Frame.{Frame}
-use Rattle.fws_pfo_ifcl.specs.Blocks.{filter_rules}
-use Rattle.fws_pfo_ifcl.specs.Diagram.{tracking, skipping, clearing, larger, frame_of, front_rules, pass_rules, chains_of, pass_stage, diagram_of}
+use Rattle.fws_pfo_ifcl.specs.declared.ruling.Ruling.{Ruling}
+use Rattle.fws_pfo_ifcl.specs.Blocks.{IsTail, filter_rules}
+use Rattle.fws_pfo_ifcl.specs.Diagram.{AreTails, tracking, skipping, clearing, larger, frame_of, front_rules, pass_rules, chains_of, pass_stage, drawn_of}
 use Rattle.fws_pfo_ifcl.specs.Held.{bits_of, telling}
 use Rattle.fws_pfo_ifcl.proofs.Acts.{tags_alone, changes_walk, taggings_change}
 use Rattle.fws_pfo_ifcl.proofs.Bits.{all_bits}
@@ -120,16 +121,17 @@ clearing_walk true w c at s t u h is begins =
 -- Passes
 
 -- a pass of a new packet through all rules
-new_pass : (outward : Bool) (c : PfoConfig) (w : Course New outward) → w.full ≡ pass_rules outward c → list_all (rule_fits (length c.tags)) c.rules ≡ true
-    → (t u : Transit) → IsAlike (length c.tags) t u → u.verdict ≡ true → Begins outward u
+new_pass : (tails : Bool → List Ruling) (outward : Bool) (c : PfoConfig) (w : Course New outward) → w.full ≡ pass_rules tails outward c → IsTail outward c.rules (tails outward)
+    → list_all (rule_fits (length c.tags)) c.rules ≡ true → (t u : Transit) → IsAlike (length c.tags) t u → u.verdict ≡ true → Begins outward u
     → Agree (length c.tags) (pass_walk c w.site w.p outward t) (stage_end (run w 0 u))
-new_pass outward c w full fit t u h is begins =
+new_pass tails outward c w full stands fit t u h is begins =
     let f = frame_of outward c in
     let first = tracking outward ++ skipping c in
     let place = first_place outward in
     let clear = clearing outward c in
     let at = length (front_rules outward c) in
-    let rules = filter_rules f at c.rules in
+    let tail = tails outward in
+    let rules = filter_rules f at c.rules tail in
     let all : Stands w 0 (first ++ clear ++ rules) = record { rest = []; are = full ∙ sym (append-nil (first ++ clear ++ rules)) } in
     let few : length first ≡ place = first_length outward c in
     let parts = w.law.parts at (first ++ clear) rules all (omega arith) in
@@ -144,7 +146,7 @@ new_pass outward c w full fit t u h is begins =
     let next : Agree (length c.tags) (rules_walk w.site w.p outward c.rules None (with_verdict true t)) (stage_end (run w place u)) =
     subst (λ x. Agree (length c.tags) (rules_walk w.site w.p outward c.rules None (with_verdict true t)) (stage_end x))
     (sym (on.1 ∙ ap (λ n. run w n on.0) same))
-    (filter_walk f w at c.rules (all_bits (length f.ends)) refl fit parts.1 none None (with_verdict true t) on.0 on.2) in
+    (filter_walk f w at c.rules tail (all_bits (length f.ends)) refl fit stands parts.1 none None (with_verdict true t) on.0 on.2) in
     subst (λ x. Agree (length c.tags) (pass_walk c w.site w.p outward t) x)
     (sym (ap stage_end (first_walk outward w c ahead.0 u) ∙ end_by d (Accepted u) (run w place u)))
     (agree_by (length c.tags) b d (ap (λ o. is_shown o c.skip) (interface_same w.site outward (length c.tags) t u h)) (Some t)
@@ -155,25 +157,26 @@ tracked_alike : (count : ℕ) (k : Kind) (t u : Transit) → IsAlike count t u �
 tracked_alike count k t u h = record { packet = ap (tracked_dst k) h.packet; wrote = h.wrote; tags = h.tags }
 
 -- a pass through all rules
-pass_drawn : (law : WalksGoByPlaces) (enter : ℕ → Transit → ChainEnd) (site : Site) (p : Packet) (k : Kind) (outward : Bool) (c : PfoConfig)
-    → list_all (rule_fits (length c.tags)) c.rules ≡ true → (t u : Transit) → IsAlike (length c.tags) t u → u.verdict ≡ true → Begins outward u
-    → Agree (length c.tags) (pass_of c site p k outward t) (stage_end (run (course law enter site p k outward c) 0 u))
-pass_drawn law enter site p New outward c fit t u h is begins = new_pass outward c (course law enter site p New outward c) refl fit t u h is begins
-pass_drawn law enter site p (Est r) true c fit t u h is begins =
-    let w = course law enter site p (Est r) true c in
-    let first : Stands w 0 (tracking true) = record { rest = drop 1 (pass_rules true c); are = refl } in
+pass_drawn : (law : WalksGoByPlaces) (enter : ℕ → Transit → ChainEnd) (site : Site) (p : Packet) (k : Kind) (tails : Bool → List Ruling) (outward : Bool) (c : PfoConfig)
+    → IsTail outward c.rules (tails outward) → list_all (rule_fits (length c.tags)) c.rules ≡ true → (t u : Transit) → IsAlike (length c.tags) t u → u.verdict ≡ true → Begins outward u
+    → Agree (length c.tags) (pass_of c site p k outward t) (stage_end (run (course law enter site p k tails outward c) 0 u))
+pass_drawn law enter site p New tails outward c stands fit t u h is begins =
+    new_pass tails outward c (course law enter site p New tails outward c) refl stands fit t u h is begins
+pass_drawn law enter site p (Est r) tails true c stands fit t u h is begins =
+    let w = course law enter site p (Est r) tails true c in
+    let first : Stands w 0 (tracking true) = record { rest = drop 1 (pass_rules tails true c); are = refl } in
     subst (λ x. Agree (length c.tags) (Some t) (stage_end x)) (sym (w.law.walked first (tt, tt) u)) h
-pass_drawn law enter site p (Est r) false c fit t u h is begins =
-    let w = course law enter site p (Est r) false c in
-    let first : Stands w 0 (tracking false) = record { rest = drop 2 (pass_rules false c); are = refl } in
+pass_drawn law enter site p (Est r) tails false c stands fit t u h is begins =
+    let w = course law enter site p (Est r) tails false c in
+    let first : Stands w 0 (tracking false) = record { rest = drop 2 (pass_rules tails false c); are = refl } in
     subst (λ x. Agree (length c.tags) (Some (with_tracked_dst (Est r) t)) (stage_end x)) (sym (w.law.walked first (tt, (tt, tt)) u))
     (tracked_alike (length c.tags) (Est r) t u h)
 
 -- Stages
 
-module _ (law : WalksGoByPlaces) (site : Site) (c : PfoConfig) (fit : list_all (rule_fits (length c.tags)) c.rules ≡ true) (p : Packet) (k : Kind) where
+module _ (law : WalksGoByPlaces) (site : Site) (tails : Bool → List Ruling) (c : PfoConfig) (stand : AreTails c tails) (fit : list_all (rule_fits (length c.tags)) c.rules ≡ true) (p : Packet) (k : Kind) where
   abbrev drawn : List Stage → Transit → Option Transit
-  drawn stages t = stages_walk (chains_of c) site p k stages t
+  drawn stages t = stages_walk (chains_of tails c) site p k stages t
 
   abbrev Same : Option Transit → Option Transit → Type 0
   Same x y = Agree (length c.tags) x y
@@ -183,11 +186,11 @@ module _ (law : WalksGoByPlaces) (site : Site) (c : PfoConfig) (fit : list_all (
   verdict_begun t u h = record { packet = h.packet; wrote = h.wrote; tags = h.tags }
 
   stage_passes : (outward : Bool) (t u : Transit) → IsAlike (length c.tags) t u → Begins outward u
-      → Same (pass_of c site p k outward t) (stage_walk (chains_of c) site p k (pass_stage outward) u)
+      → Same (pass_of c site p k outward t) (stage_walk (chains_of tails c) site p k (pass_stage outward) u)
   stage_passes true t u h begins =
-      pass_drawn law (chain_walk (chains_of c) site p k (pass_stage true) 1 (1 ∷ [])) site p k true c fit t (with_verdict true u) (verdict_begun t u h) refl begins
+      pass_drawn law (chain_walk (chains_of tails c) site p k (pass_stage true) 1 (1 ∷ [])) site p k tails true c (stand true) fit t (with_verdict true u) (verdict_begun t u h) refl begins
   stage_passes false t u h begins =
-      pass_drawn law (chain_walk (chains_of c) site p k (pass_stage false) 1 (0 ∷ [])) site p k false c fit t (with_verdict true u) (verdict_begun t u h) refl begins
+      pass_drawn law (chain_walk (chains_of tails c) site p k (pass_stage false) 1 (0 ∷ [])) site p k tails false c (stand false) fit t (with_verdict true u) (verdict_begun t u h) refl begins
 
   -- one stage alone
   all_of : (o : Option Transit) → option_and_then (λ t. Some t) o ≡ o
@@ -196,7 +199,7 @@ module _ (law : WalksGoByPlaces) (site : Site) (c : PfoConfig) (fit : list_all (
 
   passes : (outward : Bool) (t u : Transit) → IsAlike (length c.tags) t u → Begins outward u → Same (pass_of c site p k outward t) (drawn (pass_stage outward ∷ []) u)
   passes outward t u h begins =
-      subst (Same (pass_of c site p k outward t)) (sym (all_of (stage_walk (chains_of c) site p k (pass_stage outward) u))) (stage_passes outward t u h begins)
+      subst (Same (pass_of c site p k outward t)) (sym (all_of (stage_walk (chains_of tails c) site p k (pass_stage outward) u))) (stage_passes outward t u h begins)
 
   -- how a packet goes on behind routing, in the diagram and in the walk
   abbrev drawn_on : Transit → Option Transit
@@ -231,16 +234,16 @@ module _ (law : WalksGoByPlaces) (site : Site) (c : PfoConfig) (fit : list_all (
   outcome_same kind None (Some u) same = absurd same
 
   -- every packet
-  pub means_kept : means (diagram_of c) site p k ≡ walk c site p k
+  pub means_kept : means (drawn_of tails c) site p k ≡ walk c site p k
   means_kept =
       outcome_same k _ _
       (agree_by (length c.tags) (nat_eq p.entry 0) (nat_eq p.entry 0) refl _ _ _ _ (passes true (entered p) (entered p) alike_itself tt)
       (routed_both (pass_of c site p k false (entered p)) (drawn (pass_stage false ∷ []) (entered p)) (passes false (entered p) (entered p) alike_itself refl)))
 
 -- what the diagram says of a packet is what becomes of it
-pub keeps_walks : (law : WalksGoByPlaces) (site : Site) (c : PfoConfig) → list_all (rule_fits (length c.tags)) c.rules ≡ true → (p : Packet) (k : Kind)
-    → means (diagram_of c) site p k ≡ walk c site p k
-keeps_walks law site c fit p k = means_kept law site c fit p k
+pub keeps_walks : (law : WalksGoByPlaces) (site : Site) (tails : Bool → List Ruling) (c : PfoConfig) → AreTails c tails → list_all (rule_fits (length c.tags)) c.rules ≡ true
+    → (p : Packet) (k : Kind) → means (drawn_of tails c) site p k ≡ walk c site p k
+keeps_walks law site tails c stand fit p k = means_kept law site tails c stand fit p k
 
 -- all rules of a fitting configuration fit
 pub rules_fit : (site : Site) (c : PfoConfig) → is_fitting site c ≡ true → list_all (rule_fits (length c.tags)) c.rules ≡ true

@@ -1,5 +1,5 @@
 -- The rules of a diagram to which rules of OpenBSD's pf are unfolded.
-use Rattle.std.specs.Prelude.{ℕ, zero, suc, ◌+◌, Bool, true, false, not, ◌&&◌, ◌||◌, nat_eq, Option, Some, None, is_some, List, [], ◌∷◌, ◌++◌, length, map, take, drop, if◌then◌else◌}
+use Rattle.std.specs.Prelude.{◌≡◌, ℕ, zero, suc, ◌+◌, Bool, true, false, not, ◌&&◌, ◌||◌, nat_eq, Option, Some, None, is_some, List, [], ◌∷◌, ◌++◌, length, map, take, drop, if◌then◌else◌}
 use Rattle.std.specs.Option.{option_map_or}
 use Rattle.fws_net.specs.declared.condition.Lit.{Lit}
 use Rattle.fws_net.specs.declared.outcome.End.{End}
@@ -12,8 +12,10 @@ use Rattle.fws_pfo.specs.declared.config.PfoKind.{PfoKind}
 use Rattle.fws_pfo.specs.declared.config.PfoKind.TheVariants.{Pass, Block, Match}
 use Rattle.fws_pfo.specs.declared.config.PfoRule.{PfoRule}
 use Rattle.fws_pfo_ifcl.specs.declared.frame.Frame.{Frame}
+use Rattle.fws_pfo_ifcl.specs.declared.ruling.Ruling.{Ruling}
 use Rattle.fws_pfo_ifcl.specs.Ends.{end_of, number_of}
 use Rattle.fws_pfo_ifcl.specs.Held.{bits_of, telling, told}
+use Rattle.fws_pfo_ifcl.specs.Rulings.{StandFor}
 
 -- What rules do
 
@@ -49,11 +51,10 @@ changes f may tag to Pass = only_tag tag ++ holding f to ++ Hold true ∷ []
 changes f may tag to Block = only_tag tag ++ holding f None ++ Hold false ∷ []
 changes f may tag to Match = tagging f may tag ++ writing f.outward to
 
--- how a rule decides at once
-abbrev pub decision : Bool → Option End → PfoKind → List Act
-decision outward to Pass = writing outward to ++ Accept ∷ []
-decision outward to Block = Drop ∷ []
-decision outward to Match = []
+-- how packets pass with an end or none, or are dropped
+abbrev pub decision : Bool → Option End → Bool → List Act
+decision outward to true = writing outward to ++ Accept ∷ []
+decision outward to false = Drop ∷ []
 
 -- one that is quick
 abbrev pub ending : Frame → Option ℕ → Option End → PfoKind → List Act
@@ -102,9 +103,15 @@ behind_changes outward place at (r ∷ rs) = behind_changes outward (if changes_
 abbrev pub tail_place : Bool → List PfoRule → ℕ
 tail_place outward rs = behind_changes outward 0 0 rs
 
--- the rules of a rule that decides where its condition holds, if it is to
-abbrev pub deciding : Bool → Bool → ℕ → PfoRule → List Rule
-deciding decides outward at r = if decides then acting at r.cond (decision outward r.to r.kind) else []
+-- what a rule of the kind decides where its condition holds
+abbrev pub ruling_by : PfoKind → List Lit → Option End → List Ruling
+ruling_by Pass cond to = record { cond = cond; passes = true; to = to } ∷ []
+ruling_by Block cond to = record { cond = cond; passes = false; to = None } ∷ []
+ruling_by Match cond to = []
+
+-- what a rule decides, if it is to
+abbrev pub deciding : Bool → PfoRule → List Ruling
+deciding decides r = if decides then ruling_by r.kind r.cond r.to else []
 
 abbrev pub decides_first : Bool → PfoRule → Bool
 decides_first outward r = is_met r.way outward && r.quick
@@ -112,26 +119,34 @@ decides_first outward r = is_met r.way outward && r.quick
 abbrev pub decides_last : Bool → PfoRule → Bool
 decides_last outward r = is_met r.way outward && not r.quick
 
--- those that are quick, in their order
-abbrev pub quick_rules : Bool → ℕ → List PfoRule → List Rule
-quick_rules outward at [] = []
-quick_rules outward at (r ∷ rs) =
-    deciding (decides_first outward r) outward at r ++ quick_rules outward (at + length (deciding (decides_first outward r) outward at r)) rs
+-- that of those that are quick, in their order
+abbrev pub quick_rulings : Bool → List PfoRule → List Ruling
+quick_rulings outward [] = []
+quick_rulings outward (r ∷ rs) = deciding (decides_first outward r) r ++ quick_rulings outward rs
 
--- those that aren't, the last one first
-abbrev pub slow_rules : Bool → ℕ → List PfoRule → List Rule
-slow_rules outward at [] = []
-slow_rules outward at (r ∷ rs) = slow_rules outward at rs ++ deciding (decides_last outward r) outward (at + length (slow_rules outward at rs)) r
+-- that of those that aren't, the last one first
+abbrev pub slow_rulings : Bool → List PfoRule → List Ruling
+slow_rulings outward [] = []
+slow_rulings outward (r ∷ rs) = slow_rulings outward rs ++ deciding (decides_last outward r) r
 
 -- no rule of the tail changes what another one sees, so that the first quick one that matches decides, else the last of the others
-abbrev pub tail_rules : Bool → ℕ → List PfoRule → List Rule
-tail_rules outward at rs = quick_rules outward at rs ++ slow_rules outward (at + length (quick_rules outward at rs)) rs
+abbrev pub tail_rulings : Bool → List PfoRule → List Ruling
+tail_rulings outward rs = quick_rulings outward rs ++ slow_rulings outward rs
+
+-- the rules of a ruling, of which the first has the place at
+abbrev pub ruling_rules : Bool → ℕ → Ruling → List Rule
+ruling_rules outward at one = acting at one.cond (decision outward one.to one.passes)
+
+-- those of rulings, one after another
+abbrev pub tail_rules : Bool → ℕ → List Ruling → List Rule
+tail_rules outward at [] = []
+tail_rules outward at (one ∷ more) = ruling_rules outward at one ++ tail_rules outward (at + length (ruling_rules outward at one)) more
 
 -- The ends that are held
 
 -- where the tags tell the number of an end, it is written, and the pass ends accepted
 abbrev pub held_rule : Frame → ℕ → ℕ → End → List Rule
-held_rule f at n e = acting at (told f.tags (bits_of f.bits n)) (decision f.outward (Some e) Pass)
+held_rule f at n e = acting at (told f.tags (bits_of f.bits n)) (decision f.outward (Some e) true)
 
 -- those of ends, of which the first has the number n
 abbrev pub held_rules : Frame → ℕ → ℕ → List End → List Rule
@@ -140,18 +155,35 @@ held_rules f at n (e ∷ ends) = held_rule f at n e ++ held_rules f (at + length
 
 -- All rules
 
--- those ahead of the tail in their order, the tail as it decides first, and the ends that are held behind it
+-- those ahead of the tail and those of the tail
 abbrev pub head_of : Bool → List PfoRule → List PfoRule
 head_of outward rs = take (tail_place outward rs) rs
 
 abbrev pub tail_of : Bool → List PfoRule → List PfoRule
 tail_of outward rs = drop (tail_place outward rs) rs
 
+-- rulings stand for those of the tail
+abbrev pub IsTail : Bool → List PfoRule → List Ruling → Type 0
+IsTail outward rs tail = StandFor tail (tail_rulings outward (tail_of outward rs))
+
+-- the rules of those ahead of the tail in their order, those of these rulings for the tail, and the ends that are held behind them
 abbrev pub ahead_rules : Frame → ℕ → List PfoRule → List Rule
 ahead_rules f at rs = met_rules f false at (head_of f.outward rs)
 
-abbrev pub deciding_rules : Frame → ℕ → List PfoRule → List Rule
-deciding_rules f at rs = ahead_rules f at rs ++ tail_rules f.outward (at + length (ahead_rules f at rs)) (tail_of f.outward rs)
+abbrev pub deciding_rules : Frame → ℕ → List PfoRule → List Ruling → List Rule
+deciding_rules f at rs tail = ahead_rules f at rs ++ tail_rules f.outward (at + length (ahead_rules f at rs)) tail
 
-abbrev pub filter_rules : Frame → ℕ → List PfoRule → List Rule
-filter_rules f at rs = deciding_rules f at rs ++ held_rules f (at + length (deciding_rules f at rs)) 1 f.ends
+abbrev pub filter_rules : Frame → ℕ → List PfoRule → List Ruling → List Rule
+filter_rules f at rs tail = deciding_rules f at rs tail ++ held_rules f (at + length (deciding_rules f at rs tail)) 1 f.ends
+
+-- rules are behind others of rulings that stand for those of the rules of a tail
+pub record EndsIn (outward : Bool) (tail : List PfoRule) (ahead rules : List Rule) : Type 0 where
+  pub rulings : List Ruling
+  pub stand : StandFor rulings (tail_rulings outward tail)
+  pub are : rules ≡ ahead ++ tail_rules outward (length ahead) rulings
+
+-- the rules of all rules are behind others, with rulings that stand for those of the tail
+pub record IsFiltered (f : Frame) (rs : List PfoRule) (ahead rules : List Rule) : Type 0 where
+  pub tail : List Ruling
+  pub stands : IsTail f.outward rs tail
+  pub are : rules ≡ ahead ++ filter_rules f (length ahead) rs tail

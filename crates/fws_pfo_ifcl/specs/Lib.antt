@@ -2,3 +2,4 @@ pub mod Blocks
 pub mod Diagram
 pub mod Ends
 pub mod Held
+pub mod Rulings

@@ -143,27 +143,22 @@ fn put_changes(
     }
 }
 
-/// Puts the acts behind the others with which a rule of the kind decides at once. An error is want of memory.
+/// Puts the acts behind the others with which packets pass with an end or none, or are dropped. An error is want of memory.
 pub(crate) fn put_decision(
     acts: &mut Vec<Act>,
     outward: bool,
     to: Option<End>,
-    kind: PfoKind,
+    passes: bool,
 ) -> Result<(), Memory>
-    ensures { OnOk result (acts.new.items ≡ acts.old.items ++ decision outward to kind) }
+    ensures { OnOk result (acts.new.items ≡ acts.old.items ++ decision outward to passes) }
 {
-    match kind {
-        PfoKind::Pass => {
-            put_writing(acts, outward, to)?;
-            acts.push(Act::Accept)?;
-            Ok(())
-        }
-        PfoKind::Block => {
-            acts.push(Act::Drop)?;
-            Ok(())
-        }
-        PfoKind::Match => Ok(()),
+    if !passes {
+        acts.push(Act::Drop)?;
+        return Ok(());
     }
+    put_writing(acts, outward, to)?;
+    acts.push(Act::Accept)?;
+    Ok(())
 }
 
 /// Puts the acts of a rule that is quick behind the others. An error is want of memory.

@@ -10,7 +10,7 @@ ghost use Rattle.fws_draw.specs.Rules.{ruled};
 ghost use Rattle.fws_draw.specs.Straight.{is_straight};
 ghost use Rattle.fws_pfo.specs.Soundness.{is_fitting};
 ghost use Rattle.fws_pfo.specs.Walk.{walk};
-ghost use Rattle.fws_pfo_ifcl.specs.Diagram.{chains_of, clearing, diagram_of, frame_of, front_rules, larger, pass_rules, pass_stage, skipping, tracking};
+ghost use Rattle.fws_pfo_ifcl.specs.Diagram.{ArePasses, IsDrawn, IsPass, clearing, frame_of, front_rules, larger, pass_stage, skipping, tracking};
 
 use crate::acting::put_acts;
 use crate::filter::put_filter_rules;
@@ -105,7 +105,7 @@ fn front_rules(alloc: Global, outward: bool, c: &PfoConfig) -> Result<Vec<Rule>,
 
 /// All rules of a pass. An error is want of memory.
 fn pass_rules(alloc: Global, outward: bool, c: &PfoConfig) -> Result<Vec<Rule>, Memory>
-    ensures { IfOk result (λ rules. rules.items ≡ pass_rules outward c.now) }
+    ensures { IfOk result (λ rules. IsPass outward c.now rules.items) }
 {
     let frame = frame_of(alloc, outward, c)?;
     let mut rules = front_rules(alloc, outward, c)?;
@@ -139,7 +139,7 @@ fn put_chain(
 
 /// Puts the chains of the two passes behind the others. An error is want of memory.
 fn put_chains(alloc: Global, chains: &mut Items<Chain>, c: &PfoConfig) -> Result<(), Memory>
-    ensures { OnOk result (chains.new ≡ chains.old ++ chains_of c.now) }
+    ensures { OnOk result (ArePasses c.now chains.old chains.new) }
 {
     put_chain(alloc, chains, b"in", pass_rules(alloc, false, c)?)?;
     put_chain(alloc, chains, b"out", pass_rules(alloc, true, c)?)?;
@@ -148,7 +148,7 @@ fn put_chains(alloc: Global, chains: &mut Items<Chain>, c: &PfoConfig) -> Result
 
 /// The chains of the two passes. An error is want of memory.
 fn chains_of(alloc: Global, c: &PfoConfig) -> Result<Items<Chain>, Memory>
-    ensures { IfOk result (λ chains. chains ≡ chains_of c.now) }
+    ensures { IfOk result (ArePasses c.now []) }
 {
     let mut chains = Items::new(alloc);
     put_chains(alloc, &mut chains, c)?;
@@ -170,7 +170,7 @@ fn pass_stage(outward: bool) -> Stage
 
 /// The diagram, put together from its chains and stages. An error is want of memory.
 fn drawn(alloc: Global, c: &PfoConfig) -> Result<Ifcl, Memory>
-    ensures { IfOk result (λ d. d ≡ diagram_of c.now) }
+    ensures { IfOk result (IsDrawn c.now) }
 {
     let mut arrive = Items::new(alloc);
     arrive.put(pass_stage(false))?;
@@ -191,11 +191,12 @@ fn drawn(alloc: Global, c: &PfoConfig) -> Result<Ifcl, Memory>
 /// does, new or of a connection, and it can be unfolded. One chain has the rules of packets that come in, and one those
 /// of packets that go out. Ahead of the last rule that puts a tag or writes at once they stand in their order; there the
 /// verdict so far is held, and tags of the packet tell the number of the end that is held. Behind that the rule that
-/// decides stands first, and at the end stand the ends that may be held. An error is want of memory, or of numbers for
-/// rules and tags. Linear in the rules, and in the different ends for each rule that holds one.
+/// decides stands first; there, neighbours that do the same and differ in one set are one rule. At the end stand the
+/// ends that may be held. An error is want of memory, or of numbers for rules and tags. Near-linear in the rules, and linear
+/// in the different ends for each rule that holds one.
 pub fn to_ifcl(alloc: Global, c: &PfoConfig, site: &Site) -> Result<Ifcl, Memory>
     requires { is_fitting site.now c.now ≡ true }
-    ensures diagram { IfOk result (λ d. d ≡ diagram_of c.now) }
+    ensures diagram { IfOk result (IsDrawn c.now) }
     ensures ok { IfOk result (λ d. ifcl_ok d ≡ true) }
     ensures means { IfOk result (λ d. (p : Packet) (k : Kind) → means d site.now p k ≡ walk c.now site.now p k) }
     ensures straight { IfOk result (λ d. is_straight d ≡ true) }

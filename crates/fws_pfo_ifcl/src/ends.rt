@@ -44,7 +44,7 @@ pub(crate) fn end_of(outward: bool, rule: &PfoRule) -> Option<End>
 }
 
 /// Whether both ends are the same.
-fn is_same_end(a: End, b: End) -> bool
+pub(crate) fn is_same_end(a: End, b: End) -> bool
     ensures { result ≡ same_end a b }
 {
     a == b

@@ -1,7 +1,7 @@
 //! The rules to which rules are unfolded.
 
 ghost use Rattle.std.specs.Prelude.{◌≡◌, ◌++◌, length, false, OnOk};
-ghost use Rattle.fws_pfo_ifcl.specs.Blocks.{ahead_rules, deciding_rules, filter_rules, held_rule, held_rules, met_rule, met_rules};
+ghost use Rattle.fws_pfo_ifcl.specs.Blocks.{IsFiltered, held_rule, held_rules, met_rule, met_rules};
 
 use crate::acting::{acts_of, put_acting, put_decision};
 use crate::ends::{end_of, is_met};
@@ -12,7 +12,7 @@ use fws_draw::sum;
 use fws_ifcl::Rule;
 use fws_net::End;
 use fws_num::Memory;
-use fws_pfo::{PfoKind, PfoRule};
+use fws_pfo::PfoRule;
 use std::alloc::Global;
 
 /// Puts the rules of a rule behind the others if it is met on the pass, where a rule ahead of it may have held an end. An error is
@@ -65,7 +65,7 @@ fn put_held_rule(
     let bits = bits_of(alloc, frame.bits, number)?;
     let cond = told(alloc, frame.tags, bits.as_slice())?;
     let mut acts = Vec::new(alloc);
-    put_decision(&mut acts, frame.outward, Some(end), PfoKind::Pass)?;
+    put_decision(&mut acts, frame.outward, Some(end), true)?;
     put_acting(alloc, rules, cond, acts.as_slice())?;
     Ok(())
 }
@@ -90,7 +90,7 @@ pub(crate) fn put_filter_rules(
     frame: &Frame,
     all: &[PfoRule],
 ) -> Result<(), Memory>
-    ensures { OnOk result (rules.new.items ≡ rules.old.items ++ filter_rules frame.now (length rules.old.items) all.now) }
+    ensures { OnOk result (IsFiltered frame.now all.now rules.old.items rules.new.items) }
 {
     let (head, tail) = all.split_at(tail_place(frame.outward, all));
     put_met_rules(alloc, rules, frame, head)?;

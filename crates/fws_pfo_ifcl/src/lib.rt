@@ -7,6 +7,8 @@ mod ends;
 mod filter;
 mod frame;
 mod held;
+mod ruling;
+mod rulings;
 mod tail;
 
 pub use diagram::to_ifcl;

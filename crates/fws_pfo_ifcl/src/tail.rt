@@ -1,13 +1,17 @@
 //! The rules of the tail: behind the last rule that puts a tag or writes at once nothing changes what a rule sees, so that the rule
 //! that decides can be found as the first one that matches.
 
-ghost use Rattle.std.specs.Prelude.{◌≡◌, ◌++◌, length, OnOk};
-ghost use Rattle.fws_pfo_ifcl.specs.Blocks.{changes_sight, decides_first, decides_last, deciding, quick_rules, slow_rules, tail_place, tail_rules, writes_at_once};
+ghost use Rattle.std.specs.Prelude.{◌≡◌, ◌++◌, length, IfOk, OnOk};
+ghost use Rattle.fws_pfo_ifcl.specs.Blocks.{EndsIn, changes_sight, decides_first, decides_last, deciding, quick_rulings, ruling_by, ruling_rules, slow_rulings, tail_place, tail_rules, tail_rulings, writes_at_once};
+ghost use Rattle.fws_pfo_ifcl.specs.Rulings.{StandFor, rulings_of};
 
 use crate::acting::{put_acting, put_decision};
 use crate::ends::is_met;
+use crate::ruling::Ruling;
+use crate::rulings::Rulings;
 use fws_ifcl::Rule;
-use fws_num::Memory;
+use fws_net::{Cond, End};
+use fws_num::{Items, Memory};
 use fws_pfo::{PfoKind, PfoRule};
 use std::alloc::Global;
 
@@ -57,67 +61,123 @@ fn decides_last(outward: bool, rule: &PfoRule) -> bool
     is_met(rule.way, outward) && !rule.quick
 }
 
-/// Puts the rules of a rule behind the others that decides where its condition holds, if it is to. An error is want of memory.
+/// Puts what a rule of the kind decides behind the others. An error is want of memory.
+fn put_by(
+    alloc: Global,
+    all: &mut Rulings,
+    kind: PfoKind,
+    cond: Cond,
+    to: Option<End>,
+) -> Result<(), Memory>
+    ensures { OnOk result (StandFor (rulings_of all.new) (rulings_of all.old ++ ruling_by kind cond to)) }
+{
+    match kind {
+        PfoKind::Pass => all.put_passing(alloc, cond, to),
+        PfoKind::Block => all.put_dropping(alloc, cond),
+        PfoKind::Match => Ok(()),
+    }
+}
+
+/// Puts what a rule decides behind the others, if it is to. An error is want of memory.
 fn put_deciding(
     alloc: Global,
-    rules: &mut Vec<Rule>,
+    all: &mut Rulings,
     decides: bool,
-    outward: bool,
     rule: &PfoRule,
 ) -> Result<(), Memory>
-    ensures { OnOk result (rules.new.items ≡ rules.old.items ++ deciding decides outward (length rules.old.items) rule.now) }
+    ensures { OnOk result (StandFor (rulings_of all.new) (rulings_of all.old ++ deciding decides rule.now)) }
 {
     if !decides {
         return Ok(());
     }
-    let mut acts = Vec::new(alloc);
-    put_decision(&mut acts, outward, rule.to, rule.kind)?;
     let cond = rule.cond.copy(alloc)?;
+    put_by(alloc, all, rule.kind, cond, rule.to)?;
+    Ok(())
+}
+
+/// Puts what the quick ones decide behind the others, in their order. An error is want of memory.
+fn put_quick_rules(
+    alloc: Global,
+    all: &mut Rulings,
+    outward: bool,
+    tail: &[PfoRule],
+) -> Result<(), Memory>
+    ensures { OnOk result (StandFor (rulings_of all.new) (rulings_of all.old ++ quick_rulings outward tail.now)) }
+{
+    for rule in tail {
+        put_deciding(alloc, all, decides_first(outward, rule), rule)?;
+    }
+    Ok(())
+}
+
+/// Puts what those decide behind the others that aren't quick, the last one first. An error is want of memory.
+fn put_slow_rules(
+    alloc: Global,
+    all: &mut Rulings,
+    outward: bool,
+    tail: &[PfoRule],
+) -> Result<(), Memory>
+    ensures { OnOk result (StandFor (rulings_of all.new) (rulings_of all.old ++ slow_rulings outward tail.now)) }
+{
+    for i in (0..tail.len()).rev() {
+        let rule = &tail[i];
+        put_deciding(alloc, all, decides_last(outward, rule), rule)?;
+    }
+    Ok(())
+}
+
+/// Rulings that stand for those of the tail, of which neighbours are joined. An error is want of memory.
+fn joined_tail(alloc: Global, outward: bool, tail: &[PfoRule]) -> Result<Items<Ruling>, Memory>
+    ensures { IfOk result (λ all. StandFor all (tail_rulings outward tail.now)) }
+{
+    let mut all = Rulings::new(alloc);
+    put_quick_rules(alloc, &mut all, outward, tail)?;
+    put_slow_rules(alloc, &mut all, outward, tail)?;
+    let fewer = all.into_rulings(alloc)?;
+    Ok(fewer)
+}
+
+/// Puts the rules of a ruling behind the others. An error is want of memory.
+fn put_ruling(
+    alloc: Global,
+    rules: &mut Vec<Rule>,
+    outward: bool,
+    one: Ruling,
+) -> Result<(), Memory>
+    ensures { OnOk result (rules.new.items ≡ rules.old.items ++ ruling_rules outward (length rules.old.items) one) }
+{
+    let Ruling { cond, passes, to } = one;
+    let mut acts = Vec::new(alloc);
+    put_decision(&mut acts, outward, to, passes)?;
     put_acting(alloc, rules, cond, acts.as_slice())?;
     Ok(())
 }
 
-/// Puts the rules of the quick ones behind the others, in their order. An error is want of memory.
-fn put_quick_rules(
+/// Puts the rules of rulings behind the others. An error is want of memory.
+fn put_rulings(
     alloc: Global,
     rules: &mut Vec<Rule>,
     outward: bool,
-    tail: &[PfoRule],
+    all: Vec<Ruling>,
 ) -> Result<(), Memory>
-    ensures { OnOk result (rules.new.items ≡ rules.old.items ++ quick_rules outward (length rules.old.items) tail.now) }
+    ensures { OnOk result (rules.new.items ≡ rules.old.items ++ tail_rules outward (length rules.old.items) all.items) }
 {
-    for rule in tail {
-        put_deciding(alloc, rules, decides_first(outward, rule), outward, rule)?;
+    for one in all {
+        put_ruling(alloc, rules, outward, one)?;
     }
     Ok(())
 }
 
-/// Puts the rules of those that aren't quick behind the others, the last one first. An error is want of memory.
-fn put_slow_rules(
-    alloc: Global,
-    rules: &mut Vec<Rule>,
-    outward: bool,
-    tail: &[PfoRule],
-) -> Result<(), Memory>
-    ensures { OnOk result (rules.new.items ≡ rules.old.items ++ slow_rules outward (length rules.old.items) tail.now) }
-{
-    for i in (0..tail.len()).rev() {
-        let rule = &tail[i];
-        put_deciding(alloc, rules, decides_last(outward, rule), outward, rule)?;
-    }
-    Ok(())
-}
-
-/// Puts the rules of the tail behind the others. An error is want of memory.
+/// Puts rules behind the others that decide as the rules of the tail do. An error is want of memory.
 pub(crate) fn put_tail(
     alloc: Global,
     rules: &mut Vec<Rule>,
     outward: bool,
     tail: &[PfoRule],
 ) -> Result<(), Memory>
-    ensures { OnOk result (rules.new.items ≡ rules.old.items ++ tail_rules outward (length rules.old.items) tail.now) }
+    ensures { OnOk result (EndsIn outward tail.now rules.old.items rules.new.items) }
 {
-    put_quick_rules(alloc, rules, outward, tail)?;
-    put_slow_rules(alloc, rules, outward, tail)?;
+    let joined = joined_tail(alloc, outward, tail)?;
+    put_rulings(alloc, rules, outward, joined.into_vec())?;
     Ok(())
 }

@@ -6,26 +6,32 @@ use Rattle.fws_ifcl.specs.Soundness.{ifcl_ok}
 use Rattle.fws_ifcl.specs.Walk.{means}
 use Rattle.fws_draw.specs.Straight.{is_straight}
 use Rattle.fws_pfo.specs.Walk.{walk}
-use Rattle.fws_pfo_ifcl.specs.Diagram.{diagram_of}
+use Rattle.fws_pfo_ifcl.specs.Diagram.{drawn_of}
 use Rattle.fws_pfo_ifcl.proofs.Numbered.{diagram_ok, diagram_straight}
 use Rattle.fws_pfo_ifcl.proofs.Passing.{keeps_walks, rules_fit}
 use Rattle.fws_pfo_ifcl.proofs.diagram.to_ifcl.Goals as goal
 
 pub returns-clause-ok : goal.returns-clause-ok
-returns-clause-ok c = subst (λ d. ifcl_ok d ≡ true) (sym c.in_ok-d.ensures) (diagram_ok c.rules_are_right_by_parts.ensures c.args.c.now)
+returns-clause-ok c =
+    let drawn = c.in_ok-d.ensures in
+    subst (λ d. ifcl_ok d ≡ true) (sym drawn.are) (diagram_ok c.rules_are_right_by_parts.ensures drawn.tails c.args.c.now)
 
 pub returns-clause-means : goal.returns-clause-means
 returns-clause-means c =
     let f = c.args.c.now in
     let site = c.args.site.now in
-    subst (λ d. (p : Packet) (k : Kind) → means d site p k ≡ walk f site p k) (sym c.in_ok-d.ensures)
-    (keeps_walks c.walks_go_by_places.ensures site f (rules_fit site f c.requires))
+    let drawn = c.in_ok-d.ensures in
+    subst (λ d. (p : Packet) (k : Kind) → means d site p k ≡ walk f site p k) (sym drawn.are)
+    (keeps_walks c.walks_go_by_places.ensures site drawn.tails f drawn.stand (rules_fit site f c.requires))
 
 pub returns-clause-straight : goal.returns-clause-straight
-returns-clause-straight c = subst (λ d. is_straight d ≡ true) (sym c.in_ok-d.ensures) (diagram_straight c.rules_are_right_by_parts.ensures c.args.c.now)
+returns-clause-straight c =
+    let drawn = c.in_ok-d.ensures in
+    subst (λ d. is_straight d ≡ true) (sym drawn.are) (diagram_straight c.rules_are_right_by_parts.ensures drawn.tails c.args.c.now)
 
 pub returns-clause-unfolds : goal.returns-clause-unfolds
 returns-clause-unfolds c =
     let f = c.args.c.now in
-    subst (λ d. refusal_of d ≡ None) (sym c.in_ok-d.ensures)
-    (c.straight_diagrams_unfold.ensures (diagram_of f) (diagram_straight c.rules_are_right_by_parts.ensures f))
+    let drawn = c.in_ok-d.ensures in
+    subst (λ d. refusal_of d ≡ None) (sym drawn.are)
+    (c.straight_diagrams_unfold.ensures (drawn_of drawn.tails f) (diagram_straight c.rules_are_right_by_parts.ensures drawn.tails f))
