@@ -13,3 +13,4 @@ mod Policies
 mod RegularTables
 mod Suggestions
 mod UnusedRules
+mod Widening

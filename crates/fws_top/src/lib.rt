@@ -5,6 +5,7 @@ mod answer;
 mod answering;
 mod ask;
 mod ask_set;
+mod asked_sides;
 mod command_name;
 mod commands;
 mod form;

@@ -23,6 +23,7 @@ ghost use Rattle.fws_tree.specs.Regular.{AreRegular};
 ghost use Rattle.fws_why.specs.WhyText.{why_text};
 
 use crate::ask_set::read_ask;
+use crate::asked_sides::executed_sides;
 use crate::laws::regular_walks_make_regular_tables;
 use crate::placed::PlacedCode;
 use crate::policy::PolicyCode;
@@ -62,8 +63,27 @@ pub(crate) fn table(alloc: Global, site: &Site, code: &Flat, state: State) -> Re
     Ok(text)
 }
 
-/// The part of the table that is asked for. Packets that aren't asked for are left out before the code is executed, so that the work
-/// is that of the part.
+/// A tree of what code makes of the packets of a state that are asked for; what it has for others tells nothing. Most others are left
+/// out before the code is executed, so that the work is that of what is asked for.
+fn asked_tree(
+    alloc: Global,
+    site: &Site,
+    code: &Flat,
+    state: State,
+    ask: &Ask,
+) -> Result<Tree<Outcome>, Memory>
+    requires sound { IsSound site.now }
+    requires ok { flat_ok code.now ≡ true }
+    ensures tops { IfOk result (λ t. t.0 ≡ tops_of site.now) }
+    ensures walked { (walk : Packet → Kind → Outcome) → Does code.now site.now walk
+        → IfOk result (λ t. (p : List ℕ) → IsWithin (tops_of site.now) p → sides_have ask.now.sides p ≡ true → value t.1 p ≡ Some (walked_at walk state p)) }
+{
+    let sides = executed_sides(alloc, site, code.code.as_slice(), &ask.sides)?;
+    let tree = execute_within(alloc, code, site, state, &sides)?;
+    Ok(tree)
+}
+
+/// The part of the table that is asked for.
 fn asked_text(
     alloc: Global,
     site: &Site,
@@ -79,7 +99,7 @@ fn asked_text(
         → Does code.now site.now walk
         → IfOk result (IsAskedTable site.now state asks walk) }
 {
-    let tree = execute_within(alloc, code, site, state, &ask.sides)?;
+    let tree = asked_tree(alloc, site, code, state, ask)?;
     let text = query(alloc, site, state, &tree, ask)?;
     Ok(text)
 }
