@@ -183,7 +183,7 @@ answered() { # family count language target seconds megabytes status: an answer 
 
 echo 'family rules language target seconds megabytes lines'
 answered unfolded 998 iptables ios 3 1024 1
-answered dropped 1280 iptables ios 6 1024 0
+answered dropped 1280 iptables ios 6 1024 1
 answered webbed 500 ipfw pf 3 1024 0
 
 echo 'command rules seconds megabytes counts'
