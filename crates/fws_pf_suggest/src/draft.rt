@@ -35,4 +35,9 @@ pub(crate) struct Filter {
     pub(crate) coming: Found,
     /// The rules for the host's own packets: none where all of them pass.
     pub(crate) leaving: Option<Found>,
+    /// Whether these are asked of what is forwarded, too, but for what passed in with a tag: a rule that passes in has the colour TAGGED then.
+    pub(crate) asks_again: bool,
 }
+
+/// The colour of a pass with a tag, by which a packet passes out.
+pub(crate) const TAGGED: u32 = 2;

@@ -32,7 +32,7 @@ pub(crate) fn not_opening(policy: &mut Policy) -> Result<Option<Side>, Stop> {
 }
 
 /// TCP packets that open no connection.
-fn later_packets(policy: &mut Policy) -> Result<Option<Region>, Stop> {
+pub(crate) fn later_packets(policy: &mut Policy) -> Result<Option<Region>, Stop> {
     let Some(side) = not_opening(policy)? else {
         return Ok(None);
     };
@@ -41,7 +41,7 @@ fn later_packets(policy: &mut Policy) -> Result<Option<Region>, Stop> {
 }
 
 /// Leaves out TCP packets that open no connection, where all of them may be dropped and something else may not; whether it did.
-fn leave_out(policy: &mut Policy, diagram: &mut Diagram) -> Result<bool, Stop> {
+pub(crate) fn leave_out(policy: &mut Policy, diagram: &mut Diagram) -> Result<bool, Stop> {
     if policy.space.least_mask(*diagram) != Mask::NONE {
         return Ok(false);
     }
@@ -57,7 +57,7 @@ fn leave_out(policy: &mut Policy, diagram: &mut Diagram) -> Result<bool, Stop> {
 }
 
 /// The list of what passes in, where entries have tags: a colour for each tag.
-fn tagged_list(
+pub(crate) fn tagged_list(
     policy: &mut Policy,
     universe: Side,
     diagram: Diagram,
@@ -134,10 +134,11 @@ fn coming_list(
 }
 
 /// What is passed and blocked of the host's own packets.
-fn leaving_list(policy: &mut Policy, leaving: Diagram) -> Result<Found, Stop> {
+pub(crate) fn leaving_list(policy: &mut Policy, leaving: Diagram) -> Result<Found, Stop> {
     let mut own = leaving;
     let opens_only = leave_out(policy, &mut own)?;
-    let mut task = verdict_task(policy.alloc, own, &[ACCEPT, DROP])?;
+    // what nothing passes is blocked without a rule of its own
+    let mut task = verdict_task(policy.alloc, own, &[DROP, ACCEPT])?;
     task.hints = policy.sending_hints()?;
     let everywhere = policy.space.full(DST);
     let list = solved_by(policy, Settings::pf().with_exits(), everywhere, &task)?;
@@ -166,5 +167,6 @@ pub(crate) fn filtered(
         is_one,
         coming,
         leaving,
+        asks_again: false,
     })
 }

@@ -1,6 +1,7 @@
 //! Short texts of pf that may do what tables say. Nothing is promised of them: who uses one checks it.
 #![tactic(auto)]
 
+mod again;
 mod draft;
 mod filter;
 mod free;

@@ -147,8 +147,8 @@ fn seen_from(policy: &mut Policy, here: Diagram, end: End) -> Result<Diagram, St
     policy.space.keep(image, &region)
 }
 
-/// What becomes of the host's own packets over which the source of this colour is written.
-fn sent_as(
+/// What becomes of packets over which the source of this colour is written, by what would become of all.
+pub(crate) fn sent_as(
     policy: &mut Policy,
     verdict: Diagram,
     painted: Diagram,

@@ -1,6 +1,6 @@
 //! The text of statements.
 
-use crate::draft::{Filter, Found, Translations};
+use crate::draft::{Filter, Found, TAGGED, Translations};
 use crate::filter::not_opening;
 use crate::free::Free;
 use crate::names::Names;
@@ -291,13 +291,17 @@ struct Way<'a> {
     only_opens: bool,
     /// What passes are tagged with, with a blank ahead; nothing for no tag.
     tag: &'a [u8],
+    /// Whether passes of the colour TAGGED alone are tagged so.
+    tags_some: bool,
     /// Whether a colour stands for the tag of entries.
     has_marks: bool,
 }
 
 /// Appends the tag that a pass sets, with a blank ahead of it.
 fn put_tag(out: &mut Lines, way: &Way, colour: u32) -> Result<(), Memory> {
-    out.put(way.tag)?;
+    if !way.tags_some || colour == TAGGED {
+        out.put(way.tag)?;
+    }
     if way.has_marks {
         out.put(b" tag ")?;
         put_entry_tag(&mut out.text, colour.saturating_sub(ACCEPT))?;
@@ -403,9 +407,19 @@ fn put_coming(
         is_leaving: false,
         only_opens: filter.coming.opens_only,
         tag: if tags_forwarded { b" tag FWD" } else { b"" },
+        tags_some: filter.asks_again,
         has_marks,
     };
     put_rules(names, out, policy, &mut style, &filter.coming.list, &way)
+}
+
+/// Whether some packets get the tag as they come in by which they pass out.
+fn some_are_tagged(filter: &Filter) -> bool {
+    let list = &filter.coming.list;
+    if filter.asks_again {
+        return list.default == TAGGED || list.rules.iter().any(|rule| rule.colour == TAGGED);
+    }
+    !list.rules.is_empty() || list.default != DROP
 }
 
 /// Appends the statements that let out what is known by its tag.
@@ -413,15 +427,15 @@ fn put_tagged(
     out: &mut Lines,
     forwarding: bool,
     translations: &Translations,
-    some_pass: bool,
+    filter: &Filter,
 ) -> Result<(), Memory> {
     if translations.tags_sent {
         out.end(b"pass out quick all flags any keep state tagged NAT")?;
     }
-    if forwarding && some_pass && translations.marks.is_empty() {
+    if forwarding && translations.marks.is_empty() && some_are_tagged(filter) {
         out.end(b"pass out quick all flags any keep state tagged FWD")?;
     }
-    if forwarding {
+    if forwarding && !filter.asks_again {
         for class in &translations.marks {
             out.put(b"pass out quick all flags any keep state tagged ")?;
             put_entry_tag(&mut out.text, class.mark)?;
@@ -437,11 +451,10 @@ fn put_leaving(
     out: &mut Lines,
     policy: &mut Policy,
     translations: &Translations,
-    coming: &List,
+    filter: &Filter,
     leaving: &Found,
 ) -> Result<(), Stop> {
-    let some_pass = !coming.rules.is_empty() || coming.default != DROP;
-    put_tagged(out, policy.forwarding, translations, some_pass)?;
+    put_tagged(out, policy.forwarding, translations, filter)?;
     let everywhere = policy.space.full(DST);
     let mut style = policy.style(Settings::pf().with_exits(), everywhere)?;
     let way = Way {
@@ -449,6 +462,7 @@ fn put_leaving(
         is_leaving: true,
         only_opens: leaving.opens_only,
         tag: b"",
+        tags_some: false,
         has_marks: false,
     };
     put_rules(names, out, policy, &mut style, &leaving.list, &way)
@@ -488,7 +502,7 @@ fn put_filter(
     }
     out.head(b"\n# what leaves")?;
     match &filter.leaving {
-        Some(found) => put_leaving(names, out, policy, translations, &filter.coming.list, found)?,
+        Some(found) => put_leaving(names, out, policy, translations, filter, found)?,
         None => out.end(b"pass out quick all flags any keep state")?,
     }
     Ok(())

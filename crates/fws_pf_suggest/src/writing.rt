@@ -2,6 +2,7 @@
 
 ghost use Rattle.fws_net.specs.Routes.{IsSound};
 
+use crate::again::filtered_again;
 use crate::draft::{Filter, Translations};
 use crate::filter::filtered;
 use crate::free::{Free, free_interfaces};
@@ -61,6 +62,18 @@ fn attempt(
     written(policy, site, translations, free, &filter)
 }
 
+/// The text with a filter of two lists, of which what is forwarded meets both.
+fn attempt_again(
+    policy: &mut Policy,
+    site: &Site,
+    translations: &Translations,
+    free: &Free,
+    behind: Behind,
+) -> Result<Tried, Stop> {
+    let filter = filtered_again(policy, translations, behind.verdict, behind.leaving, free)?;
+    written(policy, site, translations, free, &filter)
+}
+
 /// The text of a filter behind translations.
 fn written(
     policy: &mut Policy,
@@ -107,12 +120,13 @@ fn put_tried(all: &mut Vec<Tried>, tried: Result<Tried, Stop>) -> Result<(), Mem
     }
 }
 
-/// Puts the texts with a filter of one list, and of two, among the others.
+/// Puts the texts with a filter of one list, and of two, among the others; and where tables are small one in which what is forwarded meets both.
 fn put_texts(
     all: &mut Vec<Tried>,
     policy: &mut Policy,
     site: &Site,
     free: &Free,
+    is_small: bool,
 ) -> Result<(), Stop> {
     let mut translations = Translations {
         redirected: Vec::new(policy.alloc),
@@ -126,6 +140,10 @@ fn put_texts(
         let tried = attempt(policy, site, &translations, free, behind, is_one);
         put_tried(all, tried)?;
     }
+    if is_small {
+        let tried = attempt_again(policy, site, &translations, free, behind);
+        put_tried(all, tried)?;
+    }
     Ok(())
 }
 
@@ -135,8 +153,9 @@ fn put_if_found(
     policy: &mut Policy,
     site: &Site,
     free: &Free,
+    is_small: bool,
 ) -> Result<(), Memory> {
-    match put_texts(all, policy, site, free) {
+    match put_texts(all, policy, site, free, is_small) {
         Ok(()) | Err(Stop::Late) => Ok(()),
         Err(Stop::Memory) => Err(Memory),
     }
@@ -148,9 +167,10 @@ fn put_within(
     policy: &mut Policy,
     site: &Site,
     free: &Free,
+    is_small: bool,
 ) -> Result<(), Memory> {
     let before = policy.hold_back(2);
-    let put = put_if_found(all, policy, site, free);
+    let put = put_if_found(all, policy, site, free, is_small);
     policy.let_go(before);
     put
 }
@@ -163,14 +183,14 @@ fn put_ways(all: &mut Vec<Tried>, policy: &mut Policy, site: &Site) -> Result<()
     let loopback = free_interfaces(policy, verdict, false)?;
     let wide = free_interfaces(policy, verdict, true)?;
     if !loopback.numbers.is_empty() {
-        put_within(all, policy, site, &loopback)?;
+        put_within(all, policy, site, &loopback, is_small)?;
     }
     if wide.numbers.len() > loopback.numbers.len() && is_small {
-        put_within(all, policy, site, &wide)?;
+        put_within(all, policy, site, &wide, is_small)?;
     }
     if all.is_empty() || is_small {
         let none = Free::none(policy);
-        put_if_found(all, policy, site, &none)?;
+        put_if_found(all, policy, site, &none, is_small)?;
     }
     Ok(())
 }
