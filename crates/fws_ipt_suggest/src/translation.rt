@@ -108,15 +108,20 @@ fn ahead_list(policy: &mut Policy, diagram: Diagram) -> Result<List, Stop> {
     ahead_list_by(policy, &mut style, diagram)
 }
 
-/// What becomes of new packets ahead of translations: those that are dropped may be so there, or are where that is asked; all
-/// others pass.
-fn new_ahead(policy: &mut Policy, original: Diagram, drops_all: bool) -> Result<Diagram, Stop> {
+/// Of which new packets that are dropped it is asked that they are so ahead of translations.
+#[derive(Clone, Copy)]
+pub(crate) enum Early {
+    /// Of none: any of them may be.
+    May,
+    /// Of all of them.
+    Must,
+    /// Of those that this accepts: what it drops is dropped later, whether it is new or established.
+    Unless(Diagram),
+}
+
+/// What becomes of new packets ahead of translations: of those that are dropped what the mask has, and all others pass.
+fn new_with(policy: &mut Policy, original: Diagram, dropped: Mask) -> Result<Diagram, Stop> {
     let accept = policy.space.only(ACCEPT)?;
-    let dropped = if drops_all {
-        policy.space.only(DROP)?
-    } else {
-        Mask::ALL
-    };
     let mut table = Vec::new(policy.alloc);
     for outcome in &policy.outcomes {
         table.push(match outcome {
@@ -127,15 +132,34 @@ fn new_ahead(policy: &mut Policy, original: Diagram, drops_all: bool) -> Result<
     policy.translated(original, &table)
 }
 
+/// What becomes of new packets ahead of translations: those that are dropped may be so there, or are where that is asked; all
+/// others pass.
+fn new_ahead(policy: &mut Policy, original: Diagram, early: Early) -> Result<Diagram, Stop> {
+    let drop = policy.space.only(DROP)?;
+    match early {
+        Early::May => new_with(policy, original, Mask::ALL),
+        Early::Must => new_with(policy, original, drop),
+        Early::Unless(later) => {
+            let all = new_with(policy, original, drop)?;
+            let either = policy.space.mask(&[DROP, ACCEPT])?;
+            let free = policy.translated(later, &[either, Mask::NONE])?;
+            let free = policy.replaced(free, Mask::ALL, Mask::NONE)?;
+            let some = new_with(policy, original, either)?;
+            let lost = policy.space.meet(some, free)?;
+            policy.space.met(all, lost, Meeting::Either)
+        }
+    }
+}
+
 /// What may be dropped ahead of translations: it gives up where nothing can be right.
 fn droppable(
     policy: &mut Policy,
     original: Diagram,
     established: Option<Diagram>,
     clashes: Option<Diagram>,
-    drops_all: bool,
+    early: Early,
 ) -> Result<Diagram, Stop> {
-    let mut new = new_ahead(policy, original, drops_all)?;
+    let mut new = new_ahead(policy, original, early)?;
     if let Some(clashes) = clashes {
         new = policy.space.meet(new, clashes)?;
     }
@@ -162,16 +186,16 @@ fn leave_out(policy: &mut Policy, original: Diagram, rules: &[Rule]) -> Result<(
 }
 
 /// What is dropped ahead of translations: established packets as the diagram says, and new ones, of which the original says what
-/// becomes of them, where nothing but dropping is allowed by `clashes`, or all of those that are dropped. New packets that are dropped
+/// becomes of them, where nothing but dropping is allowed by `clashes`, and as early as that is asked. New packets that are dropped
 /// so are left out of what follows.
 pub(crate) fn ahead(
     policy: &mut Policy,
     original: Diagram,
     established: Option<Diagram>,
     clashes: Option<Diagram>,
-    drops_all: bool,
+    early: Early,
 ) -> Result<Ahead, Stop> {
-    let diagram = droppable(policy, original, established, clashes, drops_all)?;
+    let diagram = droppable(policy, original, established, clashes, early)?;
     let list = ahead_list(policy, diagram)?;
     leave_out(policy, original, &list.rules)?;
     Ok(Ahead { rules: list.rules })
@@ -264,7 +288,7 @@ fn dropped_ahead(
         return Ok(None);
     };
     let clashes = policy.clashes(tagged)?;
-    match ahead(policy, original, established, Some(clashes), false) {
+    match ahead(policy, original, established, Some(clashes), Early::May) {
         Ok(ahead) => Ok(Some(ahead)),
         Err(Stop::Late) => Ok(None),
         Err(Stop::Memory) => Err(Stop::Memory),

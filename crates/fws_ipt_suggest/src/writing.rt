@@ -8,7 +8,7 @@ use crate::filter::{Asked, Hook, asked_at, filtered};
 use crate::rules::Writer;
 use crate::tables::put_tables;
 use crate::text::put_line;
-use crate::translation::{ahead, redirected, sent};
+use crate::translation::{Early, ahead, redirected, sent};
 use fws_flat::Flat;
 use fws_net::{Lang, Site};
 use fws_num::{Memory, Text};
@@ -16,15 +16,15 @@ use fws_suggest::{Diagram, Established, Policy, Stop};
 use fws_tree::Tables;
 use std::alloc::Global;
 
-/// What is dropped ahead of translations, as far as established packets ask for it; then all new ones too, where that is asked.
+/// What is dropped ahead of translations, as far as established packets ask for it; then new ones too, as early as that is asked.
 fn before_translations(
     policy: &mut Policy,
     original: Diagram,
     established: Option<Diagram>,
-    drops_all: bool,
+    early: Early,
 ) -> Result<Ahead, Stop> {
     if established.is_some() {
-        return ahead(policy, original, established, None, drops_all);
+        return ahead(policy, original, established, None, early);
     }
     Ok(Ahead {
         rules: Vec::new(policy.alloc),
@@ -36,10 +36,10 @@ fn translations_of(
     policy: &mut Policy,
     site: &Site,
     established: Option<Diagram>,
-    drops_all: bool,
+    early: Early,
 ) -> Result<Translations, Stop> {
     let original = policy.fresh;
-    let mut before = before_translations(policy, original, established, drops_all)?;
+    let mut before = before_translations(policy, original, established, early)?;
     let redirected = redirected(policy, original, established, &mut before)?;
     let sent = sent(policy, site, redirected.behind)?;
     Ok(Translations {
@@ -222,9 +222,9 @@ fn found(
     established: Established,
     site: &Site,
     hints: &Flat,
-    drops_all: bool,
+    early: Early,
 ) -> Result<Suggestion, Stop> {
-    let translations = translations_of(policy, site, established.ahead, drops_all)?;
+    let translations = translations_of(policy, site, established.ahead, early)?;
     let behind = translations.redirected.behind;
     let versions = versions_of(policy, behind, established.behind, hints)?;
     let writer = Writer {
@@ -257,7 +257,22 @@ fn put_found(all: &mut Vec<Suggestion>, found: Result<Suggestion, Stop>) -> Resu
     }
 }
 
-/// Puts the text in which all is dropped as it arrives, whether it is new or established, where that can be told of some of what is
+/// How early new packets may have to be dropped, where all is dropped as it arrives: what is dropped as it is forwarded, whether it is
+/// new or established, need not be, where destinations stay.
+fn early_of(policy: &Policy, established: Established) -> Early {
+    match established.behind {
+        Some(later) => {
+            if policy.destinations.len() == 1 {
+                Early::Unless(later)
+            } else {
+                Early::Must
+            }
+        }
+        None => Early::Must,
+    }
+}
+
+/// Puts the texts in which all is dropped as it arrives, whether it is new or established, where that can be told of some of what is
 /// established.
 fn put_whole(
     all: &mut Vec<Suggestion>,
@@ -268,7 +283,8 @@ fn put_whole(
 ) -> Result<(), Stop> {
     let established = policy.established(&tables.est, true)?;
     if established.ahead.is_some() {
-        let whole = found(policy, established, site, hints, true);
+        let early = early_of(policy, established);
+        let whole = found(policy, established, site, hints, early);
         put_found(all, whole)?;
     }
     Ok(())
@@ -288,7 +304,7 @@ fn all_found(
     let established = policy.established(&tables.est, false)?;
     let mut all = Vec::new(alloc);
     let before = policy.hold_back(2);
-    let plain = found(&mut policy, established, site, hints, false);
+    let plain = found(&mut policy, established, site, hints, Early::May);
     policy.let_go(before);
     put_found(&mut all, plain)?;
     policy.fresh = original;
