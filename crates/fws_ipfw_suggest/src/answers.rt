@@ -158,9 +158,13 @@ fn put_back(backs: &mut Vec<Back>, back: Back) -> Result<(), Memory> {
     Ok(())
 }
 
-/// The text of a rule by which answers are translated back.
-fn back_text(writer: &Writer, back: &Back) -> Result<Text, Memory> {
+/// The text of a rule by which answers are translated back, and get a tag by which they pass out, if there is one.
+fn back_text(writer: &Writer, back: &Back, tag: Option<u64>) -> Result<Text, Memory> {
     let mut text = nat(writer.alloc, back.number)?;
+    if let Some(tag) = tag {
+        text.put(b" tag ")?;
+        put_dec(&mut text, tag)?;
+    }
     text.put(b" ")?;
     put_protocol_or_all(&mut text, back.protocol)?;
     text.put(b" from ")?;
@@ -240,16 +244,17 @@ fn backs_of(policy: &mut Policy, found: &Instances) -> Result<Vec<Back>, Stop> {
     Ok(backs)
 }
 
-/// Appends the rules by which answers to redirected packets are translated back; whether there are some.
+/// Appends the rules by which answers to redirected packets are translated back, and get a tag, if there is one; whether there are some.
 pub(crate) fn put_replies(
     script: &mut Script,
     writer: &Writer,
     policy: &mut Policy,
     found: &Instances,
+    tag: Option<u64>,
 ) -> Result<bool, Stop> {
     let backs = backs_of(policy, found)?;
     for back in &backs {
-        let text = back_text(writer, back)?;
+        let text = back_text(writer, back, tag)?;
         script.put(text.as_slice())?;
     }
     Ok(!backs.is_empty())

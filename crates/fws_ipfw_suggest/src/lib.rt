@@ -1,6 +1,7 @@
 //! Short texts of ipfw that may do what tables say. Nothing is promised of them: who uses one checks it.
 #![tactic(auto)]
 
+mod again;
 mod ahead;
 mod answers;
 mod bodies;

@@ -133,7 +133,8 @@ fn leaving_colours(alloc: Global, sources: usize) -> Result<Vec<Colour>, Memory>
 /// The list for packets that leave.
 fn leaving_list(policy: &mut Policy, style: &mut Style, diagram: Diagram) -> Result<List, Stop> {
     let colours = leaving_colours(policy.alloc, policy.sources.len())?;
-    let mut task = task_for(policy.alloc, diagram, colours, &[ACCEPT, DROP])?;
+    // what no rule lets out is dropped behind them
+    let mut task = task_for(policy.alloc, diagram, colours, &[DROP, ACCEPT])?;
     task.hints = policy.sending_hints()?;
     solved(policy, style, &task)
 }

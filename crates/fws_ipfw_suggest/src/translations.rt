@@ -162,8 +162,8 @@ pub(crate) fn redirected(
             is_tagged: false,
         });
     }
+    // answers to other connections mustn't be redirected, so that ports are asked
     let ways = [
-        (Reach::Wide, false),
         (Reach::Near, false),
         (Reach::Near, true),
         (Reach::Strict, false),
@@ -177,33 +177,47 @@ pub(crate) fn redirected(
     Err(Stop::Late)
 }
 
-/// What may be written over the sources of the host's own packets: where that is asked nothing over those that are dropped.
+/// Over the sources of which of the host's own packets that are dropped something may be written.
+#[derive(Clone, Copy, PartialEq, Eq)]
+enum Care {
+    /// Of all of them.
+    Free,
+    /// Of those of which other ones pass with other flags or ICMP types.
+    Rough,
+    /// Of none.
+    Strict,
+}
+
+/// What may be written over the sources of the host's own packets.
 fn own_sendings(
     policy: &mut Policy,
     all: Diagram,
     own: Diagram,
-    is_strict: bool,
+    care: Care,
 ) -> Result<Diagram, Stop> {
     let departures = policy.departures();
     let mine = policy.space.keep(all, &departures)?;
-    if !is_strict {
+    if care == Care::Free {
         return Ok(mine);
     }
     let none = policy.space.only(0)?;
-    let kept = parted(policy, own, none, Mask::ALL, 2)?;
+    let mut kept = parted(policy, own, none, Mask::ALL, 2)?;
+    if care == Care::Rough {
+        kept = policy.space.project(kept, FLAGS, Meeting::Either)?;
+        kept = policy.space.project(kept, ICMP, Meeting::Either)?;
+    }
     policy.space.meet(mine, kept)
 }
 
-/// What may be written over the sources of packets that leave: where that is asked nothing over those of the host's packets
-/// that are dropped.
+/// What may be written over the sources of packets that leave.
 fn sendings(
     policy: &mut Policy,
     behind: Diagram,
     own: Diagram,
-    is_strict: bool,
+    care: Care,
 ) -> Result<Diagram, Stop> {
     let all = policy.sendings(behind)?;
-    let mine = own_sendings(policy, all, own, is_strict)?;
+    let mine = own_sendings(policy, all, own, care)?;
     if !policy.forwarding {
         return Ok(mine);
     }
@@ -259,16 +273,34 @@ fn without_details(policy: &mut Policy, diagram: Diagram) -> Result<Diagram, Sto
     Ok(if policy.fails(flat)? { diagram } else { flat })
 }
 
+/// A diagram in which nothing is written over sources that are written themselves, where that may be: no packet is translated twice then.
+fn unless_written(policy: &mut Policy, diagram: Diagram) -> Result<Diagram, Stop> {
+    let mut side = Side::EMPTY;
+    for place in 1..policy.sources.len() {
+        if let Some(Some(end)) = policy.sources.get(place).copied() {
+            let one = policy.space.range(SRC, end.addr, end.addr)?;
+            side = policy.space.either(side, one)?;
+        }
+    }
+    let region = policy.everything().with(SRC, side);
+    let none = policy.space.only(0)?;
+    let anything = policy.space.anything()?;
+    let limit = policy.space.put(anything, &region, none)?;
+    let once = policy.space.meet(diagram, limit)?;
+    Ok(if policy.fails(once)? { diagram } else { once })
+}
+
 /// How sources are translated, in a way.
 fn sent_so(
     policy: &mut Policy,
     style: &mut Style,
     behind: Diagram,
     own: Diagram,
-    is_strict: bool,
+    care: Care,
 ) -> Result<Translated, Stop> {
-    let diagram = sendings(policy, behind, own, is_strict)?;
+    let diagram = sendings(policy, behind, own, care)?;
     let diagram = without_details(policy, diagram)?;
+    let diagram = unless_written(policy, diagram)?;
     let list = sending_list(policy, style, diagram)?;
     let seen = seen_leaving(policy, own, &list.rules)?;
     Ok(Translated {
@@ -278,7 +310,7 @@ fn sent_so(
     })
 }
 
-/// How sources are translated, and what is seen then of the host's own packets. It gives up where neither way is open.
+/// How sources are translated, and what is seen then of the host's own packets. It gives up where no way is open.
 pub(crate) fn sent(
     policy: &mut Policy,
     style: &mut Style,
@@ -292,8 +324,8 @@ pub(crate) fn sent(
             is_tagged: false,
         });
     }
-    for is_strict in [false, true] {
-        let way = sent_so(policy, style, behind, own, is_strict)?;
+    for care in [Care::Free, Care::Rough, Care::Strict] {
+        let way = sent_so(policy, style, behind, own, care)?;
         if !policy.fails(way.behind)? {
             return Ok(way);
         }

@@ -1,6 +1,7 @@
 //! Translations ahead of `check-state`, and filters behind it: packets are translated and translated back before a connection is
 //! looked up.
 
+use crate::again::{asked_again, colours, put_coming_list, tags, wherever};
 use crate::ahead::{ahead, leaving_ahead, unless_dropped_later};
 use crate::answers::{put_answers, put_replies};
 use crate::diagrams::colour_of;
@@ -14,7 +15,7 @@ use fws_net::Site;
 use fws_num::{Memory, Text};
 use fws_suggest::{
     ACCEPT, DROP, DST, Diagram, ENTRY, Established, List, Meeting, Phrases, Policy, Rule, Settings,
-    Stop, Style, solved, verdict_task,
+    Stop, Style, solved, task_for, verdict_task,
 };
 use std::alloc::Global;
 
@@ -24,6 +25,8 @@ struct Incoming {
     before: Vec<Rule>,
     found: Instances,
     translated: Translated,
+    /// Whether tables are small, so that more is tried.
+    is_small: bool,
 }
 
 /// What is put for packets that leave, ahead of `check-state`.
@@ -43,6 +46,8 @@ struct Filters {
     own: Option<List>,
     /// Whether packets from loopback pass as they come in, and are asked as the host's own are.
     passes_loopback: bool,
+    /// Whether all packets are asked as the host's own are, but for those that get a tag as they come in.
+    asks_again: bool,
 }
 
 /// The action of a rule that translates by an instance, and may tag what it translates.
@@ -93,15 +98,12 @@ fn put_translations(
     Ok(())
 }
 
-/// The list for packets that come in, behind their translation, where these rules drop packets as they leave: but for those from loopback,
-/// where these are asked as they leave.
-fn coming_list(
+/// What is asked of packets that come in, behind their translation: but of those from loopback, where these are asked as they leave.
+fn coming_asked(
     policy: &mut Policy,
-    style: &mut Style,
     behind: Diagram,
-    leaving: &[Rule],
     passes_loopback: bool,
-) -> Result<List, Stop> {
+) -> Result<Diagram, Stop> {
     let mut region = policy.arrivals();
     if passes_loopback {
         let loopback = policy.space.range(ENTRY, 1, 1)?;
@@ -112,9 +114,34 @@ fn coming_list(
         region = region.with(DST, policy.local);
     }
     let verdict = policy.verdict(behind)?;
-    let diagram = policy.space.keep(verdict, &region)?;
-    let diagram = unless_dropped_later(policy, diagram, leaving)?;
+    policy.space.keep(verdict, &region)
+}
+
+/// The list for packets that come in, by what is asked of them, where these rules drop packets as they leave.
+fn coming_list(
+    policy: &mut Policy,
+    style: &mut Style,
+    asked: Diagram,
+    leaving: &[Rule],
+) -> Result<List, Stop> {
+    let diagram = unless_dropped_later(policy, asked, leaving)?;
     let mut task = verdict_task(policy.alloc, diagram, &[DROP, ACCEPT])?;
+    task.hints = policy.coming_hints()?;
+    solved(policy, style, &task)
+}
+
+/// The list for packets that come in, where those that pass are asked again as they leave by the host's own list.
+fn coming_list_again(
+    policy: &mut Policy,
+    style: &mut Style,
+    asked: Diagram,
+    going: &Outgoing,
+    own: &List,
+) -> Result<List, Stop> {
+    let again = asked_again(policy, asked, &going.translated, own)?;
+    let diagram = unless_dropped_later(policy, again, &going.before)?;
+    let all = colours(policy.alloc)?;
+    let mut task = task_for(policy.alloc, diagram, all, &[DROP, ACCEPT])?;
     task.hints = policy.coming_hints()?;
     solved(policy, style, &task)
 }
@@ -125,7 +152,8 @@ fn own_list(policy: &mut Policy, style: &mut Style, seen: Diagram) -> Result<Opt
     if policy.space.has(least, ACCEPT) {
         return Ok(None);
     }
-    let mut task = verdict_task(policy.alloc, seen, &[ACCEPT, DROP])?;
+    // what no rule lets out is dropped behind them
+    let mut task = verdict_task(policy.alloc, seen, &[DROP, ACCEPT])?;
     task.hints = policy.sending_hints()?;
     let list = solved(policy, style, &task)?;
     Ok(Some(list))
@@ -137,6 +165,7 @@ fn coming_plan(
     style: &mut Style,
     established: Established,
 ) -> Result<Incoming, Stop> {
+    let is_small = policy.space.size() < FEW_WORDS;
     let before = ahead(policy, established.ahead)?;
     let found = instances_of(policy)?;
     let translated = redirected(policy, style, &found)?;
@@ -144,6 +173,7 @@ fn coming_plan(
         before,
         found,
         translated,
+        is_small,
     })
 }
 
@@ -241,7 +271,67 @@ fn going_plan(
     })
 }
 
-/// What is put behind `check-state`.
+/// What is put behind `check-state`, where all packets are asked as the host's own are.
+fn filters_again(
+    policy: &mut Policy,
+    inward: &mut Style,
+    asked: Diagram,
+    going: &Outgoing,
+    own: &List,
+    passes_loopback: bool,
+) -> Result<Filters, Stop> {
+    let list = coming_list_again(policy, inward, asked, going, own)?;
+    Ok(Filters {
+        inward: list,
+        own: Some(List {
+            rules: wherever(policy, &own.rules)?,
+            default: own.default,
+            cost: own.cost,
+        }),
+        passes_loopback,
+        asks_again: true,
+    })
+}
+
+/// The most words of diagrams of small tables.
+const FEW_WORDS: usize = 20_000;
+
+/// What the list for packets that come in costs with the rules for its tags.
+fn cost_with_tags(filters: &Filters, has_tag: bool, has_replies: bool) -> u64 {
+    let more: u64 = if filters.asks_again {
+        if has_replies || tags(&filters.inward) {
+            1000
+        } else {
+            0
+        }
+    } else if has_tag {
+        1000
+    } else {
+        2000
+    };
+    filters.inward.cost.saturating_add(more)
+}
+
+/// The filters that cost less, where new packets have the tag or haven't in any case, and answers to redirected packets have one, if there
+/// are some: those that are there, or those that may be found.
+fn cheaper(
+    filters: Filters,
+    again: Result<Filters, Stop>,
+    has_tag: bool,
+    has_replies: bool,
+) -> Result<Filters, Stop> {
+    match again {
+        Ok(again) => {
+            let before = cost_with_tags(&filters, has_tag, has_replies);
+            let cost = cost_with_tags(&again, has_tag, has_replies);
+            Ok(if cost < before { again } else { filters })
+        }
+        Err(Stop::Late) => Ok(filters),
+        Err(Stop::Memory) => Err(Stop::Memory),
+    }
+}
+
+/// What is put behind `check-state`, where new packets have the tag or haven't in any case.
 fn filters_of(
     policy: &mut Policy,
     inward: &mut Style,
@@ -249,14 +339,26 @@ fn filters_of(
     behind: Diagram,
     going: &Outgoing,
     passes_loopback: bool,
+    has_tag: bool,
+    has_replies: bool,
+    may_ask_again: bool,
 ) -> Result<Filters, Stop> {
-    let list = coming_list(policy, inward, behind, &going.before, passes_loopback)?;
+    let asked = coming_asked(policy, behind, passes_loopback)?;
+    let list = coming_list(policy, inward, asked, &going.before)?;
     let own = own_list(policy, outward, going.translated.behind)?;
-    Ok(Filters {
+    let again = match &own {
+        Some(own) if may_ask_again => {
+            filters_again(policy, inward, asked, going, own, passes_loopback)
+        }
+        _ => Err(Stop::Late),
+    };
+    let filters = Filters {
         inward: list,
         own,
         passes_loopback,
-    })
+        asks_again: false,
+    };
+    cheaper(filters, again, has_tag, has_replies)
 }
 
 /// Appends what stands ahead of `check-state` for packets that come in.
@@ -295,7 +397,28 @@ fn put_coming(
     Ok(())
 }
 
-/// Appends what stands ahead of `check-state` for packets that leave; whether some of it asks for the tag.
+/// What is asked ahead of `check-state` for packets that leave.
+#[derive(Clone, Copy)]
+struct Asked {
+    /// Whether some of it asks for the tag of packets that have come in.
+    by_tag: bool,
+    /// Whether answers to redirected packets are translated back, and get a tag.
+    has_replies: bool,
+}
+
+/// The tag by which answers to redirected packets pass out, where not all passes: they have the written source then, of which nothing is
+/// known at `check-state`.
+fn tag_of_answers(filters: &Filters) -> Option<u64> {
+    if filters.own.is_none() {
+        None
+    } else if filters.asks_again {
+        Some(3)
+    } else {
+        Some(1)
+    }
+}
+
+/// Appends what stands ahead of `check-state` for packets that leave.
 fn put_going(
     script: &mut Script,
     writer: &Writer,
@@ -303,7 +426,8 @@ fn put_going(
     style: &mut Style,
     found: &Instances,
     going: &Outgoing,
-) -> Result<bool, Stop> {
+    filters: &Filters,
+) -> Result<Asked, Stop> {
     let before = &going.before;
     put_ahead(
         script,
@@ -315,7 +439,8 @@ fn put_going(
         Mark::Left,
     )?;
     script.end_leaving_list();
-    let has_replies = put_replies(script, writer, policy, found)?;
+    let tag = tag_of_answers(filters);
+    let has_replies = put_replies(script, writer, policy, found, tag)?;
     let translated = &going.translated;
     let more = colour_of(found.maps.len());
     put_translations(
@@ -327,7 +452,11 @@ fn put_going(
         Way::Leaving,
         more,
     )?;
-    Ok(!going.tags_all && (has_replies || asks_host(policy, &translated.rules)))
+    let asks = has_replies || asks_host(policy, &translated.rules);
+    Ok(Asked {
+        by_tag: !going.tags_all && asks,
+        has_replies,
+    })
 }
 
 /// Appends the rules for the host's own packets, and for those that have passed as they came in.
@@ -337,8 +466,9 @@ fn put_own(
     policy: &mut Policy,
     style: &mut Style,
     list: &List,
+    asks_again: bool,
 ) -> Result<(), Stop> {
-    if policy.forwarding {
+    if policy.forwarding && !asks_again {
         script.put(b"allow ip from any to any out tagged 1 keep-state")?;
     }
     put_list(script, writer, policy, style, list, Way::Leaving, 0)
@@ -363,20 +493,25 @@ fn put_filters(
     inward: &mut Style,
     outward: &mut Style,
     filters: &Filters,
-    asks: bool,
+    asked: Asked,
     are_tagged: bool,
 ) -> Result<(), Stop> {
     script.put_check()?;
     if filters.passes_loopback {
         put_loopback(script, writer)?;
     }
-    if !are_tagged && (asks || filters.passes_loopback || filters.own.is_some()) {
+    let by_tag = !filters.asks_again && (filters.passes_loopback || filters.own.is_some());
+    if !are_tagged && (asked.by_tag || by_tag) {
         script.put(TAGGING)?;
     }
     let list = &filters.inward;
-    put_list(script, writer, policy, inward, list, Way::Coming, 0)?;
+    if filters.asks_again {
+        put_coming_list(script, writer, policy, inward, list, asked.has_replies)?;
+    } else {
+        put_list(script, writer, policy, inward, list, Way::Coming, 0)?;
+    }
     match &filters.own {
-        Some(own) => put_own(script, writer, policy, outward, own),
+        Some(own) => put_own(script, writer, policy, outward, own, filters.asks_again),
         None => {
             script.put(b"allow ip from any to any out keep-state")?;
             Ok(())
@@ -404,9 +539,22 @@ fn put_both(
         passes = false;
         going = going_plan(policy, outward, established, behind, passes, may_ask)?;
     }
-    let filters = filters_of(policy, inward, outward, behind, &going, passes)?;
+    let has_tag = going.tags_all || !may_ask || asks_host(policy, &going.translated.rules);
+    let may_ask_again = policy.forwarding && coming.is_small;
+    let filters = filters_of(
+        policy,
+        inward,
+        outward,
+        behind,
+        &going,
+        passes,
+        has_tag,
+        !may_ask,
+        may_ask_again,
+    )?;
     put_coming(script, writer, policy, inward, &coming, &going)?;
-    let asks = put_going(script, writer, policy, outward, &coming.found, &going)?;
+    let found = &coming.found;
+    let asked = put_going(script, writer, policy, outward, found, &going, &filters)?;
     put_filters(
         script,
         writer,
@@ -414,7 +562,7 @@ fn put_both(
         inward,
         outward,
         &filters,
-        asks,
+        asked,
         going.tags_all,
     )
 }
