@@ -18,7 +18,7 @@ use std::alloc::Global;
 const MOST_POINTS: u64 = 4000;
 
 /// How many instructions are met in all, at most.
-const MOST_STEPS: u64 = 4_000_000;
+const MOST_STEPS: u64 = 2_000_000;
 
 /// How many instructions code has at most, so that it is walked.
 const MOST_CODE: usize = 100_000;
