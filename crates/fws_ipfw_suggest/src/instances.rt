@@ -258,7 +258,11 @@ impl Instances {
 }
 
 /// A diagram with one mask wherever some colour is allowed.
-fn relabelled(policy: &mut Policy, diagram: Diagram, mask: Mask) -> Result<Diagram, Stop> {
+pub(crate) fn relabelled(
+    policy: &mut Policy,
+    diagram: Diagram,
+    mask: Mask,
+) -> Result<Diagram, Stop> {
     let old = policy.space.leaves(diagram)?;
     let mut new = Vec::new(policy.alloc);
     for leaf in &old {
@@ -309,6 +313,22 @@ pub(crate) fn written_by(
         number = number.saturating_add(1);
     }
     Ok(whole)
+}
+
+/// The addresses that are redirected to a destination.
+pub(crate) fn addresses_of(policy: &mut Policy, home: &Home) -> Result<Side, Stop> {
+    let whole = totalled(policy, home.publics)?;
+    let here = policy.where_it_is(whole, colour_of(home.place))?;
+    let everywhere = policy.everything();
+    policy.space.asked(here, &everywhere, DST)
+}
+
+/// The redirects of the first instance, with a blank ahead of each.
+pub(crate) fn redirects_of_first(policy: &mut Policy, found: &Instances) -> Result<Text, Stop> {
+    let mut redirects = Redirects::new(policy.alloc);
+    put_redirects_of(policy, &mut redirects, &found.homes, 0)?;
+    let text = redirects.text(policy.alloc)?;
+    Ok(text)
 }
 
 /// Appends the lines of instances with redirects.

@@ -13,6 +13,7 @@ mod ports;
 mod redirects;
 mod script;
 mod sending;
+mod single;
 mod texts;
 mod tight;
 mod translations;

@@ -44,6 +44,11 @@ impl Redirects {
         Ok(config)
     }
 
+    /// The redirects, with a blank ahead of each.
+    pub(crate) fn text(&self, alloc: Global) -> Result<Text, Memory> {
+        self.text.copy(alloc)
+    }
+
     /// Counts a redirect of an address.
     fn begin(&mut self, public: u32) -> Result<(), Stop> {
         if self.first.is_none() {

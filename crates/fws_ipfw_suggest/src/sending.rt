@@ -17,8 +17,14 @@ fn face_of(site: &Site, end: End) -> Option<u32> {
     None
 }
 
-/// Appends the instance with a number, for a source that is written.
-fn put_source(out: &mut Text, site: &Site, number: u64, end: End) -> Result<(), Memory> {
+/// Appends the instance with a number, for a source that is written, with redirects.
+pub(crate) fn put_source(
+    out: &mut Text,
+    site: &Site,
+    number: u64,
+    end: End,
+    redirects: &[u8],
+) -> Result<(), Memory> {
     out.put(b"nat ")?;
     put_dec(out, number)?;
     match face_of(site, end) {
@@ -31,6 +37,7 @@ fn put_source(out: &mut Text, site: &Site, number: u64, end: End) -> Result<(), 
             put_quad(out, end.addr)?;
         }
     }
+    out.put(redirects)?;
     out.put(b"\n")
 }
 
@@ -50,7 +57,7 @@ pub(crate) fn put_sources(
         if end.port.is_some() || end.len < 32 {
             return Err(Stop::Late);
         }
-        put_source(&mut script.instances, site, number, end)?;
+        put_source(&mut script.instances, site, number, end, b"")?;
         script.numbers = script.numbers.saturating_add(1);
         number = number.saturating_add(1);
     }

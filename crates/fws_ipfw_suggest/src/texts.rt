@@ -18,6 +18,8 @@ use std::alloc::Global;
 enum Form {
     /// One list for both directions.
     United,
+    /// Translations ahead of `check-state` by one instance for all, and filters behind it.
+    Single,
     /// Translations ahead of `check-state`, and filters behind it.
     Working,
     /// Lists in which a rule that translates ends the pass.
@@ -41,7 +43,8 @@ fn put_form(
 ) -> Result<(), Stop> {
     match form {
         Form::United => put_united(script, policy, site, established),
-        Form::Working => put_working(script, policy, site, established),
+        Form::Single => put_working(script, policy, site, established, true),
+        Form::Working => put_working(script, policy, site, established, false),
         Form::Tight => put_tight(script, policy, site, established),
     }
 }
@@ -151,6 +154,7 @@ fn put_texts(
 {
     let united = found(alloc, tables, site, hints, Form::United)?;
     if !site.one_pass && united.is_none() {
+        put_found(texts, found(alloc, tables, site, hints, Form::Single)?)?;
         put_found(texts, found(alloc, tables, site, hints, Form::Working)?)?;
     }
     if count_of(&united) > MANY {

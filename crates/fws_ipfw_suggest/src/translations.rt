@@ -2,7 +2,7 @@
 
 use crate::diagrams::{colour_of, parted, plain_colours};
 use crate::ends::images;
-use crate::instances::{Instances, by_instances, written_by};
+use crate::instances::{Instances, by_instances, relabelled, written_by};
 use fws_net::End;
 use fws_suggest::{
     DPORT, DST, Diagram, FLAGS, ICMP, List, Mask, Meeting, PROTO, Policy, Reach, Region, Rule, SRC,
@@ -16,6 +16,35 @@ pub(crate) struct Translated {
     pub(crate) behind: Diagram,
     /// Whether the rules tag what they translate.
     pub(crate) is_tagged: bool,
+}
+
+/// How packets that come in are translated by these rules, for all of which their instances redirect. It gives up where that isn't right.
+pub(crate) fn redirected_by(
+    policy: &mut Policy,
+    found: &Instances,
+    rules: &[Rule],
+) -> Result<Translated, Stop> {
+    let direct = policy.direct()?;
+    let arriving = policy.arriving;
+    let allowed = policy.redirections(arriving, Reach::Wide)?;
+    let narrow = policy.narrowed(rules, arriving)?;
+    let painted = policy.painted(&narrow, 0)?;
+    let ends = written_by(policy, found, painted)?;
+    let fit = policy.space.meet(allowed, ends)?;
+    if policy.fails(fit)? {
+        return Err(Stop::Late);
+    }
+    for is_tagged in [false, true] {
+        let behind = behind(policy, found, direct, rules, is_tagged)?;
+        if !policy.fails(behind)? {
+            return Ok(Translated {
+                rules: Vec::from_slice(policy.alloc, rules)?,
+                behind,
+                is_tagged,
+            });
+        }
+    }
+    Err(Stop::Late)
 }
 
 /// Which instances may translate packets that come in: a colour is the place of one and one more, 0 for none.
@@ -243,9 +272,8 @@ fn seen_from(
     policy.space.keep(image, &region)
 }
 
-/// The host's own packets as the filter sees them behind the translation of sources.
-fn seen_leaving(policy: &mut Policy, own: Diagram, rules: &[Rule]) -> Result<Diagram, Stop> {
-    let painted = policy.painted(rules, 0)?;
+/// The host's own packets as the filter sees them behind the translation of sources, of which the diagram has the places.
+fn seen_leaving(policy: &mut Policy, own: Diagram, painted: Diagram) -> Result<Diagram, Stop> {
     let count = policy.sources.len();
     let written = policy.where_it_is(painted, 0)?;
     let mut seen = policy.space.met(own, written, Meeting::Either)?;
@@ -302,12 +330,78 @@ fn sent_so(
     let diagram = without_details(policy, diagram)?;
     let diagram = unless_written(policy, diagram)?;
     let list = sending_list(policy, style, diagram)?;
-    let seen = seen_leaving(policy, own, &list.rules)?;
+    let painted = policy.painted(&list.rules, 0)?;
+    let seen = seen_leaving(policy, own, painted)?;
     Ok(Translated {
         rules: list.rules,
         behind: seen,
         is_tagged: false,
     })
+}
+
+/// What the rules write that translate by one instance: places of sources. `map` has what it writes.
+fn written(policy: &mut Policy, rules: &[Rule], map: Diagram) -> Result<Diagram, Stop> {
+    let painted = policy.painted(rules, 0)?;
+    let none = policy.space.only(0)?;
+    let stays = parted(policy, painted, none, Mask::NONE, 2)?;
+    let here = parted(policy, painted, Mask::NONE, Mask::ALL, 2)?;
+    let away = policy.space.meet(here, map)?;
+    policy.space.met(stays, away, Meeting::Either)
+}
+
+/// Where one instance may translate sources, which has the colour 1: `map` has what it writes, by the places of sources.
+fn by_one(policy: &mut Policy, diagram: Diagram, map: Diagram) -> Result<Diagram, Stop> {
+    let count = policy.sources.len();
+    let none = policy.space.only(0)?;
+    let stays = parted(policy, diagram, none, Mask::NONE, count)?;
+    let fits = policy.space.meet(diagram, map)?;
+    let one = policy.space.only(1)?;
+    let away = relabelled(policy, fits, one)?;
+    policy.space.met(stays, away, Meeting::Either)
+}
+
+/// How sources are translated by one instance, in a way.
+fn sent_by_one_so(
+    policy: &mut Policy,
+    style: &mut Style,
+    behind: Diagram,
+    own: Diagram,
+    map: Diagram,
+    care: Care,
+) -> Result<Translated, Stop> {
+    let diagram = sendings(policy, behind, own, care)?;
+    let diagram = without_details(policy, diagram)?;
+    let diagram = by_one(policy, diagram, map)?;
+    if policy.fails(diagram)? {
+        return Err(Stop::Late);
+    }
+    let colours = plain_colours(policy.alloc, 0, 1)?;
+    let task = task_for(policy.alloc, diagram, colours, &[0])?;
+    let list = solved(policy, style, &task)?;
+    let painted = written(policy, &list.rules, map)?;
+    let seen = seen_leaving(policy, own, painted)?;
+    Ok(Translated {
+        rules: list.rules,
+        behind: seen,
+        is_tagged: false,
+    })
+}
+
+/// How sources are translated by one instance: `map` has what it writes, by the places of sources. It gives up where no way is open.
+pub(crate) fn sent_by_one(
+    policy: &mut Policy,
+    style: &mut Style,
+    behind: Diagram,
+    own: Diagram,
+    map: Diagram,
+) -> Result<Translated, Stop> {
+    for care in [Care::Free, Care::Rough, Care::Strict] {
+        let way = sent_by_one_so(policy, style, behind, own, map, care)?;
+        if !policy.fails(way.behind)? {
+            return Ok(way);
+        }
+    }
+    Err(Stop::Late)
 }
 
 /// How sources are translated, and what is seen then of the host's own packets. It gives up where no way is open.

@@ -9,7 +9,8 @@ use crate::instances::{Instances, instances_of, put_instances};
 use crate::lists::{asks_host, nat, put_ahead, put_list};
 use crate::script::{Mark, Script};
 use crate::sending::put_sources;
-use crate::translations::{Translated, redirected, sent};
+use crate::single::{Single, single_of};
+use crate::translations::{Translated, redirected, redirected_by, sent, sent_by_one};
 use crate::writer::{Way, Writer};
 use fws_net::Site;
 use fws_num::{Memory, Text};
@@ -25,6 +26,8 @@ struct Incoming {
     before: Vec<Rule>,
     found: Instances,
     translated: Translated,
+    /// What one instance writes for all, where there is one alone.
+    single: Option<Single>,
     /// Whether tables are small, so that more is tried.
     is_small: bool,
 }
@@ -173,6 +176,25 @@ fn coming_plan(
         before,
         found,
         translated,
+        single: None,
+        is_small,
+    })
+}
+
+/// What is put for packets that come in, ahead of `check-state`, where one instance translates all. It gives up where that isn't right.
+fn coming_plan_of_one(policy: &mut Policy, established: Established) -> Result<Incoming, Stop> {
+    let is_small = policy.space.size() < FEW_WORDS;
+    let before = ahead(policy, established.ahead)?;
+    let found = instances_of(policy)?;
+    let single = single_of(policy, &found)?;
+    let mut rules = Vec::new(policy.alloc);
+    rules.push(single.inward(policy))?;
+    let translated = redirected_by(policy, &found, &rules)?;
+    Ok(Incoming {
+        before,
+        found,
+        translated,
+        single: Some(single),
         is_small,
     })
 }
@@ -240,16 +262,24 @@ fn may_pass_loopback(policy: &mut Policy, behind: Diagram) -> Result<bool, Stop>
     Ok(!policy.fails(own)?)
 }
 
-/// How the sources of packets are translated.
+/// How the sources of packets are translated: by one instance, where there is one for all.
 fn going_translated(
     policy: &mut Policy,
     style: &mut Style,
     behind: Diagram,
     passes_loopback: bool,
+    single: Option<Single>,
 ) -> Result<Translated, Stop> {
     let verdict = policy.verdict(behind)?;
     let own = own_verdict(policy, verdict, passes_loopback)?;
-    sent(policy, style, behind, own)
+    let Some(single) = single else {
+        return sent(policy, style, behind, own);
+    };
+    let translated = sent_by_one(policy, style, behind, own, single.map)?;
+    if !single.meets_all(policy, &translated.rules)? {
+        return Err(Stop::Late);
+    }
+    Ok(translated)
 }
 
 /// What is put for packets that leave, ahead of `check-state`.
@@ -257,12 +287,13 @@ fn going_plan(
     policy: &mut Policy,
     style: &mut Style,
     established: Established,
-    behind: Diagram,
+    coming: &Incoming,
     passes_loopback: bool,
     may_ask: bool,
 ) -> Result<Outgoing, Stop> {
+    let behind = coming.translated.behind;
     let before = going_before(policy, style, established.behind, behind, may_ask)?;
-    let translated = going_translated(policy, style, behind, passes_loopback)?;
+    let translated = going_translated(policy, style, behind, passes_loopback, coming.single)?;
     let tags_all = may_ask && (asks_host(policy, &before) || asks_host(policy, &translated.rules));
     Ok(Outgoing {
         before,
@@ -361,6 +392,24 @@ fn filters_of(
     cheaper(filters, again, has_tag, has_replies)
 }
 
+/// Appends the lines of instances, and gives how many there are with redirects.
+fn put_all_instances(
+    script: &mut Script,
+    writer: &Writer,
+    policy: &mut Policy,
+    coming: &Incoming,
+) -> Result<usize, Stop> {
+    if let Some(single) = coming.single {
+        single.put(script, policy, writer.site, &coming.found)?;
+        return Ok(1);
+    }
+    put_instances(&mut script.instances, &coming.found)?;
+    let redirecting = coming.found.configs.len();
+    script.numbers = redirecting;
+    put_sources(script, policy, writer.site, redirecting)?;
+    Ok(redirecting)
+}
+
 /// Appends what stands ahead of `check-state` for packets that come in.
 fn put_coming(
     script: &mut Script,
@@ -370,10 +419,7 @@ fn put_coming(
     coming: &Incoming,
     going: &Outgoing,
 ) -> Result<(), Stop> {
-    put_instances(&mut script.instances, &coming.found)?;
-    let redirecting = coming.found.configs.len();
-    script.numbers = redirecting;
-    put_sources(script, policy, writer.site, redirecting)?;
+    let redirecting = put_all_instances(script, writer, policy, coming)?;
     if going.tags_all {
         script.put(TAGGING)?;
     }
@@ -391,8 +437,10 @@ fn put_coming(
     script.end_list();
     let translated = &coming.translated;
     put_translations(script, writer, policy, style, translated, Way::Coming, 0)?;
-    let rules = &going.translated.rules;
-    put_answers(script, writer, policy, rules, colour_of(redirecting))?;
+    if coming.single.is_none() {
+        let rules = &going.translated.rules;
+        put_answers(script, writer, policy, rules, colour_of(redirecting))?;
+    }
     script.end_translations();
     Ok(())
 }
@@ -418,15 +466,24 @@ fn tag_of_answers(filters: &Filters) -> Option<u64> {
     }
 }
 
+/// Whether all of the host's own packets pass.
+fn passes_own(policy: &mut Policy, behind: Diagram) -> Result<bool, Stop> {
+    let verdict = policy.verdict(behind)?;
+    let own = own_verdict(policy, verdict, false)?;
+    let least = policy.space.least_mask(own);
+    Ok(policy.space.has(least, ACCEPT))
+}
+
 /// Appends what stands ahead of `check-state` for packets that leave.
 fn put_going(
     script: &mut Script,
     writer: &Writer,
     policy: &mut Policy,
     style: &mut Style,
-    found: &Instances,
+    coming: &Incoming,
     going: &Outgoing,
     filters: &Filters,
+    may_answer: bool,
 ) -> Result<Asked, Stop> {
     let before = &going.before;
     put_ahead(
@@ -439,10 +496,15 @@ fn put_going(
         Mark::Left,
     )?;
     script.end_leaving_list();
+    let found = &coming.found;
     let tag = tag_of_answers(filters);
-    let has_replies = put_replies(script, writer, policy, found, tag)?;
+    let has_replies = may_answer && put_replies(script, writer, policy, found, tag)?;
     let translated = &going.translated;
-    let more = colour_of(found.maps.len());
+    let more = if coming.single.is_some() {
+        0
+    } else {
+        colour_of(found.maps.len())
+    };
     put_translations(
         script,
         writer,
@@ -519,28 +581,29 @@ fn put_filters(
     }
 }
 
-/// Appends all rules, by the ways to write both directions.
-fn put_both(
+/// Appends all rules, by the ways to write both directions, where all packets that come in are translated so.
+fn put_planned(
     script: &mut Script,
     writer: &Writer,
     policy: &mut Policy,
     inward: &mut Style,
     outward: &mut Style,
     established: Established,
+    coming: &Incoming,
 ) -> Result<(), Stop> {
-    let coming = coming_plan(policy, inward, established)?;
     let behind = coming.translated.behind;
-    // answers from hosts to which packets are redirected are known by having no tag
-    let may_ask = coming.found.homes.is_empty();
+    // answers from hosts to which packets are redirected are known by having no tag, but where one instance translates all and all passes
+    let needs_none = coming.single.is_some() && passes_own(policy, behind)?;
+    let has_replies = !needs_none && !coming.found.homes.is_empty();
+    let may_ask = !has_replies;
     let mut passes = may_pass_loopback(policy, behind)?;
-    let mut going = going_plan(policy, outward, established, behind, passes, may_ask)?;
+    let mut going = going_plan(policy, outward, established, coming, passes, may_ask)?;
     if passes && (going.tags_all || asks_host(policy, &going.translated.rules)) {
         // packets from loopback have no tag then
         passes = false;
-        going = going_plan(policy, outward, established, behind, passes, may_ask)?;
+        going = going_plan(policy, outward, established, coming, passes, may_ask)?;
     }
-    let has_tag = going.tags_all || !may_ask || asks_host(policy, &going.translated.rules);
-    let may_ask_again = policy.forwarding && coming.is_small;
+    let has_tag = going.tags_all || has_replies || asks_host(policy, &going.translated.rules);
     let filters = filters_of(
         policy,
         inward,
@@ -549,12 +612,20 @@ fn put_both(
         &going,
         passes,
         has_tag,
-        !may_ask,
-        may_ask_again,
+        has_replies,
+        policy.forwarding && coming.is_small,
     )?;
-    put_coming(script, writer, policy, inward, &coming, &going)?;
-    let found = &coming.found;
-    let asked = put_going(script, writer, policy, outward, found, &going, &filters)?;
+    put_coming(script, writer, policy, inward, coming, &going)?;
+    let asked = put_going(
+        script,
+        writer,
+        policy,
+        outward,
+        coming,
+        &going,
+        &filters,
+        has_replies,
+    )?;
     put_filters(
         script,
         writer,
@@ -567,6 +638,32 @@ fn put_both(
     )
 }
 
+/// Appends all rules, by the ways to write both directions, and by one instance for all where that is asked.
+fn put_both(
+    script: &mut Script,
+    writer: &Writer,
+    policy: &mut Policy,
+    inward: &mut Style,
+    outward: &mut Style,
+    established: Established,
+    by_one: bool,
+) -> Result<(), Stop> {
+    let coming = if by_one {
+        coming_plan_of_one(policy, established)?
+    } else {
+        coming_plan(policy, inward, established)?
+    };
+    put_planned(
+        script,
+        writer,
+        policy,
+        inward,
+        outward,
+        established,
+        &coming,
+    )
+}
+
 /// Appends all rules, by the way to write what comes in.
 fn put_inward(
     script: &mut Script,
@@ -574,19 +671,30 @@ fn put_inward(
     policy: &mut Policy,
     inward: &mut Style,
     established: Established,
+    by_one: bool,
 ) -> Result<(), Stop> {
     let everywhere = policy.space.full(DST);
     let settings = Settings::ipfw().outward().with_exits();
     let mut outward = policy.style(settings, everywhere)?;
-    put_both(script, writer, policy, inward, &mut outward, established)
+    put_both(
+        script,
+        writer,
+        policy,
+        inward,
+        &mut outward,
+        established,
+        by_one,
+    )
 }
 
-/// Appends translations ahead of `check-state`, and filters behind it, by what packets are behind the translations.
+/// Appends translations ahead of `check-state`, and filters behind it, by what packets are behind the translations: by one instance
+/// for all where that is asked.
 pub(crate) fn put_working(
     script: &mut Script,
     policy: &mut Policy,
     site: &Site,
     established: Established,
+    by_one: bool,
 ) -> Result<(), Stop> {
     if policy.sources.len() == 1 && policy.destinations.len() == 1 {
         // nothing is translated
@@ -595,5 +703,5 @@ pub(crate) fn put_working(
     let everywhere = policy.space.full(DST);
     let mut inward = policy.style(Settings::ipfw(), everywhere)?;
     let writer = Writer::new(policy, site);
-    put_inward(script, &writer, policy, &mut inward, established)
+    put_inward(script, &writer, policy, &mut inward, established, by_one)
 }
