@@ -97,8 +97,11 @@ def try_code(program, name, lines):
     otherwise."""
     with open(name, 'w') as f:
         f.write('\n'.join(lines) + '\n')
+    groups = name + '.groups'
+    with open(groups, 'w') as f:
+        f.write('codes %s %s\n' % (SITE, name))
     try:
-        ended = subprocess.run([program, 'codes', SITE, name], stdout=subprocess.PIPE, check=False, timeout=SECONDS)
+        ended = subprocess.run([program, groups], stdout=subprocess.PIPE, check=False, timeout=SECONDS)
     except subprocess.TimeoutExpired:
         return None
     counted = re.search(rb' (\d+) points, (\d+) differences', ended.stdout)
@@ -125,6 +128,7 @@ def main(program, count=2000, seed=1):
         else:
             walked += tried[0]
             os.remove(name)
+            os.remove(name + '.groups')
     print(count, 'codes,', long, 'of them too long,', walked, 'points,', differing, 'differences')
     return 1 if differing or not walked or 20 * long > count else 0
 

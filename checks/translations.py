@@ -1,6 +1,6 @@
 """python3 checks/translations.py, at the top of the repository; checks/translations.sh says how it is called
 
-Translates to iptables, ipfw, pf and Cisco IOS the configurations of examples/ and those of which crates/fws_rows/args knows a table, from the
+Translates to iptables, ipfw, pf and Cisco IOS the configurations of examples/ and those of which crates/fws_rows/data/rows.jobs has a table, from the
 language that each has, with the built program. What is checked of each:
 
 - The status is 0; or it is 1 with a line that names packets, where the target, the site and the configuration stand in UNPLACED.
@@ -102,9 +102,6 @@ EXAMPLE_FILES = [
     ('ios', 'branch.site', 'branch.ios'),
 ]
 
-# How many words a job of fws_rows has behind its name.
-LENGTHS = {'table': 3, 'table-at': 4}
-
 
 def run(*words):
     ended = subprocess.run([PROGRAM, *words], stdout=subprocess.PIPE, check=False)
@@ -113,13 +110,13 @@ def run(*words):
 
 def worked():
     """The configurations of which fws_rows knows a table: language, site and file."""
-    with open(os.path.join(TOP, 'crates/fws_rows/args'), encoding='utf-8') as file:
-        site, *words = file.read().split('\n')
+    with open(os.path.join(DATA, 'rows.jobs'), encoding='utf-8') as file:
+        site, *jobs = file.read().splitlines()
     found = []
-    for place, word in enumerate(words):
-        if word in LENGTHS:
-            job = words[place + 1:place + 1 + LENGTHS[word]]
-            at, language, rules = (job[0], job[1], job[2]) if word == 'table-at' else (site, job[0], job[1])
+    for job in jobs:
+        kind, *words = job.split()
+        if kind in ('table', 'table-at'):
+            at, language, rules = words[:3] if kind == 'table-at' else [site, *words[:2]]
             if (language, at, rules) not in found:
                 found.append((language, at, rules))
     return [(language, os.path.join(DATA, at), os.path.join(DATA, rules)) for language, at, rules in found]

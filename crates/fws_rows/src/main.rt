@@ -2,7 +2,8 @@
 //! that these configurations must have; reads lines and sites that must be accepted, or refused for a cause; asks sites
 //! about addresses and names; and tries calls on numbers, words, lines, sets, boxes, packets and conditions. What is
 //! expected comes from outside, was worked out by hand, or by a calculation that walks packets rule by rule and shares
-//! nothing with this program: none of it was made by the program that it is to judge.
+//! nothing with this program: none of it was made by the program that it is to judge. The command line names a file: its
+//! first line names a site, and each further one is a job, with its name and its words.
 #![tactic(auto)]
 
 ghost use Rattle.fws_net.specs.Routes.{IsSound};
@@ -59,6 +60,17 @@ fn take_words<R: Env + AllocGlobal>(rt: &R) -> Result<Items<Text>, Stop> {
     let mut words = Items::new(rt.alloc());
     for argument in arguments.skip(1) {
         put_word(rt.alloc(), &mut words, argument.as_bytes())?;
+    }
+    Ok(words)
+}
+
+/// The words of a text, divided by blanks and line feeds.
+fn words_of(alloc: Global, text: &[u8]) -> Result<Items<Text>, Memory> {
+    let mut words = Items::new(alloc);
+    for word in text.split(|byte: &u8| *byte == b' ' || *byte == b'\n') {
+        if !word.is_empty() {
+            put_word(alloc, &mut words, word)?;
+        }
     }
     Ok(words)
 }
@@ -195,13 +207,23 @@ fn say_all<S: Shelf>(alloc: Global, shelf: &mut S, words: &[Text]) -> Result<Tex
     do_all(alloc, shelf, site.as_slice(), jobs)
 }
 
-/// Does the jobs of the command line, whose first word names the site, and gives a line for each.
-fn said_of<R: Env + Files + AllocGlobal>(rt: &R) -> Result<Text, Stop> {
-    let words = take_words(rt)?;
-    say_all(rt.alloc(), &mut StdShelf::new(rt), words.as_slice())
+/// Does the jobs of a file, whose first word names the site, and gives a line for each.
+fn say_file<S: Shelf>(alloc: Global, shelf: &mut S, name: &Text) -> Result<Text, Stop> {
+    let jobs = read(alloc, shelf, name)?;
+    let words = words_of(alloc, jobs.as_slice())?;
+    say_all(alloc, shelf, words.as_slice())
 }
 
-/// Does the jobs of the command line, and writes what they found.
+/// Does the jobs of the file that the command line names, and gives a line for each.
+fn said_of<R: Env + Files + AllocGlobal>(rt: &R) -> Result<Text, Stop> {
+    let words = take_words(rt)?;
+    let [name] = words.as_slice() else {
+        return Err(Stop::Malformed);
+    };
+    say_file(rt.alloc(), &mut StdShelf::new(rt), name)
+}
+
+/// Does the jobs of the file that the command line names, and writes what they found.
 fn walk_rows<R: Env + Files + Print + AllocGlobal>(rt: &R) -> Result<(), Stop> {
     let said = said_of(rt)?;
     match write_all(&mut StdSink::new(rt), said.as_slice()) {

@@ -1,7 +1,7 @@
 //! Walks packets through diagrams made by hand and through their flat code, and compares what becomes of them, and which
 //! rules they use, with what was worked out by hand; tries diagrams that can't be unfolded; and executes flat codes made
-//! by hand, and compares the rows with walks through the code. The command line has three words for each group: `diagrams`
-//! or `codes`, a site file, and a file with the group.
+//! by hand, and compares the rows with walks through the code. The command line names a file with a line for each group:
+//! `diagrams` or `codes`, a site file, and a file with the group.
 #![tactic(auto)]
 
 mod cases;
@@ -42,6 +42,17 @@ fn take_words<R: Env + AllocGlobal>(rt: &R) -> Result<Items<Text>, Stop> {
     let mut words = Items::new(rt.alloc());
     for argument in arguments.skip(1) {
         put_word(rt.alloc(), &mut words, argument.as_bytes())?;
+    }
+    Ok(words)
+}
+
+/// The words of a text, divided by blanks and line feeds.
+fn words_of(alloc: Global, text: &[u8]) -> Result<Items<Text>, Memory> {
+    let mut words = Items::new(alloc);
+    for word in text.split(|byte: &u8| *byte == b' ' || *byte == b'\n') {
+        if !word.is_empty() {
+            put_word(alloc, &mut words, word)?;
+        }
     }
     Ok(words)
 }
@@ -87,13 +98,23 @@ fn try_groups<S: Shelf>(alloc: Global, shelf: &mut S, words: &[Text]) -> Result<
     Ok(said)
 }
 
-/// Tries the groups of the command line, and says what was found.
-fn said_of<R: Env + Files + AllocGlobal>(rt: &R) -> Result<Text, Stop> {
-    let words = take_words(rt)?;
-    try_groups(rt.alloc(), &mut StdShelf::new(rt), words.as_slice())
+/// Tries the groups of a file, and says what was found.
+fn try_file<S: Shelf>(alloc: Global, shelf: &mut S, name: &Text) -> Result<Text, Stop> {
+    let groups = read(alloc, shelf, name)?;
+    let words = words_of(alloc, groups.as_slice())?;
+    try_groups(alloc, shelf, words.as_slice())
 }
 
-/// Tries the groups of the command line, and writes what was found.
+/// Tries the groups of the file that the command line names, and says what was found.
+fn said_of<R: Env + Files + AllocGlobal>(rt: &R) -> Result<Text, Stop> {
+    let words = take_words(rt)?;
+    let [name] = words.as_slice() else {
+        return Err(Stop::Malformed);
+    };
+    try_file(rt.alloc(), &mut StdShelf::new(rt), name)
+}
+
+/// Tries the groups of the file that the command line names, and writes what was found.
 fn walk_all<R: Env + Files + Print + AllocGlobal>(rt: &R) -> Result<(), Stop> {
     let said = said_of(rt)?;
     match write_all(&mut StdSink::new(rt), said.as_slice()) {
