@@ -1,5 +1,5 @@
 -- Rules of acts walk as these change a packet.
-use Rattle.std.proofs.Common.{◌≡◌, ℕ, suc, ◌+◌, Bool, true, false, cond, ◌&&◌, List, [], ◌∷◌, ◌++◌, length, map, arith, refl, ap, ◌∙◌}
+use Rattle.std.proofs.Common.{◌≡◌, ℕ, suc, ◌+◌, Bool, true, false, cond, ◌&&◌, List, [], ◌∷◌, ◌++◌, length, map, arith, refl, sym, ap, ◌∙◌, subst}
 use Rattle.std.specs.List.{list_all}
 use Rattle.std.proofs.lemmas.Bool.{false≢true, and_parts}
 use Rattle.fws_net.specs.declared.condition.Lit.{Lit}
@@ -14,8 +14,8 @@ use Rattle.fws_ifcl.specs.declared.diagram.Rule.{Rule}
 use Rattle.fws_ifcl.specs.declared.step.ChainEnd.{ChainEnd}
 use Rattle.fws_ifcl.specs.declared.step.ChainEnd.TheVariants.{Accepted, Dropped}
 use Rattle.fws_draw.specs.Places.{IsForward, behind_act, sight, run, Stands}
-use Rattle.fws_draw.specs.Rules.{ruled, always, guard}
-use Rattle.fws_pfo_ifcl.specs.Blocks.{acting}
+use Rattle.fws_draw.specs.Rules.{ruled, always, guard, guarded}
+use Rattle.fws_pfo_ifcl.specs.Blocks.{acting, is_hold}
 use Rattle.fws_pfo_ifcl.specs.Diagram.{pass_stage}
 use Rattle.fws_pfo_ifcl.proofs.Courses.{Course}
 use Rattle.fws_pfo_ifcl.proofs.Tags.{is_tagging, tags_behind, with_tag_is}
@@ -157,6 +157,57 @@ behind_guard at n = omega arith
 behind_inner : (at n : ℕ) → (at + 2) + n ≡ at + suc (suc n)
 behind_inner at n = omega arith
 
+-- Two rules of one condition, of which the first holds a verdict
+
+-- no condition tells it
+unseen : {outward : Bool} (w : Course New outward) (act : Act) → is_hold act ≡ true → (t : Transit) → sight w (changed w.p act t) ≡ sight w t
+unseen w (acts.Hold accepts) is t = refl
+unseen w _ is t = absurd (false≢true is)
+
+-- so that both act or neither does
+one_of_two : (b d : Bool) → d ≡ b → (x y z v : ChainEnd) → cond b (cond d x y) (cond b z v) ≡ cond b x v
+one_of_two true true same x y z v = refl
+one_of_two false d same x y z v = refl
+one_of_two true false same x y z v = absurd (false≢true same)
+
+-- where the second one acts with this end
+both_walk : {outward : Bool} (w : Course New outward) (at : ℕ) (test : List Lit) (act next : Act) (end : Transit → ChainEnd) → is_hold act ≡ true → is_change act ≡ true
+    → ((t : Transit) → Stands w (at + 1) (ruled test next ∷ []) → run w (at + 1) t ≡ cond (holds test (sight w t)) (end t) (run w (at + 2) t))
+    → Stands w at (ruled test act ∷ ruled test next ∷ []) → (t : Transit)
+    → run w at t ≡ cond (holds test (sight w t)) (end (changed w.p act t)) (run w (at + 2) t)
+both_walk w at test act next end hold is on s t =
+    let parts = w.law.parts (at + 1) (ruled test act ∷ []) (ruled test next ∷ []) s refl in
+    let b = holds test (sight w t) in
+    let after = changed w.p act t in
+    change_walk w at test act is parts.0 t
+    ∙ ap (λ x. cond b x (run w (at + 1) t)) (on after parts.1)
+    ∙ ap (λ x. cond b (cond (holds test (sight w after)) (end after) (run w (at + 2) after)) x) (on t parts.1)
+    ∙ one_of_two b (holds test (sight w after)) (ap (holds test) (unseen w act hold t)) (end after) (run w (at + 2) after) (end t) (run w (at + 2) t)
+
+two_behind : (at : ℕ) → (at + 1) + 1 ≡ at + 2
+two_behind at = omega arith
+
+-- two acts where a condition holds
+pair_walk : {outward : Bool} (w : Course New outward) (at : ℕ) (test : List Lit) (act next : Act) → is_change act ≡ true → is_change next ≡ true
+    → (b : Bool) → is_hold act ≡ b → (rules : List Rule) → rules ≡ cond b (ruled test act ∷ ruled test next ∷ []) (guarded at test (map always (act ∷ next ∷ [])))
+    → Stands w at rules → (t : Transit)
+    → run w at t ≡ cond (holds test (sight w t)) (run w (at + length rules) (done w.p (act ∷ next ∷ []) t)) (run w (at + length rules) t)
+pair_walk w at test act next first second true hold rules are s t =
+    let past = at + 2 in
+    both_walk w at test act next (λ u. run w past (changed w.p next u)) hold first
+    (λ u stands. change_walk w (at + 1) test next second stands u
+    ∙ ap (λ place. cond (holds test (sight w u)) (run w place (changed w.p next u)) (run w place u)) (two_behind at))
+    (subst (Stands w at) are s) t
+    ∙ ap (λ list. cond (holds test (sight w t)) (run w (at + length list) (done w.p (act ∷ next ∷ []) t)) (run w (at + length list) t)) (sym are)
+pair_walk w at test act next first second false hold rules are s t =
+    let list = act ∷ next ∷ [] in
+    let inner = map always list in
+    let past = at + 4 in
+    let all : are_changes list ≡ true = ap (λ b. b && (is_change next && true)) first ∙ ap (λ b. b && true) second in
+    guarded_walk w at test inner (λ u. run w past (done w.p list u))
+    (λ u stands. changes_walk w (at + 2) list all stands u ∙ ap (λ place. run w place (done w.p list u)) (behind_inner at (length inner))) (subst (Stands w at) are s) t
+    ∙ ap (λ list. cond (holds test (sight w t)) (run w (at + length list) (done w.p (act ∷ next ∷ []) t)) (run w (at + length list) t)) (sym are)
+
 -- acts where a condition holds
 pub acting_walk : {outward : Bool} (w : Course New outward) (at : ℕ) (test : List Lit) (list : List Act) → are_changes list ≡ true → Stands w at (acting at test list) → (t : Transit)
     → run w at t
@@ -166,13 +217,40 @@ acting_walk w at test [] all s t =
     either_way (holds test (sight w t)) (run w at t)
     ∙ ap (λ place. cond (holds test (sight w t)) (run w place t) (run w place t)) same
 acting_walk w at test (act ∷ []) all s t = change_walk w at test act (and_parts (is_change act) true all).0 s t
-acting_walk w at test (act ∷ next ∷ more) all s t =
-    let list = act ∷ next ∷ more in
+acting_walk w at test (act ∷ next ∷ []) all s t =
+    let both = and_parts (is_change act) (is_change next && true) all in
+    pair_walk w at test act next both.0 (and_parts (is_change next) true both.1).0 (is_hold act) refl (acting at test (act ∷ next ∷ [])) refl s t
+acting_walk w at test (act ∷ next ∷ third ∷ more) all s t =
+    let list = act ∷ next ∷ third ∷ more in
     let inner = map always list in
     let past = at + suc (suc (length inner)) in
     guarded_walk w at test inner (λ u. run w past (done w.p list u))
     (λ u stands. changes_walk w (at + 2) list all stands u ∙ ap (λ place. run w place (done w.p list u)) (behind_inner at (length inner))) s t
     ∙ ap (λ place. cond (holds test (sight w t)) (run w past (done w.p list t)) (run w place t)) (behind_guard at (length inner))
+
+-- one act behind which packets are accepted
+last_accepts : {outward : Bool} (w : Course New outward) (at : ℕ) (test : List Lit) (act : Act) → is_change act ≡ true
+    → (b : Bool) → is_hold act ≡ b → (rules : List Rule) → rules ≡ cond b (ruled test act ∷ ruled test acts.Accept ∷ []) (guarded at test (map always (act ∷ acts.Accept ∷ [])))
+    → Stands w at rules → (t : Transit)
+    → run w at t ≡ cond (holds test (sight w t)) (Accepted (done w.p (act ∷ []) t)) (run w (at + length rules) t)
+last_accepts w at test act is true hold rules are s t =
+    both_walk w at test act acts.Accept Accepted hold is
+    (λ u stands. w.law.walked stands (tt, tt) u ∙ ap (λ place. cond (holds test (sight w u)) (Accepted u) (run w place u)) (two_behind at))
+    (subst (Stands w at) are s) t
+    ∙ ap (λ list. cond (holds test (sight w t)) (Accepted (changed w.p act t)) (run w (at + length list) t)) (sym are)
+last_accepts w at test act is false hold rules are s t =
+    guarded_walk w at test (map always (act ∷ acts.Accept ∷ [])) (λ u. Accepted (done w.p (act ∷ []) u))
+    (λ u stands. accepts_walk w (at + 2) (act ∷ []) (ap (λ b. b && true) is) stands u) (subst (Stands w at) are s) t
+    ∙ ap (λ list. cond (holds test (sight w t)) (Accepted (changed w.p act t)) (run w (at + length list) t)) (sym are)
+
+-- a block of acts behind which packets are accepted
+block_accepts : {outward : Bool} (w : Course New outward) (at : ℕ) (test : List Lit) (list : List Act) → are_changes list ≡ true
+    → Stands w at (guarded at test (map always (list ++ acts.Accept ∷ []))) → (t : Transit)
+    → run w at t ≡ cond (holds test (sight w t)) (Accepted (done w.p list t)) (run w (at + length (guarded at test (map always (list ++ acts.Accept ∷ [])))) t)
+block_accepts w at test list all s t =
+    let inner = map always (list ++ acts.Accept ∷ []) in
+    guarded_walk w at test inner (λ u. Accepted (done w.p list u)) (λ u stands. accepts_walk w (at + 2) list all stands u) s t
+    ∙ ap (λ place. cond (holds test (sight w t)) (Accepted (done w.p list t)) (run w place t)) (behind_guard at (length inner))
 
 -- acts behind which packets are accepted
 pub acting_accepts : {outward : Bool} (w : Course New outward) (at : ℕ) (test : List Lit) (list : List Act) → are_changes list ≡ true
@@ -180,13 +258,9 @@ pub acting_accepts : {outward : Bool} (w : Course New outward) (at : ℕ) (test 
     → run w at t ≡ cond (holds test (sight w t)) (Accepted (done w.p list t)) (run w (at + length (acting at test (list ++ acts.Accept ∷ []))) t)
 acting_accepts w at test [] all s t = w.law.walked s (tt, tt) t
 acting_accepts w at test (act ∷ []) all s t =
-    guarded_walk w at test (map always (act ∷ acts.Accept ∷ [])) (λ u. Accepted (done w.p (act ∷ []) u))
-    (λ u stands. accepts_walk w (at + 2) (act ∷ []) all stands u) s t
-acting_accepts w at test (act ∷ next ∷ more) all s t =
-    let list = act ∷ next ∷ more in
-    let inner = map always (list ++ acts.Accept ∷ []) in
-    guarded_walk w at test inner (λ u. Accepted (done w.p list u)) (λ u stands. accepts_walk w (at + 2) list all stands u) s t
-    ∙ ap (λ place. cond (holds test (sight w t)) (Accepted (done w.p list t)) (run w place t)) (behind_guard at (length inner))
+    last_accepts w at test act (and_parts (is_change act) true all).0 (is_hold act) refl (acting at test (act ∷ acts.Accept ∷ [])) refl s t
+acting_accepts w at test (act ∷ next ∷ []) all s t = block_accepts w at test (act ∷ next ∷ []) all s t
+acting_accepts w at test (act ∷ next ∷ third ∷ more) all s t = block_accepts w at test (act ∷ next ∷ third ∷ more) all s t
 
 -- a rule that drops packets
 pub acting_drops : {outward : Bool} (w : Course New outward) (at : ℕ) (test : List Lit) → Stands w at (acting at test (acts.Drop ∷ [])) → (t : Transit)

@@ -10,7 +10,6 @@ use Rattle.fws_net.specs.declared.transit.Transit.{Transit}
 use Rattle.fws_net.specs.Conditions.{holds}
 use Rattle.fws_net.specs.Transits.{with_verdict}
 use Rattle.fws_ifcl.specs.declared.diagram.Act.{Act}
-use Rattle.fws_ifcl.specs.declared.diagram.Act.TheVariants.{Hold}
 use Rattle.fws_ifcl.specs.declared.step.ChainEnd.TheVariants.{Accepted, Dropped}
 use Rattle.fws_ifcl.specs.Walk.{stage_end}
 use Rattle.fws_draw.specs.Places.{run, Stands}
@@ -36,10 +35,8 @@ use Rattle.fws_pfo_ifcl.proofs.Shown.{Agree, agree_by, end_by, holds_same, tagge
 
 -- what they do are changes
 pub all_changes : (f : Frame) (may : Bool) (tag : Option ℕ) (to : Option End) (kind : PfoKind) → are_changes (changes f may tag to kind) ≡ true
-all_changes f may tag to Pass =
-    changes_append (only_tag tag ++ holding f to) (Hold true ∷ []) (changes_append (only_tag tag) (holding f to) (only_changes tag) (holding_changes f to)) refl
-all_changes f may tag to Block =
-    changes_append (only_tag tag ++ holding f None) (Hold false ∷ []) (changes_append (only_tag tag) (holding f None) (only_changes tag) (holding_changes f None)) refl
+all_changes f may tag to Pass = changes_append (only_tag tag) (holding f to) (only_changes tag) (holding_changes f to)
+all_changes f may tag to Block = changes_append (only_tag tag) (holding f None) (only_changes tag) (holding_changes f None)
 all_changes f may tag to Match = changes_append (tagging f may tag) (writing f.outward to) (tagging_changes f may tag) (writing_changes f.outward to)
 
 -- behind one that matches

@@ -9,7 +9,7 @@ use Rattle.fws_ifcl.specs.declared.diagram.Act.TheVariants as acts
 use Rattle.fws_ifcl.specs.declared.diagram.Rule.{Rule}
 use Rattle.fws_ifcl.specs.Soundness.{act_ok, rules_ok, chain_ok, ifcl_ok}
 use Rattle.fws_draw.specs.Right.{RightAmong, RightByParts, RulesAreRightByParts}
-use Rattle.fws_draw.specs.Rules.{ruled, always}
+use Rattle.fws_draw.specs.Rules.{ruled, always, guarded}
 use Rattle.fws_draw.specs.Straight.{is_straight}
 use Rattle.fws_pf.specs.Walk.{is_met}
 use Rattle.fws_pfo.specs.declared.config.PfoConfig.{PfoConfig}
@@ -18,7 +18,7 @@ use Rattle.fws_pfo.specs.declared.config.PfoKind.TheVariants.{Pass, Block, Match
 use Rattle.fws_pfo.specs.declared.config.PfoRule.{PfoRule}
 use Rattle.fws_pfo_ifcl.specs.declared.frame.Frame.{Frame}
 use Rattle.fws_pfo_ifcl.specs.declared.ruling.Ruling.{Ruling}
-use Rattle.fws_pfo_ifcl.specs.Blocks.{writing, only_tag, changes, decision, ending, acting, met_rule, met_rules, head_of, ruling_rules, tail_rules, held_rule, held_rules, ahead_rules, filter_rules}
+use Rattle.fws_pfo_ifcl.specs.Blocks.{writing, only_tag, changes, decision, ending, acting, is_hold, met_rule, met_rules, head_of, ruling_rules, tail_rules, held_rule, held_rules, ahead_rules, filter_rules}
 use Rattle.fws_pfo_ifcl.specs.Diagram.{tracking, skipping, clearing, larger, frame_of, front_rules, pass_rules, chains_of, drawn_of}
 use Rattle.fws_pfo_ifcl.specs.Ends.{end_of}
 use Rattle.fws_pfo_ifcl.specs.Held.{bits_of, telling, told}
@@ -104,9 +104,20 @@ module _ (chains total : ℕ) (right : RightByParts chains total) where
   acting_right at test [] all le = refl
   acting_right at test (act ∷ []) all le =
       right.first at (ruled test act) [] (act_right at act (and_parts (names_none act) true all).0) refl
-  acting_right at test (act ∷ next ∷ list) all le =
-      let inner = map always (act ∷ next ∷ list) in
-      right.guarded at test inner (always_right (at + 2) (act ∷ next ∷ list) all) (subst (λ n. n ≤ total) (sym (behind_guard at (length inner))) le)
+  acting_right at test (act ∷ next ∷ []) all le = by (is_hold act) le
+    where
+      by : (b : Bool) → at + length (cond b (ruled test act ∷ ruled test next ∷ []) (guarded at test (map always (act ∷ next ∷ [])))) ≤ total
+          → Right at (cond b (ruled test act ∷ ruled test next ∷ []) (guarded at test (map always (act ∷ next ∷ []))))
+      by true le =
+          let both = and_parts (names_none act) (names_none next && true) all in
+          right.first at (ruled test act) (ruled test next ∷ []) (act_right at act both.0)
+          (right.first (at + 1) (ruled test next) [] (act_right (at + 1) next (and_parts (names_none next) true both.1).0) refl)
+      by false le =
+          let inner = map always (act ∷ next ∷ []) in
+          right.guarded at test inner (always_right (at + 2) (act ∷ next ∷ []) all) (subst (λ n. n ≤ total) (sym (behind_guard at (length inner))) le)
+  acting_right at test (act ∷ next ∷ third ∷ list) all le =
+      let inner = map always (act ∷ next ∷ third ∷ list) in
+      right.guarded at test inner (always_right (at + 2) (act ∷ next ∷ third ∷ list) all) (subst (λ n. n ≤ total) (sym (behind_guard at (length inner))) le)
 
   -- Rules in their order
 

@@ -182,12 +182,19 @@ shows_more f may more held t u h =
     record { alike = h.alike; verdict = h.verdict; told = h.told; none = λ e. h.none (or_parts may more e).0; among = h.among }
 
 -- a verdict is held, with a tag and an end
+verdict_first : (f : Frame) (v : Bool) (tag : Option ℕ) (to : Option End) (u : Transit)
+    → record (tagged tag (with_verdict v u)) { tags = tags_behind (holding f to) (tagged tag (with_verdict v u)).tags }
+    ≡ with_verdict v (record (tagged tag u) { tags = tags_behind (holding f to) (tagged tag u).tags })
+verdict_first f v None to u = refl
+verdict_first f v (Some n) to u = refl
+
 pub verdict_done : (p : Packet) (f : Frame) (v : Bool) (tag : Option ℕ) (to : Option End) (u : Transit)
-    → done p (only_tag tag ++ holding f to ++ Hold v ∷ []) u ≡ with_verdict v (record (tagged tag u) { tags = tags_behind (holding f to) (tagged tag u).tags })
+    → done p (Hold v ∷ only_tag tag ++ holding f to) u ≡ with_verdict v (record (tagged tag u) { tags = tags_behind (holding f to) (tagged tag u).tags })
 verdict_done p f v tag to u =
-    done_append p (only_tag tag ++ holding f to) (Hold v ∷ []) u
-    ∙ ap (with_verdict v) (done_append p (only_tag tag) (holding f to) u ∙ ap (done p (holding f to)) (only_done p tag u)
-    ∙ tags_alone p (holding f to) (telling_tags f.tags (bits_of f.bits (number_of f.ends to))) (tagged tag u))
+    let held = with_verdict v u in
+    done_append p (only_tag tag) (holding f to) held ∙ ap (done p (holding f to)) (only_done p tag held)
+    ∙ tags_alone p (holding f to) (telling_tags f.tags (bits_of f.bits (number_of f.ends to))) (tagged tag held)
+    ∙ verdict_first f v tag to u
 
 told_alike : (f : Frame) (bits : List Bool) (v : Bool) (t u : Transit) → IsAlike f.tags t u
     → IsAlike f.tags (with_verdict v t) (with_verdict v (record u { tags = tags_behind (telling f.tags bits) u.tags }))
@@ -200,7 +207,7 @@ no_number f may (Some e) none = absurd (false≢true (sym (or_parts may true non
 
 -- behind a rule that passes
 pub passed : (p : Packet) (f : Frame) (may : Bool) (tag : Option ℕ) (to : Option End) (t u : Transit) → IsAlike f.tags t u → IsAmong f to
-    → Shows f (may || is_some to) to (with_verdict true (tagged tag t)) (done p (only_tag tag ++ holding f to ++ Hold true ∷ []) u)
+    → Shows f (may || is_some to) to (with_verdict true (tagged tag t)) (done p (Hold true ∷ only_tag tag ++ holding f to) u)
 passed p f may tag to t u h among =
     let bits = bits_of f.bits (number_of f.ends to) in
     let after = tagged tag u in
@@ -214,7 +221,7 @@ passed p f may tag to t u h among =
 
 -- behind one that blocks
 pub blocked : (p : Packet) (f : Frame) (may : Bool) (tag : Option ℕ) (to : Option End) (t u : Transit) → IsAlike f.tags t u
-    → Shows f may to (with_verdict false (tagged tag t)) (done p (only_tag tag ++ holding f None ++ Hold false ∷ []) u)
+    → Shows f may to (with_verdict false (tagged tag t)) (done p (Hold false ∷ only_tag tag ++ holding f None) u)
 blocked p f may tag to t u h =
     let bits = bits_of f.bits 0 in
     let after = tagged tag u in

@@ -47,8 +47,8 @@ holding f to = telling f.tags (bits_of f.bits (number_of f.ends to))
 
 -- a rule that isn't quick, behind rules of which one may have held an end
 abbrev pub changes : Frame → Bool → Option ℕ → Option End → PfoKind → List Act
-changes f may tag to Pass = only_tag tag ++ holding f to ++ Hold true ∷ []
-changes f may tag to Block = only_tag tag ++ holding f None ++ Hold false ∷ []
+changes f may tag to Pass = Hold true ∷ only_tag tag ++ holding f to
+changes f may tag to Block = Hold false ∷ only_tag tag ++ holding f None
 changes f may tag to Match = tagging f may tag ++ writing f.outward to
 
 -- how packets pass with an end or none, or are dropped
@@ -67,10 +67,18 @@ acts_of f may r = if r.quick then ending f r.tag r.to r.kind else changes f may 
 
 -- The rules of acts: one where a condition holds, or several met where it holds, of which the first has the place at
 
+-- no condition tells what verdict is held
+abbrev pub is_hold : Act → Bool
+is_hold (Hold passes) = true
+is_hold _ = false
+
+-- so that one act behind a verdict that is held can have the same condition
 abbrev pub acting : ℕ → List Lit → List Act → List Rule
 acting at cond [] = []
 acting at cond (act ∷ []) = ruled cond act ∷ []
-acting at cond (act ∷ more ∷ acts) = guarded at cond (map always (act ∷ more ∷ acts))
+acting at cond (act ∷ next ∷ []) =
+    if is_hold act then ruled cond act ∷ ruled cond next ∷ [] else guarded at cond (map always (act ∷ next ∷ []))
+acting at cond (act ∷ next ∷ third ∷ acts) = guarded at cond (map always (act ∷ next ∷ third ∷ acts))
 
 -- Rules in their order
 

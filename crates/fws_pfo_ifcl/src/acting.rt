@@ -3,7 +3,7 @@
 ghost use Rattle.std.specs.Prelude.{◌≡◌, [], ◌∷◌, ◌++◌, length, map, OnOk, IfOk};
 ghost use Rattle.fws_draw.specs.Rules.{always};
 ghost use Rattle.fws_ifcl.specs.declared.diagram.Act.TheVariants.{Hold};
-ghost use Rattle.fws_pfo_ifcl.specs.Blocks.{acting, acts_of, changes, decision, ending, holding, only_tag, tagging, without_other, without_others, writing};
+ghost use Rattle.fws_pfo_ifcl.specs.Blocks.{acting, acts_of, changes, decision, ending, holding, is_hold, only_tag, tagging, without_other, without_others, writing};
 
 use crate::ends::number_of;
 use crate::frame::Frame;
@@ -105,7 +105,7 @@ fn put_holding(
     put_telling(acts, frame.tags, bits.as_slice())
 }
 
-/// Puts acts behind the others that put the tag, hold the end or none, and hold the verdict so far. An error is want of memory.
+/// Puts acts behind the others that hold the verdict so far, put the tag, and hold the end or none. An error is want of memory.
 fn put_verdict(
     alloc: Global,
     acts: &mut Vec<Act>,
@@ -114,12 +114,11 @@ fn put_verdict(
     to: Option<End>,
     passes: bool,
 ) -> Result<(), Memory>
-    ensures { OnOk result (acts.new.items ≡ acts.old.items ++ (only_tag tag ++ holding frame.now to ++ Hold passes ∷ [])) }
+    ensures { OnOk result (acts.new.items ≡ acts.old.items ++ Hold passes ∷ only_tag tag ++ holding frame.now to) }
 {
-    put_only_tag(acts, tag)?;
-    put_holding(alloc, acts, frame, to)?;
     acts.push(Act::Hold(passes))?;
-    Ok(())
+    put_only_tag(acts, tag)?;
+    put_holding(alloc, acts, frame, to)
 }
 
 /// Puts the acts of a rule that isn't quick behind the others, where a rule ahead of it may have held an end. An error is want of
@@ -208,6 +207,32 @@ pub(crate) fn put_acts(alloc: Global, rules: &mut Vec<Rule>, acts: &[Act]) -> Re
     Ok(())
 }
 
+/// Whether the act holds a verdict.
+fn is_hold(act: Act) -> bool
+    ensures { result ≡ is_hold act }
+{
+    matches!(act, Act::Hold(_))
+}
+
+/// Puts rules behind the others that do the two acts where the condition holds. An error is want of memory.
+fn put_both(
+    alloc: Global,
+    rules: &mut Vec<Rule>,
+    cond: Cond,
+    act: Act,
+    next: Act,
+) -> Result<(), Memory>
+    ensures { OnOk result (rules.new.items ≡ rules.old.items ++ acting (length rules.old.items) cond (act ∷ next ∷ [])) }
+{
+    if is_hold(act) {
+        put_rule(rules, cond.copy(alloc)?, act)?;
+        return put_rule(rules, cond, next);
+    }
+    put_guard(alloc, rules, cond, 2)?;
+    put_always(alloc, rules, act)?;
+    put_always(alloc, rules, next)
+}
+
 /// Puts rules behind the others that do the acts where the condition holds. An error is want of memory.
 pub(crate) fn put_acting(
     alloc: Global,
@@ -220,7 +245,8 @@ pub(crate) fn put_acting(
     match acts {
         [] => Ok(()),
         [act] => put_rule(rules, cond, *act),
-        [_, _, ..] => {
+        [act, next] => put_both(alloc, rules, cond, *act, *next),
+        [_, _, _, ..] => {
             put_guard(alloc, rules, cond, acts.len())?;
             put_acts(alloc, rules, acts)
         }
