@@ -28,8 +28,10 @@ use Rattle.fws_ios.specs.declared.words.PortWord.TheVariants as ports
 use Rattle.fws_ios.specs.EntryText.{address_step, behind_ports, compared, entry_made, entry_of, entry_step, established_step, expected_step, fresh_entry, is_protocol, type_step, with_address, with_host, with_protocol, with_type, with_wildcard}
 use Rattle.fws_ios.specs.Keywords.{misspelled, port_word}
 use Rattle.fws_ios.specs.Values.{address_test, has_ports, icmp_type_named, port_test, wildcard_len}
-use Rattle.fws_ios_print.specs.Printable.{first_number, is_block, is_class, is_number as is_one, is_port_protocol, is_prefix, is_printed_cond, is_printed_entry, is_range, is_state, protocol_tested, state_name, tested}
-use Rattle.fws_ios_print.specs.PrintedText.{action_word, addresses_words, entry_words, options_words, ports_words, prefix_words, protocol_name, protocol_word, range_words, reflect_words, test_words}
+use Rattle.fws_print.specs.Sets.{first_number, is_number as is_one, is_range}
+use Rattle.fws_ios_print.specs.Printable.{is_block, is_class, is_port_protocol, is_prefix, is_printed_cond, is_printed_entry, is_state, protocol_tested, state_name, tested}
+use Rattle.fws_print.specs.Words.{protocol_name}
+use Rattle.fws_ios_print.specs.PrintedText.{action_word, addresses_words, entry_words, options_words, ports_words, prefix_words, protocol_word, range_words, reflect_words, test_words}
 use Rattle.fws_ios_print.proofs.Basics.{if_true, if_false, never}
 use Rattle.fws_ios_print.proofs.Laws.{Laws}
 use Rattle.fws_ios_print.proofs.LinesTaken.{plain_sound, words_append, words_more}

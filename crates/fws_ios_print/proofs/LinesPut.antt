@@ -12,8 +12,10 @@ use Rattle.fws_ios.specs.declared.config.IosEntry.{IosEntry}
 use Rattle.fws_ios.specs.declared.config.IosGroup.{IosGroup}
 use Rattle.fws_ios.specs.declared.config.IosList.{IosList}
 use Rattle.fws_ios.specs.declared.config.IosNat.{IosNat}
-use Rattle.fws_ios_print.specs.Printable.{is_network, is_state, state_name, tested as tested_at}
-use Rattle.fws_ios_print.specs.PrintedText.{action_word, addresses_words, behind_blanks, config_text, entry_words, face_lines, face_names, group_lines, groups_behind, head_lines, inner_line, interface_lines, interfaces_lines, list_lines, lists_comment, nat_lines, nats_comment, nats_lines, options_words, ports_words, protocol_word, reflect_words, section, side_lines, test_words}
+use Rattle.fws_print.specs.Sets.{is_network}
+use Rattle.fws_ios_print.specs.Printable.{is_state, state_name, tested as tested_at}
+use Rattle.fws_print.specs.Words.{behind_blanks}
+use Rattle.fws_ios_print.specs.PrintedText.{action_word, addresses_words, config_text, entry_words, face_lines, face_names, group_lines, groups_behind, head_lines, inner_line, interface_lines, interfaces_lines, list_lines, lists_comment, nat_lines, nats_comment, nats_lines, options_words, ports_words, protocol_word, reflect_words, section, side_lines, test_words}
 use Rattle.fws_ios_print.proofs.LinesTaken.{spaced_from}
 
 -- Lines

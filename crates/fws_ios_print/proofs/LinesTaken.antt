@@ -17,7 +17,8 @@ use Rattle.fws_net.specs.Reading.{and_then, lines_read, located}
 use Rattle.fws_ios.specs.declared.draft.IosDraft.{IosDraft}
 use Rattle.fws_ios.specs.declared.draft.Pool.{Pool}
 use Rattle.fws_ios.specs.FileText.{defined_by, defined_from, line_step, with_defined}
-use Rattle.fws_ios_print.specs.PrintedText.{behind_blanks, inner_line}
+use Rattle.fws_print.specs.Words.{behind_blanks}
+use Rattle.fws_ios_print.specs.PrintedText.{inner_line}
 use Rattle.fws_ios_print.proofs.Basics.{all_weaker, if_false, if_true, never}
 use Rattle.fws_ios_print.proofs.Laws.{Laws}
 

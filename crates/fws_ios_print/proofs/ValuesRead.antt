@@ -17,8 +17,10 @@ use Rattle.fws_net.specs.Faces.{block}
 use Rattle.fws_rule.specs.Literals.{one}
 use Rattle.fws_ios.specs.Keywords.{is, port_word, port_words}
 use Rattle.fws_ios.specs.Values.{icmp_type_named, icmp_type_of, protocol_value, wildcard_len, wildcard_of}
-use Rattle.fws_ios_print.specs.Printable.{is_network, is_prefix}
-use Rattle.fws_ios_print.specs.PrintedText.{pool_name, protocol_name}
+use Rattle.fws_print.specs.Sets.{is_network}
+use Rattle.fws_ios_print.specs.Printable.{is_prefix}
+use Rattle.fws_print.specs.Words.{protocol_name}
+use Rattle.fws_ios_print.specs.PrintedText.{pool_name}
 use Rattle.fws_ios_print.proofs.Basics.{all_weaker, at_number, if_false, never, texts_differ}
 use Rattle.fws_ios_print.proofs.Laws.{Laws}
 

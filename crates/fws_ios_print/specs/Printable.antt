@@ -1,5 +1,5 @@
 -- The configurations that are printed: those that hold what placed policies need, in the forms that Cisco IOS has for them.
-use Rattle.std.specs.Prelude.{ℕ, ◌+◌, ◌*◌, ◌-◌, ◌^◌, ◌%◌, Bool, true, false, ◌&&◌, ◌||◌, not, nat_eq, nat_le, nat_lt, List, [], ◌∷◌, codes, length, if◌then◌else◌}
+use Rattle.std.specs.Prelude.{ℕ, ◌+◌, ◌*◌, ◌-◌, ◌^◌, Bool, true, false, ◌&&◌, ◌||◌, not, nat_eq, nat_le, nat_lt, List, [], ◌∷◌, codes, length, if◌then◌else◌}
 use Rattle.std.specs.List.{list_all, list_any, range_with_len}
 use Rattle.std.specs.Str.{bytes_eq}
 use Rattle.fws_num.specs.Written.{is_plain}
@@ -16,6 +16,7 @@ use Rattle.fws_ios.specs.declared.config.IosNat.{IosNat}
 use Rattle.fws_ios.specs.declared.config.IosNat.TheVariants.{Static, List as Listed}
 use Rattle.fws_ios.specs.Soundness.{are_apart}
 use Rattle.fws_ios.specs.Values.{is_number as are_digits}
+use Rattle.fws_print.specs.Sets.{first_number, is_network, is_number, is_range}
 
 -- Names
 
@@ -29,20 +30,6 @@ is_list_name name = is_plain name && not (are_digits name) && not (bytes_eq name
 
 -- Sets
 
--- one number, up to a greatest one
-abbrev pub is_number : ℕ → List Iv → Bool
-is_number most (iv ∷ []) = nat_eq iv.lo iv.hi && nat_le iv.hi most
-is_number most _ = false
-
--- one range of numbers, up to a greatest one
-abbrev pub is_range : ℕ → List Iv → Bool
-is_range most (iv ∷ []) = nat_le iv.lo iv.hi && nat_le iv.hi most
-is_range most _ = false
-
--- the range has just the addresses that agree in their first n bits
-abbrev pub is_network : ℕ → Iv → Bool
-is_network n iv = nat_eq (iv.lo % 2 ^ (32 - n)) 0 && nat_eq (iv.hi + 1) (iv.lo + 2 ^ (32 - n))
-
 -- the addresses agree in their first 1 to 32 bits, and are all that do
 unfoldable pub is_prefix : Iv → Bool
 is_prefix iv = list_any (λ n. is_network n iv) (range_with_len 1 32)
@@ -50,11 +37,6 @@ is_prefix iv = list_any (λ n. is_network n iv) (range_with_len 1 32)
 -- the addresses of one prefix, which isn't that of all addresses
 abbrev pub is_block : List Iv → Bool
 is_block set = is_range (2 ^ 32 - 1) set && list_all is_prefix set
-
--- the least number of the first range of a set
-abbrev pub first_number : List Iv → ℕ
-first_number [] = 0
-first_number (iv ∷ set) = iv.lo
 
 -- Tests
 

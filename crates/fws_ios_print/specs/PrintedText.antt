@@ -16,22 +16,15 @@ use Rattle.fws_ios.specs.declared.config.IosGroup.{IosGroup}
 use Rattle.fws_ios.specs.declared.config.IosList.{IosList}
 use Rattle.fws_ios.specs.declared.config.IosNat.{IosNat}
 use Rattle.fws_ios.specs.declared.config.IosNat.TheVariants.{Static, List as Listed}
-use Rattle.fws_ios_print.specs.Printable.{first_number, is_state, state_name, tested}
-
--- the words, each behind a blank
-abbrev pub behind_blanks : List (List ℕ) → List ℕ
-behind_blanks words = flat_map (λ word. 32 ∷ word) words
+use Rattle.fws_print.specs.Sets.{first_number}
+use Rattle.fws_ios_print.specs.Printable.{is_state, state_name, tested}
+use Rattle.fws_print.specs.Words.{protocol_name}
 
 -- a line that belongs to the last one that doesn't begin with a blank
 abbrev pub inner_line : List (List ℕ) → List ℕ
 inner_line words = 32 ∷ spaced words
 
 -- Protocols
-
--- a protocol: by its name where it has ports or ICMP types, and else by its number
-abbrev pub protocol_name : ℕ → List ℕ
-protocol_name n =
-    if nat_eq n 1 then codes "icmp" else if nat_eq n 6 then codes "tcp" else if nat_eq n 17 then codes "udp" else decimal n
 
 -- the protocol that is asked for; `ip` where none is
 abbrev pub protocol_word : List Iv → List ℕ

@@ -2,19 +2,12 @@
 
 ghost use Rattle.std.specs.Prelude.{◌≡◌, ◌-◌, ◌∷◌, ◌++◌, [], codes, OnOk};
 ghost use Rattle.fws_num.specs.Numbers.{dotted};
-ghost use Rattle.fws_ios_print.specs.PrintedText.{addresses_words, behind_blanks, prefix_words};
+ghost use Rattle.fws_print.specs.Words.{behind_blanks};
+ghost use Rattle.fws_ios_print.specs.PrintedText.{addresses_words, prefix_words};
 
 use fws_iv::Iv;
-use fws_num::{Memory, Text, put_quad};
-
-/// Appends an address, behind a blank.
-pub fn put_address(out: &mut Text, addr: u32) -> Result<(), Memory>
-    ensures { OnOk result (out.new ≡ out.old ++ 32 ∷ dotted addr) }
-{
-    out.put(b" ")?;
-    put_quad(out, addr)?;
-    Ok(())
-}
+use fws_num::{Memory, Text};
+use fws_print::put_address;
 
 /// Appends one address.
 fn put_host(out: &mut Text, addr: u32) -> Result<(), Memory>

@@ -1,10 +1,12 @@
 //! What conditions ask for.
 
 ghost use Rattle.std.specs.Prelude.{◌≡◌};
-ghost use Rattle.fws_ios_print.specs.Printable.{first_number, is_class, is_state, place_of, protocol_tested, test_set, tested};
+ghost use Rattle.fws_print.specs.Sets.{first_number};
+ghost use Rattle.fws_ios_print.specs.Printable.{is_class, is_state, place_of, protocol_tested, test_set, tested};
 
 use fws_iv::Iv;
 use fws_net::{Lit, Test};
+use fws_print::first_number;
 
 /// The place of a test in an entry.
 pub fn place_of(test: &Test) -> u8
@@ -64,16 +66,6 @@ pub fn tested(cond: &[Lit], place: u8) -> &[Iv]
         left = rest;
     }
     &[]
-}
-
-/// The least number of the first range of a set.
-pub fn first_number(set: &[Iv]) -> u32
-    ensures { result ≡ first_number set.now }
-{
-    match set {
-        [iv, ..] => iv.lo,
-        [] => 0,
-    }
 }
 
 /// The protocol that a condition asks for; 0 where it asks for none.

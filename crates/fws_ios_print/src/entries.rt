@@ -3,12 +3,13 @@
 ghost use Rattle.std.specs.Prelude.{◌≡◌, [], ◌∷◌, ◌++◌, OnOk};
 ghost use Rattle.fws_num.specs.Written.{ended};
 ghost use Rattle.fws_ios_print.specs.Printable.{tested};
-ghost use Rattle.fws_ios_print.specs.PrintedText.{action_word, addresses_words, behind_blanks, entry_lines, entry_words, inner_line, options_words, ports_words, protocol_word, reflect_words, test_words};
+ghost use Rattle.fws_print.specs.Words.{behind_blanks};
+ghost use Rattle.fws_ios_print.specs.PrintedText.{action_word, addresses_words, entry_lines, entry_words, inner_line, options_words, ports_words, reflect_words, test_words};
 
 use crate::addresses::put_addresses;
 use crate::conditions::{is_state, tested};
 use crate::tests::put_options;
-use crate::values::{put_ports, put_protocol};
+use crate::values::{put_ports, put_protocol_of};
 use fws_ios::IosEntry;
 use fws_net::Lit;
 use fws_num::{Memory, Text};
@@ -64,7 +65,7 @@ fn put_test_words(out: &mut Text, entry: &IosEntry) -> Result<(), Memory>
     ensures { OnOk result (out.new ≡ out.old ++ behind_blanks (test_words entry.now)) }
 {
     put_action(out, entry.permit)?;
-    put_protocol(out, tested(entry.cond.lits(), 0))?;
+    put_protocol_of(out, tested(entry.cond.lits(), 0))?;
     put_source(out, entry.cond.lits(), entry.reflect)?;
     Ok(())
 }

@@ -3,13 +3,14 @@
 ghost use Rattle.std.specs.Prelude.{◌≡◌, nat_eq, [], ◌∷◌, ◌++◌, map, OnOk};
 ghost use Rattle.fws_iv.specs.Ivs.{has, in_part};
 ghost use Rattle.fws_num.specs.Written.{ended, spaced};
-ghost use Rattle.fws_ios_print.specs.PrintedText.{are_some, behind_blanks, direction_word, face_lines, face_names, group_lines, group_words, groups_behind, inner_line, interface_lines, interface_words, interfaces_lines, side_lines};
+ghost use Rattle.fws_print.specs.Words.{behind_blanks};
+ghost use Rattle.fws_ios_print.specs.PrintedText.{are_some, direction_word, face_lines, face_names, group_lines, group_words, groups_behind, inner_line, interface_lines, interface_words, interfaces_lines, side_lines};
 
-use crate::values::put_word;
 use fws_ios::{IosConfig, IosGroup};
 use fws_iv::Iv;
 use fws_net::{Iface, Site};
 use fws_num::{Memory, Text};
+use fws_print::put_word;
 
 /// Whether the range has the number.
 fn in_part(iv: Iv, face: u128) -> bool

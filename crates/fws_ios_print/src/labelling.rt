@@ -2,10 +2,11 @@
 
 ghost use Rattle.std.specs.Prelude.{◌≡◌, ◌++◌, IfOk, OnOk};
 ghost use Rattle.std.specs.List.{flat_map};
-ghost use Rattle.fws_ios_print.specs.Labels.{LabelsAreCounted, labels_of, list_front, list_labels, place_label, place_labels};
+ghost use Rattle.fws_ios_print.specs.Labels.{LabelsAreCounted, labels_of, list_front, list_labels};
 
 use fws_ios::{IosConfig, IosList};
-use fws_num::{Memory, Text, put_dec};
+use fws_num::{Memory, Text};
+use fws_print::put_places;
 use std::alloc::Global;
 
 /// What stands ahead of an entry's place: its list.
@@ -15,32 +16,6 @@ fn list_front(alloc: Global, l: &IosList) -> Result<Text, Memory>
     let mut front = Text::of(alloc, b"list ")?;
     front.put(l.name.as_slice())?;
     Ok(front)
-}
-
-/// A front and a place.
-fn place_label(alloc: Global, front: &[u8], place: u64) -> Result<Text, Memory>
-    ensures { IfOk result (λ label. label ≡ place_label front.now place) }
-{
-    let mut label = Text::of(alloc, front)?;
-    label.put(b" ")?;
-    put_dec(&mut label, place)?;
-    Ok(label)
-}
-
-/// Puts a front and each of so many places, counted from 1, behind the other labels.
-fn put_places(
-    alloc: Global,
-    labels: &mut Vec<Text>,
-    front: &[u8],
-    count: usize,
-) -> Result<(), Memory>
-    ensures { OnOk result (labels.new.items ≡ labels.old.items ++ place_labels front.now count) }
-{
-    for at in 0..count {
-        let label = place_label(alloc, front, at as u64 + 1)?;
-        labels.push(label)?;
-    }
-    Ok(())
 }
 
 /// Puts the labels of a list's entries behind the others.

@@ -2,12 +2,13 @@
 
 ghost use Rattle.std.specs.Prelude.{◌≡◌, [], ◌∷◌, ◌++◌, codes, OnOk};
 ghost use Rattle.fws_num.specs.Written.{ended, spaced};
-ghost use Rattle.fws_ios_print.specs.PrintedText.{behind_blanks, entry_lines, list_lines, list_words};
+ghost use Rattle.fws_print.specs.Words.{behind_blanks};
+ghost use Rattle.fws_ios_print.specs.PrintedText.{entry_lines, list_lines, list_words};
 
 use crate::entries::put_entries;
-use crate::values::put_word;
 use fws_ios::IosList;
 use fws_num::{Memory, Text};
+use fws_print::put_word;
 
 /// Appends the words that open a list behind the first one.
 fn put_extended(out: &mut Text, name: &[u8]) -> Result<(), Memory>

@@ -1,41 +1,14 @@
 //! Conditions that entries spell.
 
-ghost use Rattle.std.specs.Prelude.{◌≡◌, ◌≤◌};
+ghost use Rattle.std.specs.Prelude.{◌≡◌};
 ghost use Rattle.std.specs.List.{list_all};
-ghost use Rattle.fws_ios_print.specs.Printable.{ascend, is_block, is_network, is_number, is_port_protocol, is_prefix, is_printed_cond, is_printed_literal, is_printed_test, is_range};
+ghost use Rattle.fws_print.specs.Sets.{is_network, is_number, is_range};
+ghost use Rattle.fws_ios_print.specs.Printable.{ascend, is_block, is_port_protocol, is_prefix, is_printed_cond, is_printed_literal, is_printed_test};
 
 use crate::conditions::{place_of, protocol_tested};
 use fws_iv::{Iv, Ivs};
 use fws_net::{Lit, Test};
-
-/// Whether it is one number, up to a greatest one.
-fn is_number(most: u32, set: &Ivs) -> bool
-    ensures { result ≡ is_number most set.now }
-{
-    match set.parts() {
-        [iv] => iv.lo == iv.hi && iv.hi <= most,
-        _ => false,
-    }
-}
-
-/// Whether it is one range of numbers, up to a greatest one.
-fn is_range(most: u32, set: &Ivs) -> bool
-    ensures { result ≡ is_range most set.now }
-{
-    match set.parts() {
-        [iv] => iv.lo <= iv.hi && iv.hi <= most,
-        _ => false,
-    }
-}
-
-/// Whether the range has just the addresses that agree in their first `n` bits.
-fn is_network(n: u8, iv: Iv) -> bool
-    requires { n ≤ 32 }
-    ensures { result ≡ is_network n iv }
-{
-    let size = 2u64.pow(u32::from(32 - n));
-    u64::from(iv.lo) % size == 0 && u64::from(iv.hi) + 1 == u64::from(iv.lo) + size
-}
+use fws_print::{is_network, is_number, is_range};
 
 /// Whether the addresses agree in their first 1 to 32 bits, and are all that do.
 #[tactic(auto, unfolding(crate::specs::Printable::is_prefix))]

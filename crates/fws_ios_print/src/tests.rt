@@ -1,12 +1,12 @@
 //! Tests that stand behind addresses and ports, as they are printed.
 
 ghost use Rattle.std.specs.Prelude.{◌≡◌, ◌++◌, OnOk};
-ghost use Rattle.fws_ios_print.specs.PrintedText.{behind_blanks, option_words, options_words};
+ghost use Rattle.fws_print.specs.Words.{behind_blanks};
+ghost use Rattle.fws_ios_print.specs.PrintedText.{option_words, options_words};
 
-use crate::conditions::first_number;
-use crate::values::put_number;
 use fws_net::{Lit, Test};
 use fws_num::{Memory, Text};
+use fws_print::{first_number, put_number};
 
 /// Appends a test that stands behind addresses and ports, if it does.
 fn put_option(out: &mut Text, test: &Test) -> Result<(), Memory>

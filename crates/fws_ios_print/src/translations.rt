@@ -3,12 +3,12 @@
 ghost use Rattle.std.specs.Prelude.{◌≡◌, [], ◌∷◌, ◌++◌, codes, OnOk};
 ghost use Rattle.fws_num.specs.Numbers.{dotted};
 ghost use Rattle.fws_num.specs.Written.{ended, spaced};
-ghost use Rattle.fws_ios_print.specs.PrintedText.{behind_blanks, nat_lines, nat_words, nats_lines, pool_name, pool_words};
+ghost use Rattle.fws_print.specs.Words.{behind_blanks};
+ghost use Rattle.fws_ios_print.specs.PrintedText.{nat_lines, nat_words, nats_lines, pool_name, pool_words};
 
-use crate::addresses::put_address;
-use crate::values::put_word;
 use fws_ios::IosNat;
 use fws_num::{Memory, Text, put_dec};
+use fws_print::{put_address, put_word};
 
 /// Appends the name of the pool of the translation at this place, behind a blank.
 fn put_pool_name(out: &mut Text, n: u64) -> Result<(), Memory>

@@ -1,48 +1,20 @@
-//! Numbers, protocols and ports as they are printed.
+//! Protocols and ports as they are printed.
 
 ghost use Rattle.std.specs.Prelude.{◌≡◌, ◌∷◌, ◌++◌, [], codes, OnOk};
 ghost use Rattle.std.specs.Fmt.{decimal};
-ghost use Rattle.fws_ios_print.specs.PrintedText.{behind_blanks, ports_words, protocol_name, protocol_word, range_words};
+ghost use Rattle.fws_print.specs.Words.{behind_blanks};
+ghost use Rattle.fws_ios_print.specs.PrintedText.{ports_words, protocol_word, range_words};
 
 use fws_iv::Iv;
-use fws_num::{Memory, Text, put_dec};
-
-/// Appends a blank and a word.
-pub fn put_word(out: &mut Text, word: &[u8]) -> Result<(), Memory>
-    ensures { OnOk result (out.new ≡ out.old ++ 32 ∷ word.now) }
-{
-    out.put(b" ")?;
-    out.put(word)?;
-    Ok(())
-}
-
-/// Appends a blank and a number.
-pub fn put_number(out: &mut Text, n: u32) -> Result<(), Memory>
-    ensures { OnOk result (out.new ≡ out.old ++ 32 ∷ decimal n) }
-{
-    out.put(b" ")?;
-    put_dec(out, u64::from(n))?;
-    Ok(())
-}
-
-/// Appends a protocol, behind a blank: by its name where it has ports or ICMP types, and else by its number.
-fn put_protocol_name(out: &mut Text, n: u32) -> Result<(), Memory>
-    ensures { OnOk result (out.new ≡ out.old ++ 32 ∷ protocol_name n) }
-{
-    match n {
-        1 => put_word(out, b"icmp"),
-        6 => put_word(out, b"tcp"),
-        17 => put_word(out, b"udp"),
-        _ => put_number(out, n),
-    }
-}
+use fws_num::{Memory, Text};
+use fws_print::{put_number, put_protocol, put_word};
 
 /// Appends the protocol that is asked for, behind a blank; `ip` where none is.
-pub fn put_protocol(out: &mut Text, set: &[Iv]) -> Result<(), Memory>
+pub fn put_protocol_of(out: &mut Text, set: &[Iv]) -> Result<(), Memory>
     ensures { OnOk result (out.new ≡ out.old ++ 32 ∷ protocol_word set.now) }
 {
     match set {
-        [iv, ..] => put_protocol_name(out, iv.lo),
+        [iv, ..] => put_protocol(out, iv.lo),
         [] => put_word(out, b"ip"),
     }
 }

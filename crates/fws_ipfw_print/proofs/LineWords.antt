@@ -13,7 +13,8 @@ use Rattle.fws_net.specs.declared.cause.Cause.{Cause}
 use Rattle.fws_net.specs.declared.cause.Cause.TheVariants.{Syntax}
 use Rattle.fws_net.specs.Causes.{judged, words_read}
 use Rattle.fws_net.specs.Reading.{and_then}
-use Rattle.fws_ipfw_print.specs.PrintedText.{behind_blanks, name_word}
+use Rattle.fws_print.specs.Words.{behind_blanks}
+use Rattle.fws_ipfw_print.specs.PrintedText.{name_word}
 use Rattle.fws_ipfw_print.proofs.Basics.{if_true, if_false, never}
 
 -- Texts that can be written

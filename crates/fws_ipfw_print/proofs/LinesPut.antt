@@ -7,7 +7,8 @@ use Rattle.fws_net.specs.declared.site.Site.{Site}
 use Rattle.fws_ipfw.specs.declared.config.IpfwConfig.{IpfwConfig}
 use Rattle.fws_ipfw.specs.declared.config.IpfwNat.{IpfwNat}
 use Rattle.fws_ipfw.specs.declared.config.IpfwRule.{IpfwRule}
-use Rattle.fws_ipfw_print.specs.PrintedText.{behind_blanks, comment_between, config_text, head_lines, nat_lines, nat_words, rule_lines, rule_words, sections}
+use Rattle.fws_print.specs.Words.{behind_blanks}
+use Rattle.fws_ipfw_print.specs.PrintedText.{comment_between, config_text, head_lines, nat_lines, nat_words, rule_lines, rule_words, sections}
 use Rattle.fws_ipfw_print.proofs.LineWords.{spaced_from}
 
 -- Words

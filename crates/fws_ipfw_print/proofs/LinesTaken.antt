@@ -17,7 +17,8 @@ use Rattle.fws_net.specs.Reading.{and_then, lines_read, located}
 use Rattle.fws_ipfw.specs.declared.draft.Defined.{Defined}
 use Rattle.fws_ipfw.specs.declared.draft.IpfwDraft.{IpfwDraft}
 use Rattle.fws_ipfw.specs.FileText.{behind_program, defined_behind, defined_from, line_step, with_defined, words_step}
-use Rattle.fws_ipfw_print.specs.PrintedText.{behind_blanks, name_word}
+use Rattle.fws_print.specs.Words.{behind_blanks}
+use Rattle.fws_ipfw_print.specs.PrintedText.{name_word}
 use Rattle.fws_ipfw_print.proofs.Basics.{all_weaker, if_true, never}
 use Rattle.fws_ipfw_print.proofs.LineWords.{all_printed, is_inner, is_writable, line_back, spaced_from, word_at}
 use Rattle.fws_ipfw_print.proofs.Tame.{lacks_by}

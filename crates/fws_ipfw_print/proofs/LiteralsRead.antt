@@ -21,7 +21,8 @@ use Rattle.fws_ipfw.specs.declared.draft.Defined.{Defined}
 use Rattle.fws_ipfw.specs.declared.draft.RuleDraft.{RuleDraft}
 use Rattle.fws_ipfw.specs.declared.words.TestOption.TheVariants as options
 use Rattle.fws_ipfw.specs.Values.{set_meaning}
-use Rattle.fws_ipfw_print.specs.Printable.{are_flags, are_ranges, ascend, is_every_interface, is_interface, is_printed_literal, place_of}
+use Rattle.fws_print.specs.Sets.{are_flags, are_ranges, is_interface}
+use Rattle.fws_ipfw_print.specs.Printable.{ascend, is_every_interface, is_printed_literal, place_of}
 use Rattle.fws_ipfw_print.specs.PrintedText.{flag_words, flags_word, literal_words, name_word, numbers_word, ranges_word}
 use Rattle.fws_ipfw_print.proofs.Basics.{all_weaker, never}
 use Rattle.fws_ipfw_print.proofs.Laws.{Laws}

@@ -8,7 +8,7 @@ use Rattle.std.proofs.lemmas.List.Folds.{list_any-append}
 use Rattle.std.specs.List.{flat_map, list_all, range_with_len}
 use Rattle.fws_iv.specs.declared.iv.Iv.{Iv}
 use Rattle.fws_iv.specs.Ivs.{has, in_part, AreRanges, IsRegularFrom, with_ranges}
-use Rattle.fws_ipfw_print.specs.Printable.{ascend_from}
+use Rattle.fws_print.specs.Sets.{ascend_from}
 use Rattle.fws_ipfw_print.proofs.Laws.{Laws}
 
 abbrev pub is_ordered : Iv → Bool

@@ -24,7 +24,8 @@ use Rattle.fws_ipfw.specs.NatText.{address_and_port, fresh_nat, nat_expected_ste
 use Rattle.fws_ipfw.specs.Options.{nat_word}
 use Rattle.fws_ipfw.specs.RuleText.{has_ports}
 use Rattle.fws_ipfw_print.specs.Printable.{is_port, is_printed_nat, is_printed_redirect, is_whole}
-use Rattle.fws_ipfw_print.specs.PrintedText.{protocol_name, redirect_words}
+use Rattle.fws_print.specs.Words.{protocol_name}
+use Rattle.fws_ipfw_print.specs.PrintedText.{redirect_words}
 use Rattle.fws_ipfw_print.proofs.Basics.{never, then_ok}
 use Rattle.fws_ipfw_print.proofs.Laws.{Laws}
 use Rattle.fws_ipfw_print.proofs.LineWords.{texts_read, word_at, word_then, words_by_texts}

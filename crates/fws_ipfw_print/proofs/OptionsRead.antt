@@ -26,7 +26,8 @@ use Rattle.fws_ipfw.specs.Options.{misplaced, test_option}
 use Rattle.fws_ipfw.specs.RuleText.{destination_ports_step, expected_step, expecting, once, option_step, test_begun, with_literals}
 use Rattle.fws_ipfw.specs.Values.{meaning_of}
 use Rattle.fws_ipfw_print.specs.Printable.{is_printed_negation, is_printed_test, place_of}
-use Rattle.fws_ipfw_print.specs.PrintedText.{first_number, negated_words, test_words}
+use Rattle.fws_print.specs.Sets.{first_number}
+use Rattle.fws_ipfw_print.specs.PrintedText.{negated_words, test_words}
 use Rattle.fws_ipfw_print.proofs.Basics.{never}
 use Rattle.fws_ipfw_print.proofs.LineWords.{texts_read, word_then}
 use Rattle.fws_ipfw_print.proofs.NamesRead.{every_read}

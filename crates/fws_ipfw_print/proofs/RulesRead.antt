@@ -23,8 +23,10 @@ use Rattle.fws_ipfw.specs.declared.draft.RuleDraft.{RuleDraft}
 use Rattle.fws_ipfw.specs.Options.{action_word, misspelled}
 use Rattle.fws_ipfw.specs.RuleText.{acting, address_literals, expecting, fresh_rule, is_defined, protocol_step, with_literals, with_protocol, with_tag}
 use Rattle.fws_ipfw.specs.Values.{addresses_of, protocol_value}
-use Rattle.fws_ipfw_print.specs.Printable.{are_ranges, ascend, is_number, is_printed_literal, is_printed_negation, is_printed_tag, is_printed_test, place_of}
-use Rattle.fws_ipfw_print.specs.PrintedText.{act_words, addresses_word, behind_place, destination_word, protocol_name, protocol_word, source_word, tag_words}
+use Rattle.fws_print.specs.Sets.{are_ranges, is_number}
+use Rattle.fws_ipfw_print.specs.Printable.{ascend, is_printed_literal, is_printed_negation, is_printed_tag, is_printed_test, place_of}
+use Rattle.fws_print.specs.Words.{protocol_name}
+use Rattle.fws_ipfw_print.specs.PrintedText.{act_words, addresses_word, behind_place, destination_word, protocol_word, source_word, tag_words}
 use Rattle.fws_ipfw_print.proofs.Basics.{if_false, never, texts_differ}
 use Rattle.fws_ipfw_print.proofs.Laws.{Laws}
 use Rattle.fws_ipfw_print.proofs.LineWords.{word_then}

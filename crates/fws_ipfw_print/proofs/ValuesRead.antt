@@ -25,8 +25,9 @@ use Rattle.fws_rule.specs.Literals.{positive}
 use Rattle.fws_ipfw.specs.declared.draft.Flags.{Flags}
 use Rattle.fws_ipfw.specs.Options.{begins_with_digit}
 use Rattle.fws_ipfw.specs.Values.{addresses_of, counted, flag_of, flags_meaning, flags_test, protocol_value, with_flags, with_networks, with_types}
-use Rattle.fws_ipfw_print.specs.Printable.{are_flags, are_ranges, ascend_from}
-use Rattle.fws_ipfw_print.specs.PrintedText.{addresses_word, blocks_of, flags_word, numbers_of, numbers_word, prefix_word, protocol_name, range_word, ranges_word}
+use Rattle.fws_print.specs.Sets.{are_flags, are_ranges, ascend_from}
+use Rattle.fws_print.specs.Words.{protocol_name}
+use Rattle.fws_ipfw_print.specs.PrintedText.{addresses_word, blocks_of, flags_word, numbers_of, numbers_word, prefix_word, range_word, ranges_word}
 use Rattle.fws_ipfw_print.proofs.Basics.{if_true, if_false, never, texts_differ}
 use Rattle.fws_ipfw_print.proofs.Blocks.{block_range, blocks_ordered, is_address_range, is_good, prefix_bytes, prefix_lacks, prefix_slashes, prefix_some, prefixes_read, range_blocks, set_blocks_good}
 use Rattle.fws_ipfw_print.proofs.Laws.{Laws}

@@ -1,5 +1,5 @@
 -- The configurations that are printed: those that hold what placed policies need, in the forms that ipfw(8) lists.
-use Rattle.std.specs.Prelude.{ℕ, ◌+◌, ◌-◌, ◌^◌, Bool, true, false, ◌&&◌, ◌||◌, not, nat_eq, nat_le, nat_lt, bit_and, Option, is_none, List, [], ◌∷◌, length, if◌then◌else◌}
+use Rattle.std.specs.Prelude.{ℕ, ◌+◌, ◌-◌, ◌^◌, Bool, true, false, ◌&&◌, ◌||◌, not, nat_eq, nat_le, nat_lt, Option, is_none, List, [], ◌∷◌, length, if◌then◌else◌}
 use Rattle.std.specs.List.{list_all}
 use Rattle.std.specs.Option.{option_map_or}
 use Rattle.fws_iv.specs.declared.iv.Iv.{Iv}
@@ -19,27 +19,9 @@ use Rattle.fws_ipfw.specs.declared.config.Redirect.{Redirect}
 use Rattle.fws_ipfw.specs.FileText.{has_nat}
 use Rattle.fws_ipfw.specs.RuleText.{allows, has_ports}
 use Rattle.fws_ipfw.specs.Soundness.{are_apart, are_ordered, is_check, is_everywhere, leaves_tags}
+use Rattle.fws_print.specs.Sets.{are_flags, are_ranges, is_interface, is_number}
 
 -- Sets
-
--- one number, up to a greatest one
-abbrev pub is_number : ℕ → List Iv → Bool
-is_number most (iv ∷ []) = nat_eq iv.lo iv.hi && nat_le iv.hi most
-is_number most _ = false
-
--- ranges up to a greatest number, that ascend from a number on and don't touch
-abbrev pub ascend_from : ℕ → ℕ → List Iv → Bool
-ascend_from most from [] = true
-ascend_from most from (iv ∷ set) = nat_le from iv.lo && nat_le iv.lo iv.hi && nat_le iv.hi most && ascend_from most (iv.hi + 2) set
-
--- at least one range of numbers up to a greatest one
-abbrev pub are_ranges : ℕ → List Iv → Bool
-are_ranges most [] = false
-are_ranges most (iv ∷ set) = ascend_from most 0 (iv ∷ set)
-
--- an interface: the entry of loopback or of an interface of the site
-abbrev pub is_interface : Site → List Iv → Bool
-is_interface site set = is_number (length site.faces + 1) set && list_all (λ iv. not (nat_eq iv.lo 0)) set
 
 -- every interface
 abbrev pub is_every_interface : Site → List Iv → Bool
@@ -67,10 +49,6 @@ place_of _ = 10
 abbrev pub ascend : ℕ → List Lit → Bool
 ascend least [] = true
 ascend least (lit ∷ lits) = nat_le least (place_of lit.test) && ascend (place_of lit.test + 1) lits
-
--- flags are tested, and only such as are looked at are wanted
-abbrev pub are_flags : ℕ → ℕ → Bool
-are_flags mask want = nat_lt 0 mask && nat_le mask 63 && nat_eq (bit_and mask want) want
 
 -- a test that is printed: of one protocol, of addresses, of ports in at most thirty ranges, of flags, of ICMP types, of one
 -- interface, of the direction, and of a tag

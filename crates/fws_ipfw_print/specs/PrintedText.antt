@@ -26,10 +26,8 @@ use Rattle.fws_ipfw.specs.declared.config.Redirect.{Redirect}
 use Rattle.fws_ipfw.specs.Soundness.{is_check}
 use Rattle.fws_ipfw.specs.Values.{tcp_flags}
 use Rattle.fws_ipfw_print.specs.Printable.{place_of}
-
--- the words, each behind a blank
-abbrev pub behind_blanks : List (List ℕ) → List ℕ
-behind_blanks words = flat_map (λ word. 32 ∷ word) words
+use Rattle.fws_print.specs.Words.{protocol_name, range_text, ranges_text}
+use Rattle.fws_print.specs.Sets.{first_number}
 
 -- Addresses
 
@@ -73,11 +71,11 @@ addresses_word set = join_by prefix_word (44 ∷ []) (flat_map blocks_of set)
 
 -- a port, or two with a dash between
 abbrev pub range_word : Iv → List ℕ
-range_word iv = if nat_eq iv.lo iv.hi then decimal iv.lo else decimal iv.lo ++ 45 ∷ decimal iv.hi
+range_word iv = range_text 45 iv
 
 -- the ranges joined by commas
 abbrev pub ranges_word : List Iv → List ℕ
-ranges_word set = join_by range_word (44 ∷ []) set
+ranges_word set = ranges_text 45 set
 
 -- the numbers of a range
 abbrev pub numbers_of : Iv → List ℕ
@@ -86,11 +84,6 @@ numbers_of iv = range_with_len iv.lo (iv.hi + 1 - iv.lo)
 -- the numbers of the ranges, each alone, joined by commas
 abbrev pub numbers_word : List Iv → List ℕ
 numbers_word set = join_by decimal (44 ∷ []) (flat_map numbers_of set)
-
--- a protocol: by its name where it has ports or ICMP types, and else by its number
-abbrev pub protocol_name : ℕ → List ℕ
-protocol_name n =
-    if nat_eq n 1 then codes "icmp" else if nat_eq n 6 then codes "tcp" else if nat_eq n 17 then codes "udp" else decimal n
 
 -- a flag that is tested: behind a comma where one of a lower bit is tested too, and with `!` before it where it is to be clear
 abbrev pub flag_text : ℕ → ℕ → ℕ → List ℕ → List ℕ
@@ -113,11 +106,6 @@ flag_words mask want =
 -- a name; in quotes where two slashes stand in a row, which else begin a comment
 abbrev pub name_word : List ℕ → List ℕ
 name_word name = if has_slashes name then 34 ∷ name ++ 34 ∷ [] else name
-
--- the least number of the first range of a set
-abbrev pub first_number : List Iv → ℕ
-first_number [] = 0
-first_number (iv ∷ set) = iv.lo
 
 -- Conditions
 

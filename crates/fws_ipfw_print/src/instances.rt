@@ -4,21 +4,13 @@ ghost use Rattle.std.specs.Prelude.{◌≡◌, [], ◌∷◌, ◌++◌, map, cod
 ghost use Rattle.std.specs.List.{flat_map};
 ghost use Rattle.fws_num.specs.Numbers.{dotted};
 ghost use Rattle.fws_num.specs.Written.{ended, spaced};
-ghost use Rattle.fws_ipfw_print.specs.PrintedText.{behind_blanks, end_word, nat_lines, nat_words, protocol_name, redirect_words};
+ghost use Rattle.fws_print.specs.Words.{behind_blanks, protocol_name};
+ghost use Rattle.fws_ipfw_print.specs.PrintedText.{end_word, nat_lines, nat_words, redirect_words};
 
-use crate::values::{put_number, put_protocol, put_word};
 use fws_ipfw::{IpfwNat, Redirect};
 use fws_net::End;
-use fws_num::{Memory, Text, put_dec, put_quad};
-
-/// Appends an address, behind a blank.
-fn put_address(out: &mut Text, addr: u32) -> Result<(), Memory>
-    ensures { OnOk result (out.new ≡ out.old ++ 32 ∷ dotted addr) }
-{
-    out.put(b" ")?;
-    put_quad(out, addr)?;
-    Ok(())
-}
+use fws_num::{Memory, Text, put_dec};
+use fws_print::{put_address, put_number, put_protocol, put_word};
 
 /// Appends an address, and the port behind a colon if there is one, behind a blank.
 fn put_end(out: &mut Text, e: End) -> Result<(), Memory>

@@ -1,16 +1,17 @@
 //! Rules as they are printed.
 
-ghost use Rattle.std.specs.Prelude.{◌≡◌, [], ◌∷◌, ◌++◌, codes, OnOk};
+ghost use Rattle.std.specs.Prelude.{◌≡◌, [], ◌∷◌, ◌++◌, OnOk};
 ghost use Rattle.std.specs.Fmt.{decimal};
 ghost use Rattle.fws_num.specs.Written.{ended, spaced};
 ghost use Rattle.fws_ipfw.specs.Soundness.{is_check};
-ghost use Rattle.fws_ipfw_print.specs.PrintedText.{act_words, behind_blanks, body_words, condition_words, keep_words, rule_words, tag_words};
+ghost use Rattle.fws_print.specs.Words.{behind_blanks};
+ghost use Rattle.fws_ipfw_print.specs.PrintedText.{act_words, body_words, condition_words, keep_words, rule_words, tag_words};
 
 use crate::tests::put_condition;
-use crate::values::{put_number, put_word};
 use fws_ipfw::{IpfwAct, IpfwRule, IpfwTag};
 use fws_net::Site;
 use fws_num::{Memory, Text};
+use fws_print::{put_number, put_word};
 use std::alloc::Global;
 
 /// Whether it is a check-state rule.

@@ -1,74 +1,20 @@
 //! Sets and conditions that rules spell.
 
-ghost use Rattle.std.specs.Prelude.{◌≡◌, ◌≤◌, ◌+◌, ◌&&◌, length, not, nat_eq, nat_le};
+ghost use Rattle.std.specs.Prelude.{◌≡◌, ◌+◌, ◌&&◌, length, not, nat_le};
 ghost use Rattle.std.specs.List.{list_all};
-ghost use Rattle.fws_ipfw_print.specs.Printable.{are_flags, are_ranges, ascend, ascend_from, is_every_interface, is_interface, is_number, is_printed_cond, is_printed_literal, is_printed_negation, is_printed_test, place_of};
+ghost use Rattle.fws_print.specs.Sets.{are_flags, are_ranges, is_interface, is_number};
+ghost use Rattle.fws_ipfw_print.specs.Printable.{ascend, is_every_interface, is_printed_cond, is_printed_literal, is_printed_negation, is_printed_test, place_of};
 
 use crate::tests::place_of;
-use fws_iv::{Iv, Ivs};
+use fws_iv::Ivs;
 use fws_net::{Lit, Site, Test};
-
-/// Whether it is one number, up to a greatest one.
-fn is_number(most: u128, set: &Ivs) -> bool
-    ensures { result ≡ is_number most set.now }
-{
-    match set.parts() {
-        [iv] => iv.lo == iv.hi && u128::from(iv.hi) <= most,
-        _ => false,
-    }
-}
-
-/// Whether the range begins at a number or later, and ends by a greatest one.
-fn follows(most: u32, from: u64, iv: Iv) -> bool
-    ensures { result ≡ (nat_le from iv.lo && nat_le iv.lo iv.hi && nat_le iv.hi most) }
-{
-    from <= u64::from(iv.lo) && iv.lo <= iv.hi && iv.hi <= most
-}
-
-/// Whether the ranges ascend up to a greatest number and don't touch.
-fn ranges_ascend(most: u32, parts: &[Iv]) -> bool
-    ensures { result ≡ ascend_from most 0 parts.now }
-{
-    let mut from = 0u64;
-    for iv in parts {
-        if !follows(most, from, *iv) {
-            return false;
-        }
-        from = u64::from(iv.hi) + 2;
-    }
-    true
-}
-
-/// Whether there is at least one range, of numbers up to a greatest one.
-fn are_ranges(most: u32, set: &Ivs) -> bool
-    ensures { result ≡ are_ranges most set.now }
-{
-    let parts = set.parts();
-    match parts {
-        [] => false,
-        [_, ..] => ranges_ascend(most, parts),
-    }
-}
+use fws_print::{are_flags, are_ranges, is_interface, is_number};
 
 /// Whether there are at most so many ranges.
 fn are_few(most: usize, set: &Ivs) -> bool
     ensures { result ≡ nat_le (length set.now) most }
 {
     set.parts().len() <= most
-}
-
-/// Whether no range begins at 0.
-fn begin_behind_none(set: &Ivs) -> bool
-    ensures { result ≡ list_all (λ iv. not (nat_eq iv.lo 0)) set.now }
-{
-    set.parts().iter().all(|iv| iv.lo != 0)
-}
-
-/// Whether it is the entry of loopback or of an interface of the site.
-fn is_interface(site: &Site, set: &Ivs) -> bool
-    ensures { result ≡ is_interface site.now set.now }
-{
-    is_number(site.faces.len() as u128 + 1, set) && begin_behind_none(set)
 }
 
 /// Whether it is every interface.
@@ -79,13 +25,6 @@ fn is_every_interface(site: &Site, set: &Ivs) -> bool
         [iv] => iv.lo == 1 && u128::from(iv.hi) == site.faces.len() as u128 + 1,
         _ => false,
     }
-}
-
-/// Whether flags are tested, and only such as are looked at are wanted.
-fn are_flags(mask: u8, want: u8) -> bool
-    ensures { result ≡ are_flags mask want }
-{
-    0 < mask && mask <= 63 && mask & want == want
 }
 
 /// Whether the test is printed: of one protocol, of addresses, of ports in at most thirty ranges, of flags,

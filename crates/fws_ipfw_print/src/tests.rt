@@ -7,13 +7,16 @@ ghost use Rattle.fws_num.specs.Written.{has_slashes};
 ghost use Rattle.fws_net.specs.declared.packet.Lang.TheVariants.{Ipfw};
 ghost use Rattle.fws_rule.specs.Names.{interface_name};
 ghost use Rattle.fws_ipfw_print.specs.Printable.{place_of};
-ghost use Rattle.fws_ipfw_print.specs.PrintedText.{behind_blanks, behind_place, condition_words, destination_tested, destination_word, first_number, literal_words, name_word, negated_words, protocol_tested, protocol_word, source_tested, source_word, test_words};
+ghost use Rattle.fws_print.specs.Sets.{first_number};
+ghost use Rattle.fws_print.specs.Words.{behind_blanks};
+ghost use Rattle.fws_ipfw_print.specs.PrintedText.{behind_place, condition_words, destination_tested, destination_word, literal_words, name_word, negated_words, protocol_tested, protocol_word, source_tested, source_word, test_words};
 
 use crate::addresses::put_addresses;
-use crate::values::{put_flag_test, put_number, put_ports, put_protocol, put_types, put_word};
+use crate::values::{put_flag_test, put_ports, put_types};
 use fws_iv::Ivs;
 use fws_net::{Lang, Lit, Site, Test};
 use fws_num::{Memory, Text};
+use fws_print::{first_number, put_number, put_protocol, put_word};
 use fws_rule::interface_name;
 use std::alloc::Global;
 
@@ -33,16 +36,6 @@ pub fn place_of(test: &Test) -> u8
         Test::Icmp(_) => 8,
         Test::Tag(_) => 9,
         Test::Est | Test::AnyFlag(_) | Test::Xmit(_) | Test::Via(_) | Test::Never => 10,
-    }
-}
-
-/// The least number of the first range of a set.
-fn first_number(set: &Ivs) -> u32
-    ensures { result ≡ first_number set.now }
-{
-    match set.parts() {
-        [iv, ..] => iv.lo,
-        [] => 0,
     }
 }
 
@@ -79,7 +72,10 @@ fn put_interface(out: &mut Text, site: &Site, set: &Ivs) -> Result<(), Memory>
     ensures { OnOk result (out.new ≡ out.old ++ behind_blanks (codes "recv" ∷ name_word (interface_name Ipfw site.now (first_number set.now)) ∷ [])) }
 {
     put_word(out, b"recv")?;
-    put_name(out, interface_name(site, Lang::Ipfw, first_number(set)))?;
+    put_name(
+        out,
+        interface_name(site, Lang::Ipfw, first_number(set.parts())),
+    )?;
     Ok(())
 }
 
@@ -180,7 +176,7 @@ fn put_protocol_tested(out: &mut Text, test: &Test) -> Result<(), Memory>
     ensures { OnOk result (out.new ≡ out.old ++ 32 ∷ protocol_tested test.now) }
 {
     if let Test::Proto(set) = test {
-        put_protocol(out, first_number(set))?;
+        put_protocol(out, first_number(set.parts()))?;
     } else {
         out.put(b" ip")?;
     }

@@ -1,69 +1,15 @@
-//! Numbers, ports, protocols and flags as they are printed.
+//! Ports, ICMP types and flags as they are printed.
 
-ghost use Rattle.std.specs.Prelude.{◌≡◌, ◌≤◌, ◌∷◌, ◌++◌, [], codes, OnOk, IfOk};
+ghost use Rattle.std.specs.Prelude.{◌≡◌, ◌≤◌, ◌∷◌, ◌++◌, [], OnOk, IfOk};
 ghost use Rattle.std.specs.Fmt.{decimal};
 ghost use Rattle.std.specs.List.{flat_map, join_by};
-ghost use Rattle.fws_ipfw_print.specs.PrintedText.{behind_blanks, flag_text, flag_words, flags_word, numbers_of, numbers_word, protocol_name, range_word, ranges_word};
+ghost use Rattle.fws_print.specs.Words.{behind_blanks};
+ghost use Rattle.fws_ipfw_print.specs.PrintedText.{flag_text, flag_words, flags_word, numbers_of, numbers_word, ranges_word};
 
 use fws_iv::Iv;
 use fws_num::{Memory, Text, put_dec};
+use fws_print::{put_ranges, put_word};
 use std::alloc::Global;
-
-/// Appends a blank and a word.
-pub fn put_word(out: &mut Text, word: &[u8]) -> Result<(), Memory>
-    ensures { OnOk result (out.new ≡ out.old ++ 32 ∷ word.now) }
-{
-    out.put(b" ")?;
-    out.put(word)?;
-    Ok(())
-}
-
-/// Appends a blank and a number.
-pub fn put_number(out: &mut Text, n: u32) -> Result<(), Memory>
-    ensures { OnOk result (out.new ≡ out.old ++ 32 ∷ decimal n) }
-{
-    out.put(b" ")?;
-    put_dec(out, u64::from(n))?;
-    Ok(())
-}
-
-/// Appends a protocol, behind a blank: by its name where it has ports or ICMP types, and else by its number.
-pub fn put_protocol(out: &mut Text, n: u32) -> Result<(), Memory>
-    ensures { OnOk result (out.new ≡ out.old ++ 32 ∷ protocol_name n) }
-{
-    match n {
-        1 => put_word(out, b"icmp"),
-        6 => put_word(out, b"tcp"),
-        17 => put_word(out, b"udp"),
-        _ => put_number(out, n),
-    }
-}
-
-/// Appends a port, or two with a dash between.
-fn put_range(out: &mut Text, iv: Iv) -> Result<(), Memory>
-    ensures { OnOk result (out.new ≡ out.old ++ range_word iv) }
-{
-    put_dec(out, u64::from(iv.lo))?;
-    if iv.lo != iv.hi {
-        out.put(b"-")?;
-        put_dec(out, u64::from(iv.hi))?;
-    }
-    Ok(())
-}
-
-/// Appends the ranges joined by commas.
-fn put_ranges(out: &mut Text, parts: &[Iv]) -> Result<(), Memory>
-    ensures { OnOk result (out.new ≡ out.old ++ ranges_word parts.now) }
-{
-    if let [first, rest @ ..] = parts {
-        put_range(out, *first)?;
-        for iv in rest {
-            out.put(b",")?;
-            put_range(out, *iv)?;
-        }
-    }
-    Ok(())
-}
 
 /// Appends ports behind an option.
 pub fn put_ports(out: &mut Text, option: &[u8], parts: &[Iv]) -> Result<(), Memory>
@@ -71,7 +17,7 @@ pub fn put_ports(out: &mut Text, option: &[u8], parts: &[Iv]) -> Result<(), Memo
 {
     put_word(out, option)?;
     out.put(b" ")?;
-    put_ranges(out, parts)?;
+    put_ranges(out, b'-', parts)?;
     Ok(())
 }
 

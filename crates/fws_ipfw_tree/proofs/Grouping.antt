@@ -9,7 +9,7 @@ use Rattle.std.specs.List.{list_all, list_any}
 use Rattle.std.specs.Prelude.{nat_le, min}
 use Rattle.fws_iv.specs.declared.iv.Iv.{Iv}
 use Rattle.fws_iv.specs.Ivs.{has, in_part, IsRegular, IsRegularFrom}
-use Rattle.fws_ipfw_print.specs.Printable.{are_ranges, ascend_from}
+use Rattle.fws_print.specs.Sets.{are_ranges, ascend_from}
 use Rattle.fws_ipfw_tree.specs.Groups.{are_ports, AddsGroup}
 
 regular_from : (a b : ℕ) (s : List Iv) → b ≤ a → IsRegularFrom a s → IsRegularFrom b s

@@ -15,7 +15,7 @@ use Rattle.fws_net.specs.declared.condition.Lit.{Lit}
 use Rattle.fws_net.specs.declared.site.Site.{Site}
 use Rattle.fws_net.specs.declared.view.View.{View}
 use Rattle.fws_net.specs.Conditions.{lit_holds, test_holds}
-use Rattle.fws_ipfw_print.specs.Printable.{are_ranges}
+use Rattle.fws_print.specs.Sets.{are_ranges}
 use Rattle.fws_sight.specs.declared.field.PacketField.{PacketField}
 use Rattle.fws_sight.specs.declared.field.PacketField.TheVariants.{Proto, Dst, Dport, Src, Sport, Flags, Icmp}
 use Rattle.fws_sight.specs.Fields.{suits}

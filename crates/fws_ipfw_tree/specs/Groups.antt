@@ -3,7 +3,7 @@ use Rattle.std.specs.Prelude.{◌≡◌, ℕ, ◌-◌, ◌^◌, ◌≤◌, Bool,
 use Rattle.std.specs.List.{list_all, list_any}
 use Rattle.fws_iv.specs.declared.iv.Iv.{Iv}
 use Rattle.fws_iv.specs.Ivs.{has}
-use Rattle.fws_ipfw_print.specs.Printable.{are_ranges}
+use Rattle.fws_print.specs.Sets.{are_ranges}
 
 -- addresses of one literal
 abbrev pub are_addresses : List Iv → Bool

@@ -14,7 +14,8 @@ use Rattle.fws_net.specs.declared.packet.Lang.TheVariants.{Iptables}
 use Rattle.fws_ipt.specs.declared.config.IptTable.{IptTable}
 use Rattle.fws_ipt.specs.declared.config.IptChain.{IptChain}
 use Rattle.fws_ipt.specs.Spelled.{asks_ports, asks_protocol}
-use Rattle.fws_ipt_print.specs.Printable.{are_different, is_class, is_number, is_port_test, is_printed_literal, is_printed_test, is_range, option_of}
+use Rattle.fws_print.specs.Sets.{is_number, is_range}
+use Rattle.fws_ipt_print.specs.Printable.{are_different, is_class, is_port_test, is_printed_literal, is_printed_test, option_of}
 use Rattle.fws_ipt_print.specs.PrintedText.{literal_words, test_words}
 use Rattle.fws_ipt_print.proofs.Basics.{never}
 use Rattle.fws_ipt_print.proofs.Keys.{all_told, fresh_more, is_flag_test, is_fresh, is_icmp_test, is_known, is_optional, key_known, key_of, told}

@@ -7,7 +7,8 @@ use Rattle.fws_net.specs.SiteSpelling.{lines_text}
 use Rattle.fws_ipt.specs.declared.config.IptTable.{IptTable}
 use Rattle.fws_ipt.specs.declared.config.IptChain.{IptChain}
 use Rattle.fws_ipt.specs.Walk.{is_table}
-use Rattle.fws_ipt_print.specs.PrintedText.{behind_blanks, rule_line, rule_lines}
+use Rattle.fws_print.specs.Words.{behind_blanks}
+use Rattle.fws_ipt_print.specs.PrintedText.{rule_line, rule_lines}
 
 pub lines_text-append : (front behind : List (List (List ℕ))) → lines_text (front ++ behind) ≡ lines_text front ++ lines_text behind
 lines_text-append [] behind = refl

@@ -28,7 +28,8 @@ use Rattle.fws_ipt.specs.RuleText.{expecting, plain_step, test_begun, value_step
 use Rattle.fws_ipt.specs.Spelled.{asks_protocol}
 use Rattle.fws_ipt.specs.Values.{flags_of, icmp_meaning, interface_meaning, is_state, is_translation_state, is_type_and_code, tested_mark, mark_meaning, meaning_of, numbered_type, protocol_value, range_meaning, set_meaning}
 use Rattle.fws_ipt_print.specs.Printable.{are_ports, ascend_from, all_places}
-use Rattle.fws_ipt_print.specs.PrintedText.{address_words, class_word, flags_word, free_bits, has_free, mark_word, port_module, port_words, protocol_word, range_word, ranges_word}
+use Rattle.fws_print.specs.Words.{protocol_name}
+use Rattle.fws_ipt_print.specs.PrintedText.{address_words, class_word, flags_word, free_bits, has_free, mark_word, port_module, port_words, range_word, ranges_word}
 use Rattle.fws_ipt_print.proofs.Basics.{if_false, never, texts_differ, then_ok}
 use Rattle.fws_ipt_print.proofs.Keys.{address_key, key_of, told}
 use Rattle.fws_ipt_print.proofs.Laws.{Laws}
@@ -178,13 +179,13 @@ module _ (laws : Laws) (site : Site) (table : IptTable) (chains : List IptChain)
   -- Protocols
 
   pub proto_taken : (iv : Iv) (t : Told) (rest : List (List ℕ)) → 1 ≤ iv.lo → iv.lo ≤ 255 → iv.lo ≡ iv.hi → list_any (bytes_eq (codes "-p")) t.given ≡ false
-      → read (shown t) (codes "-p" ∷ protocol_word iv.lo ∷ rest) ≡ read (shown (told (positive (Proto (iv ∷ []))) t)) rest
+      → read (shown t) (codes "-p" ∷ protocol_name iv.lo ∷ rest) ≡ read (shown (told (positive (Proto (iv ∷ []))) t)) rest
   proto_taken iv t rest low high same fresh =
       let d : RuleDraft = expecting (expect.Value options.Protocol false) (shown (asked (codes "-p") options.Protocol t)) in
       let base : Told = record (asked (codes "-p") options.Protocol t) { protocol = Some iv.lo } in
-      option_then site table chains (codes "-p") options.Protocol t (protocol_word iv.lo ∷ rest) named_p (λ d. refl) fresh
-      ∙ word_then site table chains (protocol_word iv.lo) rest d (shown (told (positive (Proto (iv ∷ []))) t))
-      (then_ok (protocol_value (protocol_word iv.lo)) _ (Some iv.lo) _ (protocol_read laws iv.lo low high)
+      option_then site table chains (codes "-p") options.Protocol t (protocol_name iv.lo ∷ rest) named_p (λ d. refl) fresh
+      ∙ word_then site table chains (protocol_name iv.lo) rest d (shown (told (positive (Proto (iv ∷ []))) t))
+      (then_ok (protocol_value (protocol_name iv.lo)) _ (Some iv.lo) _ (protocol_read laws iv.lo low high)
       (ap (λ (hi : ℕ). let x : Iv = record { lo = iv.lo; hi = hi } in Ok (shown (with_lit (positive (Proto (x ∷ []))) base))) same))
 
   -- Addresses

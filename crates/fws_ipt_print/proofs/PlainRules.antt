@@ -25,8 +25,10 @@ use Rattle.fws_ipt.specs.declared.hook.Hook.{Hook}
 use Rattle.fws_ipt.specs.Hooks.{hook_named, hooks}
 use Rattle.fws_ipt.specs.Soundness.{is_named}
 use Rattle.fws_ipt.specs.Spelled.{asks_ports, asks_protocol}
-use Rattle.fws_ipt_print.specs.Printable.{are_ports, is_chain_name, is_class, is_number, is_printed_act, is_printed_chain, is_printed_literal, is_printed_policy, is_printed_rule, is_printed_test}
-use Rattle.fws_ipt_print.specs.PrintedText.{act_words, chain_name, end_word, first_part, flags_word, free_bits, literal_words, mark_word, port_module, port_words, protocol_word, range_word, ranges_word, test_words}
+use Rattle.fws_print.specs.Sets.{is_number}
+use Rattle.fws_ipt_print.specs.Printable.{are_ports, is_chain_name, is_class, is_printed_act, is_printed_chain, is_printed_literal, is_printed_policy, is_printed_rule, is_printed_test}
+use Rattle.fws_print.specs.Words.{protocol_name}
+use Rattle.fws_ipt_print.specs.PrintedText.{act_words, chain_name, end_word, first_part, flags_word, free_bits, literal_words, mark_word, port_module, port_words, range_word, ranges_word, test_words}
 use Rattle.fws_ipt_print.proofs.Basics.{never}
 use Rattle.fws_ipt_print.proofs.Chains.{all_at, builtin_known, known_at, policy_builtin}
 use Rattle.fws_ipt_print.proofs.Conditions.{some_number}
@@ -103,7 +105,7 @@ module _ (laws : Laws) (site : Site) (orderly : IsOrderly site) where
   entry_plain shows (iv ∷ next ∷ set) h = never (and_parts shows false (and_parts (shows && false) _ h).0).1
 
   test_plain : (shows : Bool) (lits : List Lit) (negated : Bool) (test : Test) → is_printed_test site shows lits test ≡ true → list_all is_plain (test_words site lits negated test) ≡ true
-  test_plain shows lits negated (Proto set) h = more (protocol_word (first_part set).lo) [] (protocol_plain laws (first_part set).lo) refl
+  test_plain shows lits negated (Proto set) h = more (protocol_name (first_part set).lo) [] (protocol_plain laws (first_part set).lo) refl
   test_plain shows lits negated (Src set) h = addresses_plain (codes "-s") (codes "--src-range") (first_part set) (free_bits (first_part set)) refl refl
   test_plain shows lits negated (Dst set) h = addresses_plain (codes "-d") (codes "--dst-range") (first_part set) (free_bits (first_part set)) refl refl
   test_plain shows lits negated (Sport set) h = ports_plain lits (codes "--sport") (codes "--sports") set refl refl (and_parts (asks_ports lits) _ h).1

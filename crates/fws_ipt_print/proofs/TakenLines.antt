@@ -15,7 +15,7 @@ use Rattle.fws_net.specs.Reading.{and_then, lines_read, located}
 use Rattle.fws_net.specs.SiteSpelling.{written}
 use Rattle.fws_ipt.specs.declared.draft.IptDraft.{IptDraft}
 use Rattle.fws_ipt.specs.FileText.{line_step, words_step}
-use Rattle.fws_ipt_print.specs.PrintedText.{behind_blanks}
+use Rattle.fws_print.specs.Words.{behind_blanks}
 use Rattle.fws_ipt_print.proofs.Basics.{all_weaker, never}
 use Rattle.fws_ipt_print.proofs.Laws.{Laws}
 use Rattle.fws_ipt_print.proofs.LinesPut.{spaced_from}

@@ -15,7 +15,8 @@ use Rattle.fws_net.specs.Faces.{prefix_parts}
 use Rattle.fws_net.specs.Ports.{address_range, addresses_between, in_order}
 use Rattle.fws_net.specs.SiteSpelling.{net_word}
 use Rattle.fws_ipt.specs.Values.{end_of_range, is_numbered, is_place, is_ports, flag_of, flag_set, flags_of, is_masked, network_of, open_range, place_of, placed_alone, placed_ports, protocol_value, with_length}
-use Rattle.fws_ipt_print.specs.PrintedText.{flags_word, free_bits, free_from, has_free, protocol_word, range_word}
+use Rattle.fws_print.specs.Words.{protocol_name}
+use Rattle.fws_ipt_print.specs.PrintedText.{flags_word, free_bits, free_from, has_free, range_word}
 use Rattle.fws_ipt_print.proofs.Basics.{if_true, if_false, text_some, texts_differ}
 use Rattle.fws_ipt_print.proofs.Laws.{Laws}
 use Rattle.fws_ipt_print.proofs.Marks.{split_none}
@@ -189,7 +190,7 @@ module _ (laws : Laws) where
 
   -- Protocols
 
-  pub protocol_read : (n : ℕ) → 1 ≤ n → n ≤ 255 → protocol_value (protocol_word n) ≡ Ok (Some n)
+  pub protocol_read : (n : ℕ) → 1 ≤ n → n ≤ 255 → protocol_value (protocol_name n) ≡ Ok (Some n)
   unfolding protocol_named
   protocol_read n low high =
       cond_both (nat_eq n 1) (codes "icmp") (cond (nat_eq n 6) (codes "tcp") (cond (nat_eq n 17) (codes "udp") (decimal n))) (λ text. protocol_value text ≡ Ok (Some n))
@@ -211,7 +212,7 @@ module _ (laws : Laws) where
           ∙ ap (λ o. option_map_or (λ n. cond (nat_eq n 0) (Ok None) (Ok (Some n))) (option_map_or Some o (protocol_named (decimal n))) (Err Syntax)) (laws.decimals n 255 short high)
           ∙ if_false (nat_eq n 0) (Ok None) (Ok (Some n)) (ne_eqb n 0 some)
 
-  pub protocol_plain : (n : ℕ) → is_plain (protocol_word n) ≡ true
+  pub protocol_plain : (n : ℕ) → is_plain (protocol_name n) ≡ true
   protocol_plain n =
       cond_both (nat_eq n 1) (codes "icmp") (cond (nat_eq n 6) (codes "tcp") (cond (nat_eq n 17) (codes "udp") (decimal n))) (λ text. is_plain text ≡ true)
       (λ e. refl)

@@ -1,11 +1,11 @@
 -- The labels of rules, in the order in which rules are counted: through the chains in their order.
 use Rattle.std.specs.Prelude.{◌≡◌, ℕ, List, ◌∷◌, ◌++◌, length, map, sum, codes}
-use Rattle.std.specs.Fmt.{decimal}
-use Rattle.std.specs.List.{flat_map, range_with_len}
+use Rattle.std.specs.List.{flat_map}
 use Rattle.fws_ipt.specs.declared.config.IptTable.{IptTable}
 use Rattle.fws_ipt.specs.declared.config.IptTable.TheVariants.{Filter, Nat, Mangle}
 use Rattle.fws_ipt.specs.declared.config.IptChain.{IptChain}
 use Rattle.fws_ipt.specs.declared.config.IptConfig.{IptConfig}
+use Rattle.fws_print.specs.Labels.{place_labels}
 
 abbrev pub table_name : IptTable → List ℕ
 table_name Filter = codes "filter"
@@ -15,14 +15,6 @@ table_name Mangle = codes "mangle"
 -- what stands ahead of a rule's place: its table and its chain
 abbrev pub chain_front : IptChain → List ℕ
 chain_front chain = table_name chain.table ++ 32 ∷ chain.name
-
--- a front and a place
-abbrev pub place_label : List ℕ → ℕ → List ℕ
-place_label front place = front ++ 32 ∷ decimal place
-
--- a front and each of so many places, counted from 1
-abbrev pub place_labels : List ℕ → ℕ → List (List ℕ)
-place_labels front count = map (place_label front) (range_with_len 1 count)
 
 -- the labels of a chain's rules
 abbrev pub chain_labels : IptChain → List (List ℕ)

@@ -21,6 +21,7 @@ use Rattle.fws_ipt.specs.Hooks.{hook_named}
 use Rattle.fws_ipt.specs.Soundness.{are_apart, is_named, is_user_chain}
 use Rattle.fws_ipt.specs.Spelled.{asks_protocol, asks_ports, is_network, names_block}
 use Rattle.fws_ipt.specs.Walk.{is_table, shows_recv, writes_dst_at, writes_src_at}
+use Rattle.fws_print.specs.Sets.{are_ranges, ascend_from as ascend_up_to, is_number, is_range}
 
 -- Names
 
@@ -38,16 +39,6 @@ is_chain_name name = begins_with_letter name && list_all is_name_byte name && na
 
 -- Tests
 
--- one number, up to a greatest one
-abbrev pub is_number : ℕ → List Iv → Bool
-is_number most (iv ∷ []) = nat_eq iv.lo iv.hi && nat_le iv.hi most
-is_number most _ = false
-
--- one range of numbers, up to a greatest one
-abbrev pub is_range : ℕ → List Iv → Bool
-is_range most (iv ∷ []) = nat_le iv.lo iv.hi && nat_le iv.hi most
-is_range most _ = false
-
 -- the places that a range takes in a list of ports: one for a single port, and else two
 abbrev pub places_of : Iv → ℕ
 places_of iv = if nat_eq iv.lo iv.hi then 1 else 2
@@ -56,15 +47,13 @@ abbrev pub all_places : List Iv → ℕ
 all_places [] = 0
 all_places (iv ∷ set) = places_of iv + all_places set
 
--- ranges that ascend from a number on and don't touch
+-- ranges of ports that ascend from a number on and don't touch
 abbrev pub ascend_from : ℕ → List Iv → Bool
-ascend_from from [] = true
-ascend_from from (iv ∷ set) = nat_le from iv.lo && nat_le iv.lo iv.hi && nat_le iv.hi 65535 && ascend_from (iv.hi + 2) set
+ascend_from from set = ascend_up_to 65535 from set
 
 -- ports that one list holds: at least one range, and at most fifteen places
 abbrev pub are_ports : List Iv → Bool
-are_ports [] = false
-are_ports (iv ∷ set) = ascend_from 0 (iv ∷ set) && nat_le (all_places (iv ∷ set)) 15
+are_ports set = are_ranges 65535 set && nat_le (all_places set) 15
 
 -- the number of an option, which stands once in a rule
 abbrev pub option_of : Test → ℕ

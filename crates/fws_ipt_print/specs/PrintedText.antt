@@ -1,7 +1,7 @@
 -- The text of a configuration, as iptables-save(8) writes it.
 use Rattle.std.specs.Prelude.{ℕ, zero, suc, ◌+◌, ◌-◌, ◌/◌, ◌%◌, ◌^◌, Bool, ◌&&◌, nat_eq, nat_lt, slice_get, Option, Some, None, List, [], ◌∷◌, ◌++◌, map, codes, if◌then◌else◌}
 use Rattle.std.specs.Fmt.{decimal}
-use Rattle.std.specs.List.{flat_map, join_by, list_any}
+use Rattle.std.specs.List.{flat_map, list_any}
 use Rattle.std.specs.Option.{option_map_or}
 use Rattle.fws_num.specs.Numbers.{dotted}
 use Rattle.fws_num.specs.Written.{ended}
@@ -23,10 +23,7 @@ use Rattle.fws_ipt.specs.declared.config.IptChain.{IptChain}
 use Rattle.fws_ipt.specs.declared.config.IptConfig.{IptConfig}
 use Rattle.fws_ipt.specs.Spelled.{asks_protocol}
 use Rattle.fws_ipt.specs.Walk.{is_table}
-
--- the words, each behind a blank
-abbrev pub behind_blanks : List (List ℕ) → List ℕ
-behind_blanks words = flat_map (λ word. 32 ∷ word) words
+use Rattle.fws_print.specs.Words.{protocol_name, range_text, ranges_text}
 
 -- Numbers
 
@@ -74,11 +71,11 @@ address_words prefix range iv = option_map_or
 
 -- a port, or two with a colon between
 abbrev pub range_word : Iv → List ℕ
-range_word iv = if nat_eq iv.lo iv.hi then decimal iv.lo else decimal iv.lo ++ 58 ∷ decimal iv.hi
+range_word iv = range_text 58 iv
 
 -- the ranges joined by commas
 abbrev pub ranges_word : List Iv → List ℕ
-ranges_word set = join_by range_word (44 ∷ []) set
+ranges_word set = ranges_text 58 set
 
 -- the module that tests one range of ports
 abbrev pub port_module : List Lit → List ℕ
@@ -90,10 +87,6 @@ port_words kind one many (iv ∷ []) = codes "-m" ∷ kind ∷ one ∷ range_wor
 port_words kind one many set = codes "-m" ∷ codes "multiport" ∷ many ∷ ranges_word set ∷ []
 
 -- Protocols and flags
-
-abbrev pub protocol_word : ℕ → List ℕ
-protocol_word n =
-    if nat_eq n 1 then codes "icmp" else if nat_eq n 6 then codes "tcp" else if nat_eq n 17 then codes "udp" else decimal n
 
 -- flags and their bits
 abbrev pub flag_names : List (List ℕ × ℕ)
@@ -121,7 +114,7 @@ class_word is_new = if is_new then codes "NEW" else codes "RELATED,ESTABLISHED"
 
 -- the words of a test in a condition; the class alone may be negated
 abbrev pub test_words : Site → List Lit → Bool → Test → List (List ℕ)
-test_words site cond negated (Proto set) = codes "-p" ∷ protocol_word (first_part set).lo ∷ []
+test_words site cond negated (Proto set) = codes "-p" ∷ protocol_name (first_part set).lo ∷ []
 test_words site cond negated (Src set) = address_words (codes "-s") (codes "--src-range") (first_part set)
 test_words site cond negated (Dst set) = address_words (codes "-d") (codes "--dst-range") (first_part set)
 test_words site cond negated (Sport set) = port_words (port_module cond) (codes "--sport") (codes "--sports") set

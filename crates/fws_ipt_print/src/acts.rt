@@ -1,12 +1,14 @@
 //! Acts of rules as they are printed.
 
 ghost use Rattle.std.specs.Prelude.{◌≡◌, [], ◌∷◌, ◌++◌, codes, OnOk};
-ghost use Rattle.fws_ipt_print.specs.PrintedText.{act_words, behind_blanks, chain_name, end_word, mark_word};
+ghost use Rattle.fws_print.specs.Words.{behind_blanks};
+ghost use Rattle.fws_ipt_print.specs.PrintedText.{act_words, chain_name, end_word, mark_word};
 
-use crate::numbers::{put_mark, put_net, put_word};
+use crate::numbers::put_mark;
 use fws_ipt::{IptChain, IptGo};
 use fws_net::End;
 use fws_num::{Memory, Text, put_dec, put_quad};
+use fws_print::{put_network, put_word};
 
 /// The name of the chain with this number.
 fn chain_name(chains: &[IptChain], c: u32) -> &[u8]
@@ -75,7 +77,7 @@ pub fn put_act(out: &mut Text, chains: &[IptChain], go: IptGo) -> Result<(), Mem
         IptGo::Dest(e) => put_writing(out, b"DNAT", b"--to-destination", e),
         IptGo::Netmap(net) => {
             out.put(b" -j NETMAP --to")?;
-            put_net(out, net.addr, net.len)
+            put_network(out, net.addr, net.len)
         }
         IptGo::Return | IptGo::Next | IptGo::Jump(_) | IptGo::Masquerade | IptGo::Redirect(_) =>
             out.put(b""),

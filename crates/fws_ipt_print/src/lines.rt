@@ -1,17 +1,17 @@
 //! Lines of chains, rules and tables as they are printed.
 
-ghost use Rattle.std.specs.Prelude.{◌≡◌, [], ◌∷◌, ◌++◌, map, codes, OnOk};
+ghost use Rattle.std.specs.Prelude.{◌≡◌, [], ◌∷◌, ◌++◌, map, OnOk};
 ghost use Rattle.std.specs.List.{list_any};
 ghost use Rattle.fws_net.specs.SiteSpelling.{lines_text};
 ghost use Rattle.fws_ipt.specs.Walk.{is_table};
 ghost use Rattle.fws_ipt_print.specs.PrintedText.{chain_line, chain_lines, policy_word, rule_line, rule_lines, table_lines, table_word};
 
 use crate::acts::put_act;
-use crate::numbers::put_word;
 use crate::tests::put_literals;
 use fws_ipt::{IptChain, IptRule, IptTable};
 use fws_net::Site;
 use fws_num::{Memory, Text};
+use fws_print::put_word;
 
 /// Whether two tables are the same.
 pub fn is_table(a: IptTable, b: IptTable) -> bool

@@ -1,22 +1,13 @@
-//! Words, numbers and addresses as they are printed.
+//! Options, marks and addresses as they are printed.
 
-ghost use Rattle.std.specs.Prelude.{◌≡◌, ◌<◌, ◌≤◌, ◌+◌, ◌-◌, ◌%◌, ◌^◌, ◌∷◌, ◌++◌, [], codes, OnOk};
-ghost use Rattle.std.specs.Fmt.{decimal};
+ghost use Rattle.std.specs.Prelude.{◌≡◌, ◌<◌, ◌≤◌, ◌+◌, ◌-◌, ◌%◌, ◌∷◌, ◌++◌, [], codes, OnOk};
 ghost use Rattle.fws_num.specs.Numbers.{dotted};
-ghost use Rattle.fws_net.specs.SiteSpelling.{net_word};
-ghost use Rattle.fws_ipt_print.specs.PrintedText.{address_words, behind_blanks, first_part, free_bits, has_free, hex_byte, hex_text, mark_word};
+ghost use Rattle.fws_print.specs.Words.{behind_blanks};
+ghost use Rattle.fws_ipt_print.specs.PrintedText.{address_words, first_part, free_bits, has_free, hex_byte, hex_text, mark_word};
 
 use fws_iv::{Iv, Ivs};
-use fws_num::{Memory, Text, put_dec, put_quad};
-
-/// Appends a blank and a word.
-pub fn put_word(out: &mut Text, word: &[u8]) -> Result<(), Memory>
-    ensures { OnOk result (out.new ≡ out.old ++ 32 ∷ word.now) }
-{
-    out.put(b" ")?;
-    out.put(word)?;
-    Ok(())
-}
+use fws_num::{Memory, Text, put_quad};
+use fws_print::{put_network, put_word};
 
 /// Appends a module and one of its options, each behind a blank.
 pub fn put_option(out: &mut Text, kind: &[u8], option: &[u8]) -> Result<(), Memory>
@@ -92,17 +83,6 @@ fn free_bits(iv: Iv) -> Option<u8>
     None
 }
 
-/// Appends an address and a length, behind a blank.
-pub fn put_net(out: &mut Text, addr: u32, len: u8) -> Result<(), Memory>
-    ensures { OnOk result (out.new ≡ out.old ++ 32 ∷ net_word addr len) }
-{
-    out.put(b" ")?;
-    put_quad(out, addr)?;
-    out.put(b"/")?;
-    put_dec(out, u64::from(len))?;
-    Ok(())
-}
-
 /// Appends two addresses with a dash between, behind a blank.
 fn put_ends(out: &mut Text, iv: Iv) -> Result<(), Memory>
     ensures { OnOk result (out.new ≡ out.old ++ 32 ∷ (dotted iv.lo ++ 45 ∷ dotted iv.hi)) }
@@ -122,7 +102,7 @@ pub fn put_addresses(out: &mut Text, prefix: &[u8], range: &[u8], iv: Iv) -> Res
     match free_bits(iv) {
         Some(bits) => {
             put_word(out, prefix)?;
-            put_net(out, iv.lo, 32u8.saturating_sub(bits))?;
+            put_network(out, iv.lo, 32u8.saturating_sub(bits))?;
         }
         None => {
             put_word(out, b"-m")?;

@@ -1,13 +1,15 @@
-//! Ports, protocols and flags as they are printed.
+//! Ports and flags as they are printed, and the protocol that a condition asks for.
 
 ghost use Rattle.std.specs.Prelude.{◌≡◌, ◌≤◌, [], ◌∷◌, ◌++◌, codes, OnOk};
 ghost use Rattle.fws_ipt.specs.Spelled.{asks_protocol, tests_protocol, is_only};
-ghost use Rattle.fws_ipt_print.specs.PrintedText.{behind_blanks, flag_names_word, flag_text, flags_word, port_module, port_words, protocol_word, range_word, ranges_word};
+ghost use Rattle.fws_print.specs.Words.{behind_blanks};
+ghost use Rattle.fws_ipt_print.specs.PrintedText.{flag_names_word, flag_text, flags_word, port_module, port_words, range_word, ranges_word};
 
-use crate::numbers::{put_option, put_word};
+use crate::numbers::put_option;
 use fws_iv::{Iv, Ivs};
 use fws_net::{Lit, Test};
-use fws_num::{Memory, Text, put_dec};
+use fws_num::{Memory, Text};
+use fws_print::{put_range, put_ranges, put_word};
 
 /// Whether the set has this one number.
 fn is_only(n: u32, set: &Ivs) -> bool
@@ -37,39 +39,13 @@ pub fn asks_protocol(n: u32, cond: &[Lit]) -> bool
         .any(|lit| !lit.not && tests_protocol(n, &lit.test))
 }
 
-/// Appends a port, or two with a colon between.
-fn put_range(out: &mut Text, iv: Iv) -> Result<(), Memory>
-    ensures { OnOk result (out.new ≡ out.old ++ range_word iv) }
-{
-    put_dec(out, u64::from(iv.lo))?;
-    if iv.lo != iv.hi {
-        out.put(b":")?;
-        put_dec(out, u64::from(iv.hi))?;
-    }
-    Ok(())
-}
-
-/// Appends the ranges joined by commas.
-fn put_ranges(out: &mut Text, parts: &[Iv]) -> Result<(), Memory>
-    ensures { OnOk result (out.new ≡ out.old ++ ranges_word parts.now) }
-{
-    if let [first, rest @ ..] = parts {
-        put_range(out, *first)?;
-        for iv in rest {
-            out.put(b",")?;
-            put_range(out, *iv)?;
-        }
-    }
-    Ok(())
-}
-
 /// Appends several ranges behind an option of `multiport`.
 fn put_list(out: &mut Text, many: &[u8], parts: &[Iv]) -> Result<(), Memory>
     ensures { OnOk result (out.new ≡ out.old ++ behind_blanks (codes "-m" ∷ codes "multiport" ∷ many.now ∷ ranges_word parts.now ∷ [])) }
 {
     put_option(out, b"multiport", many)?;
     out.put(b" ")?;
-    put_ranges(out, parts)?;
+    put_ranges(out, b':', parts)?;
     Ok(())
 }
 
@@ -79,7 +55,7 @@ fn put_one(out: &mut Text, kind: &[u8], one: &[u8], iv: Iv) -> Result<(), Memory
 {
     put_option(out, kind, one)?;
     out.put(b" ")?;
-    put_range(out, iv)?;
+    put_range(out, b':', iv)?;
     Ok(())
 }
 
@@ -108,21 +84,6 @@ pub fn port_module(cond: &[Lit]) -> &'static [u8]
         b"tcp"
     } else {
         b"udp"
-    }
-}
-
-/// Appends a protocol, behind a blank: by its name where it has ports or ICMP types, and else by its number.
-pub fn put_protocol(out: &mut Text, n: u32) -> Result<(), Memory>
-    ensures { OnOk result (out.new ≡ out.old ++ 32 ∷ protocol_word n) }
-{
-    match n {
-        1 => put_word(out, b"icmp"),
-        6 => put_word(out, b"tcp"),
-        17 => put_word(out, b"udp"),
-        _ => {
-            out.put(b" ")?;
-            put_dec(out, u64::from(n))
-        }
     }
 }
 

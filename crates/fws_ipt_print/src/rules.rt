@@ -10,10 +10,11 @@ ghost use Rattle.fws_ipt_print.specs.Printable.{are_different, is_class, is_end,
 use crate::lines::is_table;
 use crate::names::hook_named;
 use crate::ports::asks_protocol;
-use crate::sets::{are_ports, begins_at_none, is_number, is_prefix_set, is_range};
+use crate::sets::{are_ports, begins_at_none, is_prefix_set};
 use fws_ipt::{Hook, IptChain, IptGo, IptRule, IptTable};
 use fws_net::{End, Lit, Site, Test};
 use fws_num::Prefix;
+use fws_print::{is_number, is_range};
 
 /// Whether the condition asks for TCP or for UDP.
 fn asks_ports(cond: &[Lit]) -> bool

@@ -3,29 +3,10 @@
 ghost use Rattle.std.specs.Prelude.{◌≡◌, ◌≤◌, ◌&&◌, nat_eq, nat_le};
 ghost use Rattle.std.specs.List.{list_any};
 ghost use Rattle.fws_ipt.specs.Spelled.{is_block, is_prefix_set};
-ghost use Rattle.fws_ipt_print.specs.Printable.{all_places, are_ports, ascend_from, is_number, is_range, places_of};
+ghost use Rattle.fws_ipt_print.specs.Printable.{all_places, are_ports, places_of};
 
 use fws_iv::{Iv, Ivs};
-
-/// Whether it is one number, up to a greatest one.
-pub fn is_number(most: u128, set: &Ivs) -> bool
-    ensures { result ≡ is_number most set.now }
-{
-    match set.parts() {
-        [iv] => iv.lo == iv.hi && u128::from(iv.hi) <= most,
-        _ => false,
-    }
-}
-
-/// Whether it is one range of numbers, up to a greatest one.
-pub fn is_range(most: u64, set: &Ivs) -> bool
-    ensures { result ≡ is_range most set.now }
-{
-    match set.parts() {
-        [iv] => iv.lo <= iv.hi && u64::from(iv.hi) <= most,
-        _ => false,
-    }
-}
+use fws_print::are_ranges;
 
 /// Whether 0 is the least number of a range.
 pub fn begins_at_none(set: &Ivs) -> bool
@@ -55,36 +36,11 @@ fn has_few_places(parts: &[Iv]) -> bool
     true
 }
 
-/// Whether the range begins at the number or later, and has ports.
-fn follows(from: u64, iv: Iv) -> bool
-    ensures { result ≡ (nat_le from iv.lo && nat_le iv.lo iv.hi && nat_le iv.hi 65535) }
-{
-    from <= u64::from(iv.lo) && iv.lo <= iv.hi && iv.hi <= 65535
-}
-
-/// Whether the ranges of ports ascend and don't touch.
-fn ascend(parts: &[Iv]) -> bool
-    ensures { result ≡ ascend_from 0 parts.now }
-{
-    let mut from = 0u64;
-    for iv in parts {
-        if !follows(from, *iv) {
-            return false;
-        }
-        from = u64::from(iv.hi) + 2;
-    }
-    true
-}
-
 /// Whether one list holds the ports: at least one range, and at most fifteen places.
 pub fn are_ports(set: &Ivs) -> bool
     ensures { result ≡ are_ports set.now }
 {
-    let parts = set.parts();
-    match parts {
-        [] => false,
-        [_, ..] => ascend(parts) && has_few_places(parts),
-    }
+    are_ranges(65535, set) && has_few_places(set.parts())
 }
 
 /// Whether they are the addresses that agree with one in their first bits.

@@ -5,18 +5,20 @@ ghost use Rattle.std.specs.Fmt.{decimal};
 ghost use Rattle.std.specs.List.{flat_map};
 ghost use Rattle.fws_net.specs.declared.packet.Lang.TheVariants.{Iptables};
 ghost use Rattle.fws_rule.specs.Names.{interface_name};
-ghost use Rattle.fws_ipt_print.specs.PrintedText.{address_words, behind_blanks, class_word, first_part, flags_word, literal_words, mark_word, port_module, port_words, protocol_word, test_words};
+ghost use Rattle.fws_print.specs.Words.{behind_blanks, protocol_name};
+ghost use Rattle.fws_ipt_print.specs.PrintedText.{address_words, class_word, first_part, flags_word, literal_words, mark_word, port_module, port_words, test_words};
 
-use crate::numbers::{first_part, put_addresses, put_mark, put_option, put_word};
-use crate::ports::{port_module, put_flags, put_ports, put_protocol};
+use crate::numbers::{first_part, put_addresses, put_mark, put_option};
+use crate::ports::{port_module, put_flags, put_ports};
 use fws_iv::Ivs;
 use fws_net::{Lang, Lit, Site, Test};
 use fws_num::{Memory, Text, put_dec};
+use fws_print::{put_protocol, put_word};
 use fws_rule::interface_name;
 
 /// Appends the test of a protocol.
 fn put_proto(out: &mut Text, set: &Ivs) -> Result<(), Memory>
-    ensures { OnOk result (out.new ≡ out.old ++ behind_blanks (codes "-p" ∷ protocol_word (first_part set.now).lo ∷ [])) }
+    ensures { OnOk result (out.new ≡ out.old ++ behind_blanks (codes "-p" ∷ protocol_name (first_part set.now).lo ∷ [])) }
 {
     put_word(out, b"-p")?;
     put_protocol(out, first_part(set).lo)?;

@@ -20,7 +20,8 @@ use Rattle.fws_pf_list.specs.declared.path.Path.{Path}
 use Rattle.fws_pf_list.specs.declared.side.Side.{Side}
 use Rattle.fws_pf_list.specs.declared.side.Side.TheVariants.{Entry, Proto, Dst, Dport, Src, Sport}
 use Rattle.fws_pf_list.specs.Paths.{cond_of, hits, lits_of, nat_of, number_of, part_has, part_of, path_has, protocol_of, test_of, with_part, IsGoodPath}
-use Rattle.fws_pf_print.specs.Printable.{ascend, first_number, is_block, is_printed_cond, is_printed_end, is_printed_literal, is_printed_port, is_printed_test, is_printed_translation, is_range, is_translation_test, place_of, place_written, protocol_tested, tested}
+use Rattle.fws_print.specs.Sets.{first_number, is_range}
+use Rattle.fws_pf_print.specs.Printable.{ascend, is_block, is_printed_cond, is_printed_end, is_printed_literal, is_printed_port, is_printed_test, is_printed_translation, is_translation_test, place_of, place_written, protocol_tested, tested}
 use Rattle.fws_pf_list.specs.Writings.{written_side, EndFits, EndHasRoom, IsPrintedPath}
 
 -- ---- packets on paths

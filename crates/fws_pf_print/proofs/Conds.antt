@@ -11,7 +11,8 @@ use Rattle.fws_rule.specs.Literals.{positive}
 use Rattle.fws_pf.specs.declared.rule_draft.Choice.{Choice}
 use Rattle.fws_pf.specs.Drawn.{condition_count, conditions, has_protocols, is_port_protocol, value_choices}
 use Rattle.fws_pf.specs.RuleText.{only}
-use Rattle.fws_pf_print.specs.Printable.{ascend, behind_cond, first_number, is_interface, is_number, is_printed_cond, is_printed_literal, is_range, is_translation_test, place_of, protocol_tested, tested}
+use Rattle.fws_print.specs.Sets.{first_number, is_interface, is_number, is_range}
+use Rattle.fws_pf_print.specs.Printable.{ascend, behind_cond, is_printed_cond, is_printed_literal, is_translation_test, place_of, protocol_tested, tested}
 use Rattle.fws_pf_print.specs.PrintedText.{options_words, tests_flags}
 use Rattle.fws_pf_print.proofs.Basics.{never}
 use Rattle.fws_pf_print.proofs.Drafts.{items_of, side_items}

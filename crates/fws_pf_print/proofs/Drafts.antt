@@ -44,8 +44,10 @@ use Rattle.fws_pf.specs.Keywords.{option_word}
 use Rattle.fws_pf.specs.RuleText.{asking, behind, rule_step, translation_option_step, value_taken, valued, word_step}
 use Rattle.fws_pf.specs.Statements.{is_mark}
 use Rattle.fws_pf.specs.Values.{Setting, after_part, begins_with_digit, fresh_value, host_part, host_word, interface_part, is_any_mark, item_step, marks, operator_named, part_taken, plain_step, port_range_part, port_word, protocol_part, taken, value_expecting, with_part}
-use Rattle.fws_pf_print.specs.Printable.{is_interface, is_number, is_range, tested}
-use Rattle.fws_pf_print.specs.PrintedText.{addresses_words, between_words, front_words, hosts_words, interface_words, name_word, network_len, ports_word, ports_words, protocol_name, protocol_words, sides_words, tests_hosts}
+use Rattle.fws_print.specs.Sets.{is_interface, is_number, is_range}
+use Rattle.fws_pf_print.specs.Printable.{tested}
+use Rattle.fws_print.specs.Words.{protocol_name}
+use Rattle.fws_pf_print.specs.PrintedText.{addresses_words, between_words, front_words, hosts_words, interface_words, name_word, network_len, ports_word, ports_words, protocol_words, sides_words, tests_hosts}
 use Rattle.fws_pf_print.proofs.Basics.{if_true, if_false, never, option_cases}
 use Rattle.fws_pf_print.proofs.Laws.{Laws}
 use Rattle.fws_pf_print.proofs.LineWords.{bare_at, bare_bytes, is_bare, word_at}

@@ -15,7 +15,7 @@ use Rattle.fws_num.specs.Written.{ends_in, is_one_line, spaced}
 use Rattle.fws_rule.specs.Interfaces.{before_mark}
 use Rattle.fws_pf.specs.declared.statement.Mode.TheVariants.{Between, Plain, Quoted, Escaped, Second}
 use Rattle.fws_pf.specs.Statements.{begins_pair, pairs, read_statement, words_from, words_of}
-use Rattle.fws_pf_print.specs.PrintedText.{behind_blanks}
+use Rattle.fws_print.specs.Words.{behind_blanks}
 use Rattle.fws_pf_print.proofs.Basics.{all_weaker, at_number, if_true, if_false, implied, never}
 
 -- Bytes

@@ -10,7 +10,9 @@ use Rattle.fws_net.specs.declared.site.Site.{Site}
 use Rattle.fws_pf.specs.declared.config.PfConfig.{PfConfig}
 use Rattle.fws_pf.specs.declared.config.PfNat.{PfNat}
 use Rattle.fws_pf.specs.declared.config.PfRule.{PfRule}
-use Rattle.fws_pf_print.specs.PrintedText.{begin_words, behind_blanks, config_text, filter_comment, head_lines, is_network, rule_lines, section, translation_lines, translations_comment, verb_word}
+use Rattle.fws_print.specs.Sets.{is_network}
+use Rattle.fws_print.specs.Words.{behind_blanks}
+use Rattle.fws_pf_print.specs.PrintedText.{begin_words, config_text, filter_comment, head_lines, rule_lines, section, translation_lines, translations_comment, verb_word}
 use Rattle.fws_pf_print.proofs.LineWords.{spaced_from}
 
 -- Lines

@@ -1,16 +1,9 @@
 -- Labels by places, and how many there are.
-use Rattle.std.proofs.Common.{◌≡◌, ℕ, ◌+◌, List, [], ◌∷◌, ◌++◌, length, codes, arith, sym, ◌∙◌, ap, append_assoc}
-use Rattle.std.proofs.lemmas.List.FromFn.{length-map-range_with_len, map-range_with_len_more}
+use Rattle.std.proofs.Common.{◌≡◌, ℕ, ◌+◌, List, [], ◌++◌, length, codes, ◌∙◌, ap}
+use Rattle.std.proofs.lemmas.List.FromFn.{length-map-range_with_len}
 use Rattle.std.proofs.lemmas.List.{length-append}
-use Rattle.fws_pf_print.specs.Labels.{LabelsAreCounted, place_label, place_labels}
-
--- one more place
-pub places_more : (front : List ℕ) (n : ℕ) (old so_far new : List (List ℕ)) (label : List ℕ) → new ≡ so_far ++ label ∷ [] → label ≡ place_label front (n + 1)
-    → so_far ≡ old ++ place_labels front n → new ≡ old ++ place_labels front (n + 1)
-places_more front n old so_far new label put is begun =
-    put ∙ ap (λ (l : List ℕ). so_far ++ l ∷ []) is ∙ ap (λ (ls : List (List ℕ)). ls ++ place_label front (n + 1) ∷ []) begun
-    ∙ append_assoc old (place_labels front n) (place_label front (n + 1) ∷ [])
-    ∙ ap (λ (ls : List (List ℕ)). old ++ ls) (sym (map-range_with_len_more (place_label front) 1 n (n + 1) (omega arith)))
+use Rattle.fws_print.specs.Labels.{place_label, place_labels}
+use Rattle.fws_pf_print.specs.Labels.{LabelsAreCounted}
 
 -- there are as many labels as places
 pub places_counted : (front : List ℕ) (n : ℕ) → length (place_labels front n) ≡ n

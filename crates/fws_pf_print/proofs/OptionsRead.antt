@@ -24,7 +24,8 @@ use Rattle.fws_pf.specs.declared.value_draft.ValueKind.TheVariants as kinds
 use Rattle.fws_pf.specs.Keywords.{option_word}
 use Rattle.fws_pf.specs.RuleText.{behind_tag as expects_behind_tag, behind_tagged, flags_test, only, place_of as place_among, with_flags_test, with_name}
 use Rattle.fws_pf.specs.Values.{fresh_value, icmp_type_part, is_any_mark, with_part}
-use Rattle.fws_pf_print.specs.Printable.{are_flags, behind_put, behind_tag, is_number, tag_name}
+use Rattle.fws_print.specs.Sets.{are_flags, is_number}
+use Rattle.fws_pf_print.specs.Printable.{behind_put, behind_tag, tag_name}
 use Rattle.fws_pf_print.specs.PrintedText.{flags_word, tag_words}
 use Rattle.fws_pf_print.proofs.Basics.{if_false}
 use Rattle.fws_pf_print.proofs.Drafts.{asked, begins, draft_at, Seen, settled, take, take_bare, Told, whole, part_then, plain_off}

@@ -25,7 +25,8 @@ use Rattle.fws_pf.specs.declared.text_draft.PfDraft.{PfDraft}
 use Rattle.fws_pf.specs.Drawn.{choices, condition_count, expanded_with, has_protocols, is_port_protocol, lacks_protocol, maps_too_many, value_choices}
 use Rattle.fws_pf.specs.FileText.{rule_put, with_rule, with_rules}
 use Rattle.fws_pf.specs.RuleText.{only}
-use Rattle.fws_pf_print.specs.Printable.{are_flags, behind_cond, behind_put, is_number, is_range, protocol_tested, tested}
+use Rattle.fws_print.specs.Sets.{are_flags, is_number, is_range}
+use Rattle.fws_pf_print.specs.Printable.{behind_cond, behind_put, protocol_tested, tested}
 use Rattle.fws_pf_print.specs.PrintedText.{front_words, options_words, state_words, tag_words, tests_flags, tests_hosts, way_words}
 use Rattle.fws_pf_print.proofs.Basics.{never}
 use Rattle.fws_pf_print.proofs.Conds.{AreSingle, flags_tested, IsDivided, needs, protocol_there, seven_same, side_single, single_append, single_conditions, single_count, single_none, single_one, some_items, values_single}

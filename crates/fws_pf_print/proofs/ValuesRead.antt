@@ -26,8 +26,10 @@ use Rattle.fws_pf.specs.declared.value_draft.Part.{Part}
 use Rattle.fws_pf.specs.declared.value_draft.Part.TheVariants as parts
 use Rattle.fws_pf.specs.RuleText.{flags_test}
 use Rattle.fws_pf.specs.Values.{begins_with_digit, face_part, host_part, icmp_type_named, icmp_type_part, is_route_word, modified_part, network_part, operator_named, operators_by_mark, port_range_part, protocol_part, range_part, self_set}
-use Rattle.fws_pf_print.specs.Printable.{are_flags, tag_name}
-use Rattle.fws_pf_print.specs.PrintedText.{flags_word, is_network, letters_of, network_len, ports_word, protocol_name}
+use Rattle.fws_print.specs.Sets.{are_flags, is_network}
+use Rattle.fws_pf_print.specs.Printable.{tag_name}
+use Rattle.fws_print.specs.Words.{protocol_name}
+use Rattle.fws_pf_print.specs.PrintedText.{flags_word, letters_of, network_len, ports_word}
 use Rattle.fws_pf_print.proofs.Basics.{all_weaker, at_number, if_true, if_false, implied, never, option_cases, texts_differ}
 use Rattle.fws_pf_print.proofs.Laws.{Laws}
 use Rattle.fws_pf_print.proofs.LineWords.{is_bare, is_inner, lacks_by}

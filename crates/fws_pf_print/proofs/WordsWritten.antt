@@ -14,7 +14,8 @@ use Rattle.fws_net.specs.declared.packet.Lang.TheVariants.{Pf}
 use Rattle.fws_rule.specs.Names.{interface_name}
 use Rattle.fws_pf.specs.declared.config.Way.{Way}
 use Rattle.fws_pf.specs.declared.config.Way.TheVariants as ways
-use Rattle.fws_pf_print.specs.Printable.{are_flags, is_interface, is_number, protocol_tested, tested}
+use Rattle.fws_print.specs.Sets.{are_flags, is_interface, is_number}
+use Rattle.fws_pf_print.specs.Printable.{protocol_tested, tested}
 use Rattle.fws_pf_print.specs.PrintedText.{addresses_words, between_words, end_port_words, end_words, front_words, hosts_words, interface_words, network_len, options_words, ports_words, protocol_words, range_words, sides_words, state_words, static_words, tag_words, target_words, tests_flags, tests_hosts, way_words}
 use Rattle.fws_pf_print.proofs.Basics.{never}
 use Rattle.fws_pf_print.proofs.Conds.{IsDivided, Printed}

@@ -1,16 +1,7 @@
 -- The labels of rules, in the order in which rules are counted: those of rdr, those of nat, and the filter's.
-use Rattle.std.specs.Prelude.{◌≡◌, ℕ, ◌+◌, List, ◌∷◌, ◌++◌, length, map, codes}
-use Rattle.std.specs.Fmt.{decimal}
-use Rattle.std.specs.List.{range_with_len}
+use Rattle.std.specs.Prelude.{◌≡◌, ℕ, ◌+◌, List, ◌++◌, length, codes}
 use Rattle.fws_pf.specs.declared.config.PfConfig.{PfConfig}
-
--- a front and a place
-abbrev pub place_label : List ℕ → ℕ → List ℕ
-place_label front place = front ++ 32 ∷ decimal place
-
--- a front and each of so many places, counted from 1
-abbrev pub place_labels : List ℕ → ℕ → List (List ℕ)
-place_labels front count = map (place_label front) (range_with_len 1 count)
+use Rattle.fws_print.specs.Labels.{place_labels}
 
 -- the labels of all rules
 abbrev pub labels_of : PfConfig → List (List ℕ)

@@ -1,5 +1,5 @@
 -- The configurations that are printed: those that hold what placed policies need, in the forms that pf.conf(5) has for them.
-use Rattle.std.specs.Prelude.{ℕ, suc, ◌+◌, ◌-◌, ◌^◌, Bool, true, false, ◌&&◌, ◌||◌, not, nat_eq, nat_le, nat_lt, bit_and, Option, Some, None, option_and_then, List, [], ◌∷◌, length, if◌then◌else◌}
+use Rattle.std.specs.Prelude.{ℕ, suc, ◌+◌, ◌-◌, ◌^◌, Bool, true, false, ◌&&◌, ◌||◌, not, nat_eq, nat_le, nat_lt, Option, Some, None, option_and_then, List, [], ◌∷◌, length, if◌then◌else◌}
 use Rattle.std.specs.Fmt.{decimal}
 use Rattle.std.specs.List.{list_all}
 use Rattle.std.specs.Option.{option_map_or}
@@ -15,32 +15,14 @@ use Rattle.fws_pf.specs.declared.config.PfConfig.{PfConfig}
 use Rattle.fws_pf.specs.declared.config.PfNat.{PfNat}
 use Rattle.fws_pf.specs.declared.config.PfRule.{PfRule}
 use Rattle.fws_pf.specs.Drawn.{is_port_protocol}
+use Rattle.fws_print.specs.Sets.{are_flags, first_number, is_interface, is_number, is_range}
 
 -- Sets
-
--- one number, up to a greatest one
-abbrev pub is_number : ℕ → List Iv → Bool
-is_number most (iv ∷ []) = nat_eq iv.lo iv.hi && nat_le iv.hi most
-is_number most _ = false
-
--- one range of numbers, up to a greatest one
-abbrev pub is_range : ℕ → List Iv → Bool
-is_range most (iv ∷ []) = nat_le iv.lo iv.hi && nat_le iv.hi most
-is_range most _ = false
-
--- an interface: the entry of loopback or of an interface of the site
-abbrev pub is_interface : Site → List Iv → Bool
-is_interface site set = is_number (length site.faces + 1) set && list_all (λ iv. not (nat_eq iv.lo 0)) set
 
 -- one range of addresses that agree in their first n bits
 abbrev pub is_block : ℕ → List Iv → Bool
 is_block n (iv ∷ []) = agree n iv.lo iv.hi
 is_block n _ = false
-
--- the least number of the first range of a set
-abbrev pub first_number : List Iv → ℕ
-first_number [] = 0
-first_number (iv ∷ set) = iv.lo
 
 -- Tests
 
@@ -82,10 +64,6 @@ protocol_tested cond = first_number (tested 1 cond)
 abbrev pub ascend : ℕ → List Lit → Bool
 ascend least [] = true
 ascend least (lit ∷ lits) = nat_le least (place_of lit.test) && ascend (place_of lit.test + 1) lits
-
--- flags are tested, and only such as are looked at are wanted
-abbrev pub are_flags : ℕ → ℕ → Bool
-are_flags mask want = nat_lt 0 mask && nat_le mask 63 && nat_eq (bit_and mask want) want
 
 -- a test that is printed where a protocol is asked for: of one interface, one protocol, one range of addresses, one range of ports
 -- under TCP or UDP, of flags under TCP, of one ICMP type under ICMP, and of a tag

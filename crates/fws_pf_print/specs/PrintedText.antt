@@ -1,5 +1,5 @@
 -- The text of a configuration: comments, translations and filter rules, as pfctl(8) of FreeBSD loads them.
-use Rattle.std.specs.Prelude.{ℕ, ◌+◌, ◌-◌, ◌/◌, ◌%◌, ◌^◌, Bool, true, false, ◌&&◌, not, nat_eq, nat_le, Option, List, [], ◌∷◌, ◌++◌, map, codes, if◌then◌else◌}
+use Rattle.std.specs.Prelude.{ℕ, ◌+◌, ◌-◌, ◌/◌, ◌%◌, Bool, true, false, ◌&&◌, not, nat_eq, nat_le, Option, List, [], ◌∷◌, ◌++◌, map, codes, if◌then◌else◌}
 use Rattle.std.specs.Fmt.{decimal}
 use Rattle.std.specs.List.{find, flat_map, list_any, range_with_len}
 use Rattle.std.specs.Option.{option_map_or}
@@ -20,11 +20,9 @@ use Rattle.fws_pf.specs.declared.config.PfNat.{PfNat}
 use Rattle.fws_pf.specs.declared.config.PfRule.{PfRule}
 use Rattle.fws_pf.specs.declared.config.Way.{Way}
 use Rattle.fws_pf.specs.declared.config.Way.TheVariants as ways
-use Rattle.fws_pf_print.specs.Printable.{first_number, place_of, tag_name, tested}
-
--- the words, each behind a blank
-abbrev pub behind_blanks : List (List ℕ) → List ℕ
-behind_blanks words = flat_map (λ word. 32 ∷ word) words
+use Rattle.fws_print.specs.Sets.{first_number, is_network}
+use Rattle.fws_pf_print.specs.Printable.{place_of, tag_name, tested}
+use Rattle.fws_print.specs.Words.{protocol_name, range_text}
 
 -- Interfaces
 
@@ -48,21 +46,12 @@ interface_words site (iv ∷ set) = codes "on" ∷ name_word (interface_name Pf 
 
 -- Protocols
 
--- a protocol: by its name where it has ports or ICMP types, and else by its number
-abbrev pub protocol_name : ℕ → List ℕ
-protocol_name n =
-    if nat_eq n 1 then codes "icmp" else if nat_eq n 6 then codes "tcp" else if nat_eq n 17 then codes "udp" else decimal n
-
 -- the protocol that is asked for, if one is
 abbrev pub protocol_words : List Iv → List (List ℕ)
 protocol_words [] = []
 protocol_words (iv ∷ set) = codes "proto" ∷ protocol_name iv.lo ∷ []
 
 -- Addresses and ports
-
--- the range has just the addresses of a network of n bits
-abbrev pub is_network : ℕ → Iv → Bool
-is_network n iv = nat_eq (iv.lo % 2 ^ (32 - n)) 0 && nat_eq (iv.hi + 1) (iv.lo + 2 ^ (32 - n))
 
 -- the bits of the network whose addresses the range has, if there is one
 unfoldable pub network_len : Iv → Option ℕ
@@ -84,7 +73,7 @@ addresses_words (iv ∷ set) = range_words iv
 
 -- a port, or two with a colon between
 abbrev pub ports_word : Iv → List ℕ
-ports_word iv = if nat_eq iv.lo iv.hi then decimal iv.lo else decimal iv.lo ++ 58 ∷ decimal iv.hi
+ports_word iv = range_text 58 iv
 
 -- the ports that are asked for, if any are
 abbrev pub ports_words : List Iv → List (List ℕ)

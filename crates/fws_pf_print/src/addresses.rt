@@ -1,22 +1,15 @@
 //! Ranges of addresses as they are printed.
 
-ghost use Rattle.std.specs.Prelude.{◌≡◌, ◌≤◌, ◌∷◌, ◌++◌, [], OnOk};
+ghost use Rattle.std.specs.Prelude.{◌≡◌, ◌∷◌, ◌++◌, [], OnOk};
 ghost use Rattle.std.specs.Option.{option_map_or};
 ghost use Rattle.fws_net.specs.SiteSpelling.{net_word};
-ghost use Rattle.fws_num.specs.Numbers.{dotted};
-ghost use Rattle.fws_pf_print.specs.PrintedText.{addresses_words, behind_blanks, between_words, is_network, network_len, range_words};
+ghost use Rattle.fws_print.specs.Sets.{is_network};
+ghost use Rattle.fws_print.specs.Words.{behind_blanks};
+ghost use Rattle.fws_pf_print.specs.PrintedText.{addresses_words, between_words, network_len, range_words};
 
 use fws_iv::Iv;
-use fws_num::{Memory, Text, put_dec, put_quad};
-
-/// Whether the range has just the addresses of a network of `n` bits.
-fn is_network(n: u8, iv: Iv) -> bool
-    requires { n ≤ 32 }
-    ensures { result ≡ is_network n iv }
-{
-    let size = 2u64.pow(u32::from(32 - n));
-    u64::from(iv.lo) % size == 0 && u64::from(iv.hi) + 1 == u64::from(iv.lo) + size
-}
+use fws_num::{Memory, Text};
+use fws_print::{is_network, put_address, put_network};
 
 /// The bits of the network whose addresses the range has, if there is one.
 #[tactic(auto, unfolding(crate::specs::PrintedText::network_len))]
@@ -29,25 +22,6 @@ fn network_len(iv: Iv) -> Option<u8>
         }
     }
     None
-}
-
-/// Appends an address, behind a blank.
-pub fn put_address(out: &mut Text, addr: u32) -> Result<(), Memory>
-    ensures { OnOk result (out.new ≡ out.old ++ 32 ∷ dotted addr) }
-{
-    out.put(b" ")?;
-    put_quad(out, addr)?;
-    Ok(())
-}
-
-/// Appends a network, behind a blank.
-pub fn put_network(out: &mut Text, addr: u32, len: u8) -> Result<(), Memory>
-    ensures { OnOk result (out.new ≡ out.old ++ 32 ∷ net_word addr len) }
-{
-    put_address(out, addr)?;
-    out.put(b"/")?;
-    put_dec(out, u64::from(len))?;
-    Ok(())
 }
 
 /// Appends two addresses with a dash between.

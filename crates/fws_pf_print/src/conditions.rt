@@ -1,12 +1,13 @@
 //! What conditions ask for.
 
-ghost use Rattle.std.specs.Prelude.{◌≡◌, nat_eq};
-ghost use Rattle.std.specs.List.{list_any};
-ghost use Rattle.fws_pf_print.specs.Printable.{first_number, place_of, protocol_tested, test_set, tested};
+ghost use Rattle.std.specs.Prelude.{◌≡◌};
+ghost use Rattle.fws_print.specs.Sets.{first_number};
+ghost use Rattle.fws_pf_print.specs.Printable.{place_of, protocol_tested, test_set, tested};
 ghost use Rattle.fws_pf_print.specs.PrintedText.{is_host_place, tests_flags, tests_hosts};
 
 use fws_iv::Iv;
 use fws_net::{Lit, Test};
+use fws_print::first_number;
 
 /// The place of a test in a rule.
 pub fn place_of(test: &Test) -> u8
@@ -66,16 +67,6 @@ pub fn tested(cond: &[Lit], place: u8) -> &[Iv]
         left = rest;
     }
     &[]
-}
-
-/// The least number of the first range of a set.
-pub fn first_number(set: &[Iv]) -> u32
-    ensures { result ≡ first_number set.now }
-{
-    match set {
-        [iv, ..] => iv.lo,
-        [] => 0,
-    }
 }
 
 /// The protocol that a condition asks for; 0 where it asks for none.

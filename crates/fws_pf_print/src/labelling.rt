@@ -1,37 +1,12 @@
 //! The labels of rules.
 
 ghost use Rattle.std.specs.Prelude.{◌≡◌, ◌++◌, IfOk, OnOk};
-ghost use Rattle.fws_pf_print.specs.Labels.{LabelsAreCounted, labels_of, place_label, place_labels};
+ghost use Rattle.fws_pf_print.specs.Labels.{LabelsAreCounted, labels_of};
 
-use fws_num::{Memory, Text, put_dec};
+use fws_num::{Memory, Text};
 use fws_pf::PfConfig;
+use fws_print::put_places;
 use std::alloc::Global;
-
-/// A front and a place.
-fn place_label(alloc: Global, front: &[u8], place: u64) -> Result<Text, Memory>
-    ensures { IfOk result (λ label. label ≡ place_label front.now place) }
-{
-    let mut label = Text::of(alloc, front)?;
-    label.put(b" ")?;
-    put_dec(&mut label, place)?;
-    Ok(label)
-}
-
-/// Puts a front and each of so many places, counted from 1, behind the other labels.
-fn put_places(
-    alloc: Global,
-    labels: &mut Vec<Text>,
-    front: &[u8],
-    count: usize,
-) -> Result<(), Memory>
-    ensures { OnOk result (labels.new.items ≡ labels.old.items ++ place_labels front.now count) }
-{
-    for at in 0..count {
-        let label = place_label(alloc, front, at as u64 + 1)?;
-        labels.push(label)?;
-    }
-    Ok(())
-}
 
 /// Puts the labels of all rules behind the others.
 fn put_rules(alloc: Global, labels: &mut Vec<Text>, c: &PfConfig) -> Result<(), Memory>

@@ -2,7 +2,8 @@
 
 ghost use Rattle.std.specs.Prelude.{◌≡◌, [], ◌∷◌, ◌++◌, true, OnOk};
 ghost use Rattle.fws_num.specs.Written.{ended, spaced};
-ghost use Rattle.fws_pf_print.specs.PrintedText.{action_word, behind_blanks, front_words, options_words, rule_lines, rule_words, state_words, tag_words, way_words};
+ghost use Rattle.fws_print.specs.Words.{behind_blanks};
+ghost use Rattle.fws_pf_print.specs.PrintedText.{action_word, front_words, options_words, rule_lines, rule_words, state_words, tag_words, way_words};
 
 use crate::conditions::tests_flags;
 use crate::tests::{put_front, put_options, put_tag};

@@ -1,47 +1,15 @@
 //! Conditions that rules spell.
 
-ghost use Rattle.std.specs.Prelude.{◌≡◌, ◌≤◌, not, nat_eq};
+ghost use Rattle.std.specs.Prelude.{◌≡◌, ◌≤◌, not};
 ghost use Rattle.std.specs.List.{list_all};
 ghost use Rattle.fws_pf.specs.Drawn.{is_port_protocol};
-ghost use Rattle.fws_pf_print.specs.Printable.{are_flags, ascend, is_block, is_interface, is_number, is_printed_cond, is_printed_literal, is_printed_test, is_range, is_translation_test};
+ghost use Rattle.fws_print.specs.Sets.{are_flags, is_interface, is_number, is_range};
+ghost use Rattle.fws_pf_print.specs.Printable.{ascend, is_block, is_printed_cond, is_printed_literal, is_printed_test, is_translation_test};
 
 use crate::conditions::{place_of, protocol_tested};
-use fws_iv::{Iv, Ivs};
+use fws_iv::Iv;
 use fws_net::{Lit, Site, Test};
-
-/// Whether it is one number, up to a greatest one.
-fn is_number(most: u128, set: &Ivs) -> bool
-    ensures { result ≡ is_number most set.now }
-{
-    match set.parts() {
-        [iv] => iv.lo == iv.hi && u128::from(iv.hi) <= most,
-        _ => false,
-    }
-}
-
-/// Whether it is one range of numbers, up to a greatest one.
-fn is_range(most: u32, set: &Ivs) -> bool
-    ensures { result ≡ is_range most set.now }
-{
-    match set.parts() {
-        [iv] => iv.lo <= iv.hi && iv.hi <= most,
-        _ => false,
-    }
-}
-
-/// Whether no range begins at 0.
-fn begin_behind_none(set: &Ivs) -> bool
-    ensures { result ≡ list_all (λ iv. not (nat_eq iv.lo 0)) set.now }
-{
-    set.parts().iter().all(|iv| iv.lo != 0)
-}
-
-/// Whether it is the entry of loopback or of an interface of the site.
-fn is_interface(site: &Site, set: &Ivs) -> bool
-    ensures { result ≡ is_interface site.now set.now }
-{
-    is_number(site.faces.len() as u128 + 1, set) && begin_behind_none(set)
-}
+use fws_print::{are_flags, is_interface, is_number, is_range};
 
 /// Whether it is one range of addresses that agree in their first `n` bits.
 pub fn is_block(n: u8, set: &[Iv]) -> bool
@@ -55,13 +23,6 @@ pub fn is_block(n: u8, set: &[Iv]) -> bool
         }
         _ => false,
     }
-}
-
-/// Whether flags are tested, and only such as are looked at are wanted.
-fn are_flags(mask: u8, want: u8) -> bool
-    ensures { result ≡ are_flags mask want }
-{
-    0 < mask && mask <= 63 && mask & want == want
 }
 
 /// Whether it is a protocol with ports.

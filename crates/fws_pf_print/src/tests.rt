@@ -6,15 +6,17 @@ ghost use Rattle.fws_num.specs.Numbers.{lacks};
 ghost use Rattle.fws_net.specs.declared.packet.Lang.TheVariants.{Pf};
 ghost use Rattle.fws_rule.specs.Names.{interface_name};
 ghost use Rattle.fws_pf_print.specs.Printable.{tag_name};
-ghost use Rattle.fws_pf_print.specs.PrintedText.{behind_blanks, ends_in_digit, front_words, hosts_words, interface_words, is_bare_name, name_word, option_words, options_words, ports_word, ports_words, protocol_name, protocol_words, sides_words, tag_words};
+ghost use Rattle.fws_print.specs.Words.{behind_blanks, protocol_name};
+ghost use Rattle.fws_pf_print.specs.PrintedText.{ends_in_digit, front_words, hosts_words, interface_words, is_bare_name, name_word, option_words, options_words, ports_word, ports_words, protocol_words, sides_words, tag_words};
 
 use crate::addresses::put_addresses;
-use crate::conditions::{first_number, tested, tests_hosts};
+use crate::conditions::{tested, tests_hosts};
 use crate::tags::put_tag_name;
-use crate::values::{put_flag_test, put_number, put_ports, put_protocol, put_word};
+use crate::values::put_flag_test;
 use fws_iv::Iv;
 use fws_net::{Lang, Lit, Site, Test};
 use fws_num::{Memory, Text};
+use fws_print::{first_number, put_number, put_protocol, put_range, put_word};
 use fws_rule::interface_name;
 
 /// Whether the last byte is a digit.
@@ -106,7 +108,7 @@ fn put_port(out: &mut Text, iv: Iv) -> Result<(), Memory>
     ensures { OnOk result (out.new ≡ out.old ++ behind_blanks (codes "port" ∷ ports_word iv ∷ [])) }
 {
     out.put(b" port ")?;
-    put_ports(out, iv)?;
+    put_range(out, b':', iv)?;
     Ok(())
 }
 

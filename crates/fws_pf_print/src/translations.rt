@@ -5,14 +5,14 @@ ghost use Rattle.std.specs.Option.{option_map_or};
 ghost use Rattle.fws_net.specs.SiteSpelling.{net_word};
 ghost use Rattle.fws_num.specs.Numbers.{dotted};
 ghost use Rattle.fws_num.specs.Written.{ended, spaced};
-ghost use Rattle.fws_pf_print.specs.PrintedText.{behind_blanks, end_port_words, end_words, front_words, options_words, static_words, tag_words, target_words, translation_lines, translation_words, verb_word};
+ghost use Rattle.fws_print.specs.Words.{behind_blanks};
+ghost use Rattle.fws_pf_print.specs.PrintedText.{end_port_words, end_words, front_words, options_words, static_words, tag_words, target_words, translation_lines, translation_words, verb_word};
 
-use crate::addresses::{put_address, put_network};
 use crate::tests::{put_front, put_options, put_tag};
-use crate::values::put_number;
 use fws_net::{End, Site};
 use fws_num::{Memory, Text};
 use fws_pf::PfNat;
+use fws_print::{put_address, put_network, put_number};
 
 /// Appends what a translation does: destinations are written by `rdr`, and sources by `nat`.
 fn put_verb(out: &mut Text, redirects: bool) -> Result<(), Memory>

@@ -13,7 +13,8 @@ use Rattle.fws_net.specs.declared.site.Site.{Site}
 use Rattle.fws_net.specs.declared.transit.Transit.{Transit}
 use Rattle.fws_pf.specs.Walk.{chosen}
 use Rattle.fws_pf_put.specs.Blocks.{AreBlocksOf}
-use Rattle.fws_pf_print.specs.Printable.{is_block, is_printed_cond, is_printed_end, is_printed_port, is_printed_translation, is_range}
+use Rattle.fws_print.specs.Sets.{is_range}
+use Rattle.fws_pf_print.specs.Printable.{is_block, is_printed_cond, is_printed_end, is_printed_port, is_printed_translation}
 use Rattle.fws_pf_put.specs.Sources.{IsSourceBlock, IsWrittenOver, WritesSource, addresses, asked, block_rule, same_end, whole_rule}
 use Rattle.fws_pf_put.proofs.BlockSets.{block_agrees, block_has}
 use Rattle.fws_pf_put.proofs.Sizes.{last_fits}

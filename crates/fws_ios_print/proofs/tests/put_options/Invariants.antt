@@ -1,5 +1,6 @@
 use Rattle.std.proofs.Common.{◌≡◌, ◌++◌, drop}
-use Rattle.fws_ios_print.specs.PrintedText.{behind_blanks, options_words}
+use Rattle.fws_print.specs.Words.{behind_blanks}
+use Rattle.fws_ios_print.specs.PrintedText.{options_words}
 use Rattle.fws_ios_print.proofs.tests.put_options.Given as goal
 
 abbrev pub invariant-loop-lit : goal.invariant-loop-lit

@@ -1,7 +1,8 @@
 use Rattle.std.proofs.Common.{[], ◌∷◌, ◌++◌, codes, decimal, ap, ◌∙◌}
 use Rattle.std.specs.List.{flat_map}
 use Rattle.fws_num.specs.Numbers.{dotted}
-use Rattle.fws_ipfw_print.specs.PrintedText.{behind_blanks, redirect_words}
+use Rattle.fws_print.specs.Words.{behind_blanks}
+use Rattle.fws_ipfw_print.specs.PrintedText.{redirect_words}
 use Rattle.fws_ipfw_print.proofs.LinesPut.{line_put, one_put, word_put, words_put}
 use Rattle.fws_ipfw_print.proofs.instances.put_nat.Goals as goal
 

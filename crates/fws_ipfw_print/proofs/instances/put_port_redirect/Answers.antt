@@ -1,5 +1,6 @@
 use Rattle.std.proofs.Common.{[], ◌∷◌, codes}
-use Rattle.fws_ipfw_print.specs.PrintedText.{end_word, protocol_name}
+use Rattle.fws_print.specs.Words.{protocol_name}
+use Rattle.fws_ipfw_print.specs.PrintedText.{end_word}
 use Rattle.fws_ipfw_print.proofs.LinesPut.{one_put, word_put, words_put}
 use Rattle.fws_ipfw_print.proofs.instances.put_port_redirect.Goals as goal
 

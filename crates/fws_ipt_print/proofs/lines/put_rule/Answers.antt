@@ -1,6 +1,7 @@
 use Rattle.std.proofs.Common.{ap, ◌∙◌, ◌++◌}
 use Rattle.std.specs.List.{flat_map}
-use Rattle.fws_ipt_print.specs.PrintedText.{act_words, behind_blanks, literal_words}
+use Rattle.fws_print.specs.Words.{behind_blanks}
+use Rattle.fws_ipt_print.specs.PrintedText.{act_words, literal_words}
 use Rattle.fws_ipt_print.proofs.LinesPut.{rule_put}
 use Rattle.fws_ipt_print.proofs.lines.put_rule.Goals as goal
 

@@ -1,6 +1,7 @@
 use Rattle.std.proofs.Common.{◌≡◌, ◌-◌}
 use Rattle.std.specs.List.{find, range_with_len}
-use Rattle.fws_pf_print.specs.PrintedText.{is_network, network_len}
+use Rattle.fws_print.specs.Sets.{is_network}
+use Rattle.fws_pf_print.specs.PrintedText.{network_len}
 use Rattle.fws_pf_print.proofs.addresses.network_len.Given as goal
 
 abbrev pub invariant-loop-n : goal.invariant-loop-n

@@ -1,6 +1,0 @@
-use Rattle.std.proofs.Common.{◌≡◌, ◌++◌}
-use Rattle.fws_ipt_print.specs.Labels.{place_labels}
-use Rattle.fws_ipt_print.proofs.labelling.put_places.Given as goal
-
-abbrev pub invariant-loop-at : goal.invariant-loop-at
-invariant-loop-at l = l.labels.items ≡ l.fn.labels.items ++ place_labels l.front l.at
