@@ -7,6 +7,7 @@ use Rattle.fws_net.specs.declared.site.Site.{Site}
 use Rattle.fws_net.specs.Points.{tops_of}
 use Rattle.fws_net.specs.Routes.{is_local}
 use Rattle.fws_tree.specs.Plain.{Plain, value}
+use Rattle.fws_truth.specs.Truths.{AreJoined}
 use Rattle.fws_ios_path.specs.Seen.{IsListed}
 use Rattle.fws_ios_put.specs.Choices.{IsAskable, is_stray, is_tcp, truth}
 
@@ -37,28 +38,10 @@ values_told site t askable x y v w same = askable.valued x v ∙ ap Some (askabl
 
 -- Two trees
 
--- what a tree of pairs gives that is made of two
-abbrev pub IsPaired : List ℕ → Plain Bool → Plain Bool → Plain (Bool × Bool) → Type 0
-IsPaired tops a b p = (x : List ℕ) → IsWithin tops x → (u : Bool) × (v : Bool) × (value a x ≡ Some u) × (value b x ≡ Some v) × (value p x ≡ Some (u, v))
-
-abbrev pub IsMade : List ℕ → ((Bool × Bool) → Bool) → Plain (Bool × Bool) → Plain Bool → Type 0
-IsMade tops gives p t = (x : List ℕ) → IsWithin tops x → (l : Bool × Bool) × (value p x ≡ Some l) × (value t x ≡ Some (gives l))
-
-pub paired_value : (gives : (Bool × Bool) → Bool) (a b : List ℕ × Plain Bool) (p : Plain (Bool × Bool)) (t : Plain Bool) (tops : List ℕ) → IsPaired tops a.1 b.1 p → IsMade tops gives p t
-    → (x : List ℕ) → IsWithin tops x → value t x ≡ Some (gives (truth a.1 x, truth b.1 x))
-paired_value gives a b p t tops pairs made x w =
-    let here = pairs x w in
-    let there = made x w in
-    let same : there.0 ≡ (here.0, here.1) = some_is (sym there.1 ∙ here.4) in
-    there.2 ∙ ap (λ l. Some (gives l)) same ∙ ap (λ (u : Bool). Some (gives (u, here.1))) (sym (truth_is a.1 x here.0 here.2))
-    ∙ ap (λ (v : Bool). Some (gives (truth a.1 x, v))) (sym (truth_is b.1 x here.1 here.3)) where
-      some_is : {k l : Bool × Bool} → Some k ≡ Some l → k ≡ l
-      some_is h = cc
-
 -- the pair's function is told by lists where both trees are
-pub pair_listed : (site : Site) (gives : (Bool × Bool) → Bool) (a b : List ℕ × Plain Bool) → IsAskable site a → IsAskable site b → IsListed (tops_of site) (λ x. gives (truth a.1 x, truth b.1 x))
+pub pair_listed : (site : Site) (gives : Bool → Bool → Bool) (a b : List ℕ × Plain Bool) → IsAskable site a → IsAskable site b → IsListed (tops_of site) (λ x. gives (truth a.1 x) (truth b.1 x))
 pair_listed site gives a b askable_a askable_b x y v w same =
-    ap (λ (u : Bool). gives (u, truth b.1 x)) (askable_a.listed x y v w same) ∙ ap (λ (u : Bool). gives (truth a.1 y, u)) (askable_b.listed x y v w same)
+    ap (λ (u : Bool). gives u (truth b.1 x)) (askable_a.listed x y v w same) ∙ ap (λ (u : Bool). gives (truth a.1 y) u) (askable_b.listed x y v w same)
 
 -- One tree
 
@@ -79,15 +62,15 @@ pub both_listed : (tops : List ℕ) (f g : List ℕ → Bool) → IsListed tops 
 both_listed tops f g a b x y v w same = ap (λ (u : Bool). u && g x) (a x y v w same) ∙ ap (λ (u : Bool). f y && u) (b x y v w same)
 
 -- what is made of two trees
-pub made_of_pair : (site : Site) (gives : (Bool × Bool) → Bool) (a b : List ℕ × Plain Bool) (p : List ℕ × Plain (Bool × Bool)) (t : List ℕ × Plain Bool) → IsAskable site a → IsAskable site b
-    → p.0 ≡ a.0 → t.0 ≡ p.0 → IsPaired a.0 a.1 b.1 p.1 → IsMade p.0 gives p.1 t.1
-    → IsAskable site t × ((x : List ℕ) → IsWithin (tops_of site) x → truth t.1 x ≡ gives (truth a.1 x, truth b.1 x))
-made_of_pair site gives a b p t askable_a askable_b tops_p tops_t pairs made =
-    let pairs_here : IsPaired (tops_of site) a.1 b.1 p.1 = subst (λ (ts : List ℕ). IsPaired ts a.1 b.1 p.1) askable_a.tops pairs in
-    let made_here : IsMade (tops_of site) gives p.1 t.1 = subst (λ (ts : List ℕ). IsMade ts gives p.1 t.1) (tops_p ∙ askable_a.tops) made in
-    let is : (x : List ℕ) → IsWithin (tops_of site) x → value t.1 x ≡ Some (gives (truth a.1 x, truth b.1 x)) = paired_value gives a b p.1 t.1 (tops_of site) pairs_here made_here in (
-      askable_by site t (λ x. gives (truth a.1 x, truth b.1 x)) (tops_t ∙ tops_p ∙ askable_a.tops) is (pair_listed site gives a b askable_a askable_b),
-      λ x w. truth_is t.1 x (gives (truth a.1 x, truth b.1 x)) (is x w),
+pub made_of_two : (site : Site) (gives : Bool → Bool → Bool) (a b t : List ℕ × Plain Bool) → IsAskable site a → IsAskable site b → t.0 ≡ a.0 → AreJoined gives a.0 a.1 b.1 t.1
+    → IsAskable site t × ((x : List ℕ) → IsWithin (tops_of site) x → truth t.1 x ≡ gives (truth a.1 x) (truth b.1 x))
+made_of_two site gives a b t askable_a askable_b tops joined =
+    let here : AreJoined gives (tops_of site) a.1 b.1 t.1 = subst (λ (ts : List ℕ). AreJoined gives ts a.1 b.1 t.1) askable_a.tops joined in
+    let is : (x : List ℕ) → IsWithin (tops_of site) x → value t.1 x ≡ Some (gives (truth a.1 x) (truth b.1 x)) = λ x w.
+    let at = here x w in
+    at.4 ∙ ap (λ (u : Bool). Some (gives u at.1)) (sym (truth_is a.1 x at.0 at.2)) ∙ ap (λ (v : Bool). Some (gives (truth a.1 x) v)) (sym (truth_is b.1 x at.1 at.3)) in (
+      askable_by site t (λ x. gives (truth a.1 x) (truth b.1 x)) (tops ∙ askable_a.tops) is (pair_listed site gives a b askable_a askable_b),
+      λ x w. truth_is t.1 x (gives (truth a.1 x) (truth b.1 x)) (is x w),
     )
 
 -- what is made of one

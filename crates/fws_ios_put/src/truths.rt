@@ -1,4 +1,5 @@
-//! Trees of truth values that are made of others, as lists can ask for them.
+//! Trees of truth values that are made of others, as lists can ask for them. The site is read by contracts alone: it says
+//! over which points lists ask.
 
 ghost use Rattle.std.specs.Prelude.{◌≡◌, ◌&&◌, ◌||◌, not, ℕ, List, IfOk};
 ghost use Rattle.fws_box.specs.Sides.{IsWithin};
@@ -7,47 +8,8 @@ ghost use Rattle.fws_ios_put.specs.Choices.{truth, IsAskable};
 
 use fws_net::Site;
 use fws_num::Memory;
-use fws_tree::{Relabelling, Tree};
+use fws_tree::Tree;
 use std::alloc::Global;
-
-/// The first truth value, unless the second one is true too.
-struct FirstAlone;
-
-impl Relabelling<(bool, bool), bool> for FirstAlone {
-    ghost use Rattle.std.specs.Prelude.{◌&&◌, not};
-
-    ghost gives = { λ s leaf. leaf.0 && not leaf.1 };
-
-    fn leaf(&self, _alloc: Global, leaf: &(bool, bool)) -> Result<bool, Memory> {
-        Ok(leaf.0 && !leaf.1)
-    }
-}
-
-/// Whether one of two truth values is true.
-struct SomeOf;
-
-impl Relabelling<(bool, bool), bool> for SomeOf {
-    ghost use Rattle.std.specs.Prelude.{◌||◌};
-
-    ghost gives = { λ s leaf. leaf.0 || leaf.1 };
-
-    fn leaf(&self, _alloc: Global, leaf: &(bool, bool)) -> Result<bool, Memory> {
-        Ok(leaf.0 || leaf.1)
-    }
-}
-
-/// The other truth value.
-struct Other;
-
-impl Relabelling<bool, bool> for Other {
-    ghost use Rattle.std.specs.Prelude.{not};
-
-    ghost gives = { λ s leaf. not leaf };
-
-    fn leaf(&self, _alloc: Global, leaf: &bool) -> Result<bool, Memory> {
-        Ok(!*leaf)
-    }
-}
 
 /// The tree that is true where the first one is and the second one isn't. An error is want of memory.
 pub(crate) fn without(
@@ -61,8 +23,7 @@ pub(crate) fn without(
     ensures askable { IfOk result (λ t. IsAskable _site.now t) }
     ensures value { IfOk result (λ t. (x : List ℕ) → IsWithin (tops_of _site.now) x → truth t.1 x ≡ (truth tree.now.1 x && not (truth excused.now.1 x))) }
 {
-    let pairs = tree.pair(alloc, excused)?;
-    let made = pairs.relabel(alloc, &FirstAlone)?;
+    let made = fws_truth::without(alloc, tree, excused)?;
     Ok(made)
 }
 
@@ -78,8 +39,7 @@ pub(crate) fn either(
     ensures askable { IfOk result (λ t. IsAskable _site.now t) }
     ensures value { IfOk result (λ t. (x : List ℕ) → IsWithin (tops_of _site.now) x → truth t.1 x ≡ (truth tree.now.1 x || truth other.now.1 x)) }
 {
-    let pairs = tree.pair(alloc, other)?;
-    let made = pairs.relabel(alloc, &SomeOf)?;
+    let made = fws_truth::either(alloc, tree, other)?;
     Ok(made)
 }
 
@@ -89,6 +49,6 @@ pub(crate) fn negated(alloc: Global, _site: &Site, tree: &Tree<bool>) -> Result<
     ensures askable { IfOk result (λ t. IsAskable _site.now t) }
     ensures value { IfOk result (λ t. (x : List ℕ) → IsWithin (tops_of _site.now) x → truth t.1 x ≡ not (truth tree.now.1 x)) }
 {
-    let made = tree.relabel(alloc, &Other)?;
+    let made = fws_truth::negated(alloc, tree)?;
     Ok(made)
 }

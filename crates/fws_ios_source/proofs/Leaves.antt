@@ -58,15 +58,6 @@ true_among [] k lt e = absurd (omega arith)
 true_among (a ∷ leaves) zero lt e = or_left a (list_any (λ leaf. leaf) leaves) e
 true_among (a ∷ leaves) (suc k) lt e = or_right a (list_any (λ leaf. leaf) leaves) (true_among leaves k (omega arith) e)
 
--- the value of a tree that is made of the pairs of two
-pub both_at : (va vb vt : Option Bool) (vp : Option (Bool × Bool)) → ((a : Bool) × (b : Bool) × (va ≡ Some a) × (vb ≡ Some b) × (vp ≡ Some (a, b)))
-    → ((x : Bool × Bool) × (vp ≡ Some x) × (vt ≡ Some (x.0 && x.1))) → (a : Bool) × (b : Bool) × (va ≡ Some a) × (vb ≡ Some b) × (vt ≡ Some (a && b))
-both_at va vb vt vp two here =
-    let there : Bool × Bool = (two.0, two.1) in
-    let same : here.0 ≡ there = some_once here.0 there (sym here.1 ∙ two.4) in
-    let made : Bool × Bool → Option Bool = λ z. Some (z.0 && z.1) in
-    (two.0, two.1, two.2, two.3, here.2 ∙ ap made same)
-
 -- a tree that is true where two are, and has no leaf that is true: no point is in both
 pub sets_apart : (first : List ℕ) (t u : Plain Bool) (both : List ℕ × Plain Bool) (leaves : List Bool) (nodes : List Node)
     → ((p : List ℕ) → IsWithin first p → (a : Bool) × (b : Bool) × (value t p ≡ Some a) × (value u p ≡ Some b) × (value both.1 p ≡ Some (a && b)))

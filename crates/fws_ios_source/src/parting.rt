@@ -1,17 +1,16 @@
 //! What a list permits and denies, told by as few fields as can be.
 
-ghost use Rattle.std.specs.Prelude.{◌≡◌, ◌&&◌, ℕ, Bool, true, List, Some, None, if◌then◌else◌, IfOk, IfSome};
+ghost use Rattle.std.specs.Prelude.{◌≡◌, true, Some, None, if◌then◌else◌, IfOk, IfSome};
 ghost use Rattle.std.specs.List.{list_any};
-ghost use Rattle.fws_box.specs.Sides.{IsWithin};
 ghost use Rattle.fws_ios_source.specs.Crossing.{AreTold};
 ghost use Rattle.fws_ios_source.specs.Parting.{keeps_look, AreApart, AreWider, IsParted, IsPartedAt};
-ghost use Rattle.fws_tree.specs.Plain.{value};
 
 use crate::parted::Parted;
 use crate::picking::picked;
 use fws_net::Outcome;
 use fws_num::Memory;
-use fws_tree::{Relabelling, Tree};
+use fws_tree::Tree;
+use fws_truth::both;
 use indexmap::IndexSet;
 use std::alloc::Global;
 
@@ -29,19 +28,6 @@ const DST: u16 = 0x4;
 
 const SRC: u16 = 0x10;
 
-/// Whether both are true.
-struct Both;
-
-impl Relabelling<(bool, bool), bool> for Both {
-    ghost use Rattle.std.specs.Prelude.{◌&&◌};
-
-    ghost gives = { λ s leaf. leaf.0 && leaf.1 };
-
-    fn leaf(&self, _alloc: Global, leaf: &(bool, bool)) -> Result<bool, Memory> {
-        Ok(leaf.0 && leaf.1)
-    }
-}
-
 // Whether one of the leaves is true.
 fn has_true(leaves: &[bool]) -> bool
     ensures { result ≡ list_any (λ leaf. leaf) leaves.now }
@@ -49,21 +35,12 @@ fn has_true(leaves: &[bool]) -> bool
     leaves.iter().any(|leaf| *leaf)
 }
 
-// The tree that is true where both are. An error is want of memory.
-fn in_both(alloc: Global, first: &Tree<bool>, second: &Tree<bool>) -> Result<Tree<bool>, Memory>
-    requires { second.now.0 ≡ first.now.0 }
-    ensures { IfOk result (λ t. (q : List ℕ) → IsWithin first.now.0 q → (a : Bool) × (b : Bool) × (value first.now.1 q ≡ Some a) × (value second.now.1 q ≡ Some b) × (value t.1 q ≡ Some (a && b))) }
-{
-    let pairs = first.pair(alloc, second)?;
-    pairs.relabel(alloc, &Both)
-}
-
 // Whether no packet is in both sets. An error is want of memory.
 fn are_apart(alloc: Global, first: &Tree<bool>, second: &Tree<bool>) -> Result<bool, Memory>
     requires { second.now.0 ≡ first.now.0 }
     ensures { IfOk result (λ apart. apart ≡ true → AreApart first.now.0 first.now.1 second.now.1) }
 {
-    let both = in_both(alloc, first, second)?;
+    let both = both(alloc, first, second)?;
     Ok(!has_true(both.shared().leaves))
 }
 

@@ -221,13 +221,6 @@ kept_twice true d e f x y z same also first second =
     second ∙ ap (λ b. if b then y else Some false) same ∙ first ∙ ap (λ b. if b then x else Some false) also
 kept_twice false d e f x y z same also first second = second ∙ ap (λ b. if b then y else Some false) same
 
--- the tree that is true where one is and the other isn't
-pub alone_there : (s n m b : Option Bool) → (x : Bool) × (n ≡ Some x) × (m ≡ Some (not x)) → (x : Bool) × (y : Bool) × (s ≡ Some x) × (m ≡ Some y) × (b ≡ Some (x && y))
-    → (x : Bool) × (y : Bool) × (s ≡ Some x) × (n ≡ Some y) × (b ≡ Some (x && not y))
-alone_there s n m b dropped both =
-    let other : both.1 ≡ not dropped.0 = some_once both.1 (not dropped.0) (sym both.3 ∙ dropped.2) in
-    (both.0, dropped.0, both.2, dropped.1, both.4 ∙ ap (λ y. Some (both.0 && y)) other)
-
 -- and what is kept of a tree that is made of two
 pub kept_there : (a : Bool) (s n b v : Option Bool) (f : Bool → Bool → Option Bool) → (x : Bool) × (y : Bool) × (s ≡ Some x) × (n ≡ Some y) × (b ≡ f x y)
     → v ≡ (if a then b else Some false) → (x : Bool) × (y : Bool) × (s ≡ Some x) × (n ≡ Some y) × (v ≡ (if a then f x y else Some false))

@@ -152,19 +152,6 @@ either_at va vb vc vt all three mixed =
     let seen : Bool × (Bool × Bool) → Option Bool = λ x. Some (not x.0 && (x.1.0 || x.1.1)) in
     (three.0, three.1, three.2, three.3, three.4, three.5, mixed.2 ∙ ap seen same)
 
--- and of one that was made of two
-pub both_at : (va vb vt : Option Bool) (both : Option (Bool × Bool))
-    → ((a : Bool) × (b : Bool) × (va ≡ Some a) × (vb ≡ Some b) × (both ≡ Some (a, b)))
-    → ((x : Bool × Bool) × (both ≡ Some x) × (vt ≡ Some (x.0 && x.1)))
-    → (a : Bool) × (b : Bool) × (va ≡ Some a) × (vb ≡ Some b) × (vt ≡ Some (a && b))
-both_at va vb vt both two mixed =
-    let a : Bool = two.0 in
-    let b : Bool = two.1 in
-    let ab : Bool × Bool = (a, b) in
-    let same : mixed.0 ≡ ab = some_once mixed.0 ab (sym mixed.1 ∙ two.4) in
-    let seen : Bool × Bool → Option Bool = λ x. Some (x.0 && x.1) in
-    (a, b, two.2, two.3, mixed.2 ∙ ap seen same)
-
 -- Naming
 
 -- a tree that tells which of some pairs break the clause

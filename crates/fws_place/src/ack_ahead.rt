@@ -8,14 +8,13 @@ ghost use Rattle.fws_net.specs.Routes.{IsSound};
 ghost use Rattle.fws_place.specs.ByAck.{acknowledges_as, arrives_at, is_found, AreAheadAt};
 ghost use Rattle.fws_tree.specs.Plain.{value};
 
-use crate::by_ack::{acknowledging_in, arriving_in, false_in, false_near};
-use crate::drops_ahead_of_lookup::true_in_both;
-use crate::kept_in::kept_in;
-use fws_box::Point;
+use crate::by_ack::{acknowledging_in, arriving_in, false_near};
+use fws_box::{Field, Point};
 use fws_iv::{Ivs, one};
 use fws_net::{Site, local_set};
 use fws_num::Memory;
 use fws_tree::Tree;
+use fws_truth::{kept_in, without};
 use std::alloc::Global;
 
 // The number of TCP.
@@ -37,18 +36,8 @@ fn found_in(alloc: Global, site: &Site, tree: &Tree<bool>) -> Result<Tree<bool>,
     ensures tops { IfOk result (λ t. t.0 ≡ tops_of site.now) }
     ensures value { IfOk result (λ t. (q : List ℕ) → IsWithin (tops_of site.now) q → value t.1 q ≡ (if nat_eq (slice_index q 1) 6 && is_found site.now (slice_index q 2) then value tree.now.1 q else Some false)) }
 {
-    let found = kept_in(alloc, tree, 2, found_set(alloc, site)?, false)?;
-    kept_in(alloc, &found, 1, one(alloc, TCP, TCP)?, false)
-}
-
-// The tree that is true where the one tree is true and the other false.
-fn true_alone(alloc: Global, sometimes: &Tree<bool>, new: &Tree<bool>) -> Result<Tree<bool>, Memory>
-    requires { new.now.0 ≡ sometimes.now.0 }
-    ensures tops { IfOk result (λ t. t.0 ≡ sometimes.now.0) }
-    ensures value { IfOk result (λ t. (q : List ℕ) → IsWithin sometimes.now.0 q → (a : Bool) × (b : Bool) × (value sometimes.now.1 q ≡ Some a) × (value new.now.1 q ≡ Some b) × (value t.1 q ≡ Some (a && not b))) }
-{
-    let dropped = false_in(alloc, new)?;
-    true_in_both(alloc, sometimes, &dropped)
+    let found = kept_in(alloc, tree, Field::Dst, found_set(alloc, site)?, false)?;
+    kept_in(alloc, &found, Field::Proto, one(alloc, TCP, TCP)?, false)
 }
 
 // The tree that is true where this one is and packets arrive, are of TCP and aren't lost.
@@ -75,7 +64,7 @@ fn first_of(
     ensures tops { IfOk result (λ t. t.0 ≡ tops_of site.now) }
     ensures value { IfOk result (λ t. (q : List ℕ) → IsWithin (tops_of site.now) q → (a : Bool) × (b : Bool) × (value sometimes.now.1 q ≡ Some a) × (value new.now.1 q ≡ Some b) × (value t.1 q ≡ (if arrives_at q && (nat_eq (slice_index q 1) 6 && is_found site.now (slice_index q 2)) then Some (a && not b) else Some false))) }
 {
-    let both = true_alone(alloc, sometimes, new)?;
+    let both = without(alloc, sometimes, new)?;
     arriving_found(alloc, site, &both)
 }
 

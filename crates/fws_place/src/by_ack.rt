@@ -8,38 +8,17 @@ ghost use Rattle.fws_place.specs.ByAck.{acknowledges_as, arrives_at, AreFalseNea
 ghost use Rattle.fws_tree.specs.Plain.{value};
 
 use crate::ack_flags::ack_flags;
-use crate::kept_in::kept_in;
 use crate::true_near::true_together;
-use fws_box::Point;
+use fws_box::{Field, Point};
 use fws_iv::one;
 use fws_net::{Site, tops};
 use fws_num::Memory;
-use fws_tree::{Relabelling, Tree};
+use fws_tree::Tree;
+use fws_truth::{kept_in, negated};
 use std::alloc::Global;
 
 // The field of flags, by its bit.
 const FLAGS_ALONE: u16 = 0x40;
-
-/// The other truth value.
-struct Not;
-
-impl Relabelling<bool, bool> for Not {
-    ghost use Rattle.std.specs.Prelude.{not};
-
-    ghost gives = { λ s leaf. not leaf };
-
-    fn leaf(&self, _alloc: Global, leaf: &bool) -> Result<bool, Memory> {
-        Ok(!*leaf)
-    }
-}
-
-/// The tree that is true where this one is false. An error is want of memory.
-pub(crate) fn false_in(alloc: Global, tree: &Tree<bool>) -> Result<Tree<bool>, Memory>
-    ensures tops { IfOk result (λ t. t.0 ≡ tree.now.0) }
-    ensures value { IfOk result (λ t. (q : List ℕ) → IsWithin tree.now.0 q → (b : Bool) × (value tree.now.1 q ≡ Some b) × (value t.1 q ≡ Some (not b))) }
-{
-    tree.relabel(alloc, &Not)
-}
 
 /// The tree that is true where this one is at packets that arrive. An error is want of memory.
 pub(crate) fn arriving_in(
@@ -53,7 +32,7 @@ pub(crate) fn arriving_in(
     ensures value { IfOk result (λ t. (q : List ℕ) → IsWithin (tops_of site.now) q → value t.1 q ≡ (if arrives_at q then value tree.now.1 q else Some false)) }
 {
     let entries = one(alloc, 1, tops(site)[0])?;
-    kept_in(alloc, tree, 0, entries, false)
+    kept_in(alloc, tree, Field::Entry, entries, false)
 }
 
 /// The tree that is true where this one is and flags have ACK or RST, or neither, as it is asked. An error is want of
@@ -69,7 +48,7 @@ pub(crate) fn acknowledging_in(
     ensures value { IfOk result (λ t. (q : List ℕ) → IsWithin (tops_of site.now) q → value t.1 q ≡ (if acknowledges_as asked (slice_index q 6) then value tree.now.1 q else Some false)) }
 {
     let flags = ack_flags(alloc, asked)?;
-    kept_in(alloc, tree, 6, flags, false)
+    kept_in(alloc, tree, Field::Flags, flags, false)
 }
 
 // The tree that is true where this one is at packets that arrive and have ACK or RST, or neither, as it is asked.
@@ -99,7 +78,7 @@ fn false_with(
     ensures tops { IfOk result (λ t. t.0 ≡ tops_of site.now) }
     ensures value { IfOk result (λ t. (q : List ℕ) → IsWithin (tops_of site.now) q → (b : Bool) × (value tree.now.1 q ≡ Some b) × (value t.1 q ≡ (if acknowledges_as asked (slice_index q 6) then Some (not b) else Some false))) }
 {
-    let other = false_in(alloc, tree)?;
+    let other = negated(alloc, tree)?;
     acknowledging_in(alloc, site, &other, asked)
 }
 

@@ -22,6 +22,7 @@ use fws_iv::{Ivs, one};
 use fws_net::{Site, local_set, tops};
 use fws_num::Memory;
 use fws_tree::{Relabelling, Row, Tables, Tree, from_rows};
+use fws_truth::both;
 use std::alloc::Global;
 
 /// The sides of the host's packets. An error is want of memory.
@@ -144,19 +145,6 @@ impl Relabelling<(bool, (bool, bool)), bool> for DroppedWithEither {
     }
 }
 
-/// Whether both truth values are true.
-struct Both;
-
-impl Relabelling<(bool, bool), bool> for Both {
-    ghost use Rattle.std.specs.Prelude.{◌&&◌};
-
-    ghost gives = { λ s leaf. leaf.0 && leaf.1 };
-
-    fn leaf(&self, _alloc: Global, leaf: &(bool, bool)) -> Result<bool, Memory> {
-        Ok(leaf.0 && leaf.1)
-    }
-}
-
 /// The tree whose values are those of three. An error is want of memory.
 pub(crate) fn together(
     alloc: Global,
@@ -187,20 +175,6 @@ fn dropped_with_either(
 {
     let all = together(alloc, accepted, first, second)?;
     all.relabel(alloc, &DroppedWithEither)
-}
-
-/// The tree that is true where both are. An error is want of memory.
-pub(crate) fn true_in_both(
-    alloc: Global,
-    first: &Tree<bool>,
-    second: &Tree<bool>,
-) -> Result<Tree<bool>, Memory>
-    requires { second.now.0 ≡ first.now.0 }
-    ensures tops { IfOk result (λ t. t.0 ≡ first.now.0) }
-    ensures value { IfOk result (λ t. (q : List ℕ) → IsWithin first.now.0 q → (a : Bool) × (b : Bool) × (value first.now.1 q ≡ Some a) × (value second.now.1 q ≡ Some b) × (value t.1 q ≡ Some (a && b))) }
-{
-    let pairs = first.pair(alloc, second)?;
-    pairs.relabel(alloc, &Both)
 }
 
 // The tree that tells of each pair whether it is dropped, though one that looks like it is accepted, or the new packet
@@ -341,7 +315,7 @@ fn breaking_of_passing(
     ensures tops { IfOk result (λ t. t.0 ≡ tops_of site.now) }
     ensures tells { IfOk result (λ t. Tells site.now (λ p r. (passes site.now p r ≡ true) × BreaksAheadOfLookup site.now tables.now p r) t.1) }
 {
-    let seen = true_in_both(alloc, dropped, behind)?;
+    let seen = both(alloc, dropped, behind)?;
     passing_of(alloc, site, tables, &seen)
 }
 

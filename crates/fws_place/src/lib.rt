@@ -26,7 +26,6 @@ mod keeps_delivered_sources;
 mod keeps_destinations;
 mod keeps_host_destinations;
 mod keeps_source_ports;
-mod kept_in;
 mod laws;
 mod lost;
 mod named_two;

@@ -11,13 +11,14 @@ ghost use Rattle.fws_tree.specs.Plain.{value};
 ghost use Rattle.fws_tree.specs.Regular.{AreRegular};
 
 use crate::crossing::{inside_entries, outside_set};
-use crate::kept_in::kept_in;
 use crate::one_end::{Alone, Compared, end_alone};
 use crate::written_into::written_into;
+use fws_box::Field;
 use fws_iv::Ivs;
 use fws_net::{Outcome, Site};
 use fws_num::Memory;
 use fws_tree::{Relabelling, Tables, Tree};
+use fws_truth::{either, kept_in};
 use std::alloc::Global;
 
 // The destinations with which packets of the outcome end with an address that is sent to the outside.
@@ -42,7 +43,7 @@ fn coming_with(
     ensures value { IfOk result (λ t. (q : List ℕ) → IsWithin outcomes.now.0 q → (b : Bool) × ((b ≡ true) ↔ (value outcomes.now.1 q ≡ Some outcome.now)) × (value t.1 q ≡ (if has entries.now (slice_index q 0) then Some b else Some false))) }
 {
     let such = outcomes.select(alloc, outcome)?;
-    kept_in(alloc, &such, 0, entries.copy(alloc)?, false)
+    kept_in(alloc, &such, Field::Entry, entries.copy(alloc)?, false)
 }
 
 // The tree that is true where the outcome is this one and packets go from the inside to the outside.
@@ -62,7 +63,7 @@ fn going_with(
 {
     let coming = coming_with(alloc, outcomes, outcome, inside)?;
     let set = destinations(alloc, site, outside, outcome)?;
-    kept_in(alloc, &coming, 2, set, false)
+    kept_in(alloc, &coming, Field::Dst, set, false)
 }
 
 /// No leaf.
@@ -76,33 +77,6 @@ impl Relabelling<Outcome, bool> for Never {
     fn leaf(&self, _alloc: Global, _leaf: &Outcome) -> Result<bool, Memory> {
         Ok(false)
     }
-}
-
-/// Whether one of two truth values is true.
-struct Either;
-
-impl Relabelling<(bool, bool), bool> for Either {
-    ghost use Rattle.std.specs.Prelude.{◌||◌};
-
-    ghost gives = { λ s leaf. leaf.0 || leaf.1 };
-
-    fn leaf(&self, _alloc: Global, leaf: &(bool, bool)) -> Result<bool, Memory> {
-        Ok(leaf.0 || leaf.1)
-    }
-}
-
-// The tree that is true where one of both is.
-fn true_in_either(
-    alloc: Global,
-    first: &Tree<bool>,
-    second: &Tree<bool>,
-) -> Result<Tree<bool>, Memory>
-    requires { second.now.0 ≡ first.now.0 }
-    ensures tops { IfOk result (λ t. t.0 ≡ first.now.0) }
-    ensures value { IfOk result (λ t. (q : List ℕ) → IsWithin first.now.0 q → (a : Bool) × (b : Bool) × (value first.now.1 q ≡ Some a) × (value second.now.1 q ≡ Some b) × (value t.1 q ≡ Some (a || b))) }
-{
-    let pairs = first.pair(alloc, second)?;
-    pairs.relabel(alloc, &Either)
 }
 
 // The tree that is true where this one is, and where the outcome is this one and packets go from the inside to the outside.
@@ -123,7 +97,7 @@ fn with_going(
     ensures value { IfOk result (λ t. (q : List ℕ) → IsWithin (tops_of site.now) q → (a : Bool) × (b : Bool) × (value all.now.1 q ≡ Some a) × ((b ≡ true) ↔ ((value outcomes.now.1 q ≡ Some outcome.now) × (goes_out site.now outcome.now q ≡ true))) × (value t.1 q ≡ Some (a || b))) }
 {
     let such = going_with(alloc, site, outcomes, outcome, inside, outside)?;
-    true_in_either(alloc, all, &such)
+    either(alloc, all, &such)
 }
 
 // The tree that is true where packets of the outcomes go from the inside to the outside. The work is that of a few changes

@@ -7,12 +7,12 @@ ghost use Rattle.fws_place.specs.Found.{IsTrueAt};
 ghost use Rattle.fws_tree.specs.Changed.{is_free, Agree};
 ghost use Rattle.fws_tree.specs.Plain.{value};
 
-use crate::drops_ahead_of_lookup::true_in_both;
 use crate::first_true::first_true;
 use fws_box::{Point, no_sides};
 use fws_iv::{Ivs, one};
 use fws_num::Memory;
 use fws_tree::Tree;
+use fws_truth::both;
 use std::alloc::Global;
 
 // Whether the bit of one of the twelve fields is set.
@@ -77,7 +77,7 @@ fn first_together(
     ensures value { IfOk result (λ t. (p : List ℕ) → IsWithin first.now.0 p → (value t.1 p ≡ Some true) ↔ IsFirstNear fields first.now.0 first.now.1 second.now.1 p) }
 {
     let somewhere = second.exists(alloc, fields)?;
-    true_in_both(alloc, first, &somewhere)
+    both(alloc, first, &somewhere)
 }
 
 // The first of two such points, if there are any.

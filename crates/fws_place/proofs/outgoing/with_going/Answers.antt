@@ -19,7 +19,7 @@ returns-clause-value c =
     let Q : List ℕ × Plain Bool → Type 0
     = λ t. (q : List ℕ) → IsWithin (tops_of site) q → (a : Bool) × (b : Bool) × (value all.1 q ≡ Some a) × ((b ≡ true) ↔ ((value outcomes.1 q ≡ Some o) × (goes_out site o q ≡ true)))
     × (value t.1 q ≡ Some (a || b)) in
-    IfOk-weaker c.true_in_either.result P Q
+    IfOk-weaker c.either.result P Q
     (λ t h q w. with_such site o q (value outcomes.1 q) (value all.1 q) (value such.1 q) (value t.1 q) (c.in_ok-such.ensures.value q w)
     (h q (subst (λ (ts : List ℕ). IsWithin ts q) (sym c.requires.all) w)))
-    c.true_in_either.ensures.value
+    c.either.ensures.value

@@ -16,4 +16,4 @@ returns-clause-value c =
     let near : TellsNear fields first.0 second.1 somewhere.1 = subst (λ (ts : List ℕ). TellsNear fields ts second.1 somewhere.1) c.requires c.in_ok-somewhere.ensures.value in
     let P : List ℕ × Plain Bool → Type 0 = λ t. IsBoth first.0 first.1 somewhere.1 t.1 in
     let Q : List ℕ × Plain Bool → Type 0 = λ t. (p : List ℕ) → IsWithin first.0 p → (value t.1 p ≡ Some true) ↔ IsFirstNear fields first.0 first.1 second.1 p in
-    IfOk-weaker c.true_in_both.result P Q (λ t h. first_both fields first.0 first.1 second.1 somewhere.1 t.1 near h) c.true_in_both.ensures.value
+    IfOk-weaker c.both.result P Q (λ t h. first_both fields first.0 first.1 second.1 somewhere.1 t.1 near h) c.both.ensures.value

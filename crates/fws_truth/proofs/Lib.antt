@@ -1,0 +1,2 @@
+pub mod FieldSides
+pub mod Joined
