@@ -8,7 +8,7 @@ ghost use Rattle.fws_ios_cover.specs.Classes.{IsPart};
 ghost use Rattle.fws_ios_cover.specs.Inside.{IsInside};
 
 use crate::class::{Class, keeps, protocols};
-use fws_box::whole_sides;
+use fws_box::{Field, whole_sides};
 use fws_iv::Ivs;
 use fws_num::Memory;
 use fws_tree::{Row, Tree};
@@ -25,7 +25,10 @@ pub(crate) fn part_of(
     ensures { IfOk result (IsPart class tops.now sides.now) }
 {
     let mut part = whole_sides(alloc, tops)?;
-    part[1] = sides[1].inter(alloc, &protocols(alloc, class)?)?;
+    part[Field::Proto as usize] = sides[Field::Proto as usize].inter(
+        alloc,
+        &protocols(alloc, class)?,
+    )?;
     for f in 2..8 {
         if keeps(class, f) {
             part[f] = sides[f].copy(alloc)?;

@@ -11,6 +11,7 @@ use crate::boxes::part_of;
 use crate::class::{Class, is_tcp};
 use crate::kept::put_paths;
 use crate::widening::widest;
+use fws_box::Field;
 use fws_ios_path::Path;
 use fws_iv::Ivs;
 use fws_net::{Site, tops};
@@ -35,7 +36,7 @@ fn class_paths(
 {
     let tops = tops(site);
     let part = part_of(alloc, &tops, sides, class)?;
-    if part[1].is_empty() {
+    if part[Field::Proto as usize].is_empty() {
         return Ok(Items::new(alloc));
     }
     let wide = widest(alloc, within, &tops, part, is_tcp(class))?;

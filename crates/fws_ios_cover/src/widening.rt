@@ -5,7 +5,7 @@ ghost use Rattle.fws_ios_cover.specs.Inside.{asks_details, IsWidened, Widens};
 
 use crate::asking::is_whole;
 use crate::boxes::lies_inside;
-use fws_box::copy_sides;
+use fws_box::{Field, copy_sides};
 use fws_iv::{Ivs, one};
 use fws_num::Memory;
 use fws_tree::Tree;
@@ -44,9 +44,9 @@ fn without_details(
     requires { within.now.0 ≡ tops.now }
     ensures { IfOk result (λ new. (established : Bool) → Widens established tops.now within.now.1 sides new) }
 {
-    let sides = widened(alloc, within, tops, sides, 3)?;
-    let sides = widened(alloc, within, tops, sides, 5)?;
-    let sides = widened(alloc, within, tops, sides, 7)?;
+    let sides = widened(alloc, within, tops, sides, Field::Dport as usize)?;
+    let sides = widened(alloc, within, tops, sides, Field::Sport as usize)?;
+    let sides = widened(alloc, within, tops, sides, Field::Icmp as usize)?;
     Ok(sides)
 }
 
@@ -54,7 +54,9 @@ fn without_details(
 fn asks_details(sides: &[Ivs; 12]) -> bool
     ensures { result ≡ asks_details sides.now }
 {
-    !is_whole(&sides[3], 65535) || !is_whole(&sides[5], 65535) || !is_whole(&sides[7], 255)
+    !is_whole(&sides[Field::Dport as usize], 65535)
+        || !is_whole(&sides[Field::Sport as usize], 65535)
+        || !is_whole(&sides[Field::Icmp as usize], 255)
 }
 
 // The box without the protocol, where nothing stands on it and the box stays in the set.
@@ -74,7 +76,7 @@ fn without_proto(
     if asks_details(&sides) {
         return Ok(sides);
     }
-    widened(alloc, within, tops, sides, 1)
+    widened(alloc, within, tops, sides, Field::Proto as usize)
 }
 
 // The box without addresses, where it stays in the set.
@@ -87,8 +89,8 @@ fn without_addresses(
     requires { within.now.0 ≡ tops.now }
     ensures { IfOk result (λ new. (established : Bool) → Widens established tops.now within.now.1 sides new) }
 {
-    let sides = widened(alloc, within, tops, sides, 2)?;
-    let sides = widened(alloc, within, tops, sides, 4)?;
+    let sides = widened(alloc, within, tops, sides, Field::Dst as usize)?;
+    let sides = widened(alloc, within, tops, sides, Field::Src as usize)?;
     Ok(sides)
 }
 

@@ -1,6 +1,7 @@
 -- What packets that come in by an entry are permitted, as lists can ask for it.
-use Rattle.std.specs.Prelude.{◌≡◌, ◌≢◌, ◌↔◌, ℕ, Bool, true, false, ◌&&◌, ◌||◌, not, nat_eq, List, slice_index, unwrap_or, Some, if◌then◌else◌}
+use Rattle.std.specs.Prelude.{◌≡◌, ◌≢◌, ◌↔◌, ℕ, Bool, true, false, ◌&&◌, ◌||◌, not, nat_eq, List, unwrap_or, Some, if◌then◌else◌}
 use Rattle.fws_box.specs.Sides.{IsWithin}
+use Rattle.fws_box.specs.declared.field.Field.TheVariants as fields
 use Rattle.fws_net.specs.declared.connection.Rec.{Rec}
 use Rattle.fws_net.specs.declared.exit.Exit.TheVariants.{Lost}
 use Rattle.fws_net.specs.declared.packet.Packet.{Packet}
@@ -17,6 +18,7 @@ use Rattle.fws_place.specs.Meaning.{IsPairOf, new_of, point_of, rec_of}
 use Rattle.fws_place.specs.Rewritings.{is_accepted}
 use Rattle.fws_place.specs.Seen.{IsAcceptedSomewhere, Tells}
 use Rattle.fws_ios_put.specs.declared.choices.Choices.{Choices}
+use Rattle.fws_box.specs.Fields.{value_of}
 
 -- Trees
 
@@ -32,11 +34,11 @@ pub record IsAskable (site : Site) (t : List ℕ × Plain Bool) : Type 0 where
 
 -- the point is one of TCP
 abbrev pub is_tcp : List ℕ → Bool
-is_tcp x = nat_eq (slice_index x 1) 6
+is_tcp x = nat_eq (value_of x fields.Proto) 6
 
 -- packets that arrive with the point's destination are lost
 abbrev pub is_stray : Site → List ℕ → Bool
-is_stray site x = not site.forwarding && not (is_local site (slice_index x 2))
+is_stray site x = not site.forwarding && not (is_local site (value_of x fields.Dst))
 
 -- the point with this entry and these flags
 abbrev pub framed : ℕ → ℕ → List ℕ → List ℕ

@@ -1,7 +1,8 @@
 //! Trees of truth values for packets of one kind.
 
-ghost use Rattle.std.specs.Prelude.{◌≡◌, ◌&&◌, not, ◌+◌, ◌-◌, ◌^◌, ◌≤◌, ℕ, false, Some, length, slice_index, List, [], ◌∷◌, if◌then◌else◌, IfOk};
+ghost use Rattle.std.specs.Prelude.{◌≡◌, ◌&&◌, not, ◌+◌, ◌-◌, ◌^◌, ◌≤◌, ℕ, false, Some, length, List, [], ◌∷◌, if◌then◌else◌, IfOk};
 ghost use Rattle.fws_box.specs.Sides.{IsWithin, sides_have};
+ghost use Rattle.fws_box.specs.declared.field.Field.TheVariants as fields;
 ghost use Rattle.fws_iv.specs.Ivs.{has};
 ghost use Rattle.fws_net.specs.Points.{tops_of};
 ghost use Rattle.fws_net.specs.Routes.{is_local, IsSound};
@@ -9,12 +10,14 @@ ghost use Rattle.fws_sight.specs.declared.seen.Seen.TheVariants.{Entered};
 ghost use Rattle.fws_sight.specs.Shown.{IsTold};
 ghost use Rattle.fws_tree.specs.Plain.{value};
 ghost use Rattle.fws_ios_put.specs.Choices.{framed, is_stray, is_tcp, truth, IsAskable, IsNowhere};
+ghost use Rattle.fws_box.specs.Fields.{value_of};
 
-use fws_box::whole_sides;
+use fws_box::{Field, whole_sides};
 use fws_iv::{Ivs, one};
 use fws_net::{Site, local_set, tops};
 use fws_num::Memory;
 use fws_tree::Tree;
+use fws_truth::fields::{ALL, ENTRY, FLAGS};
 use std::alloc::Global;
 
 /// The tree that is this one at points of TCP and false elsewhere. An error is want of memory.
@@ -26,7 +29,7 @@ pub(crate) fn of_tcp(alloc: Global, site: &Site, tree: &Tree<bool>) -> Result<Tr
 {
     let tops = tops(site);
     let mut sides = whole_sides(alloc, &tops)?;
-    sides[1] = one(alloc, 6, 6)?;
+    sides[Field::Proto as usize] = one(alloc, 6, 6)?;
     let part = tree.restrict(alloc, &sides, false)?;
     Ok(part)
 }
@@ -51,23 +54,23 @@ pub(crate) fn of_strays(alloc: Global, site: &Site, tree: &Tree<bool>) -> Result
 {
     let tops = tops(site);
     let mut sides = whole_sides(alloc, &tops)?;
-    sides[2] = stray_set(alloc, site)?;
+    sides[Field::Dst as usize] = stray_set(alloc, site)?;
     let part = tree.restrict(alloc, &sides, false)?;
     Ok(part)
 }
 
 // The fields of the entry and of flags.
-const ENTRY_AND_FLAGS: u16 = 0x41;
+const ENTRY_AND_FLAGS: u16 = ENTRY | FLAGS;
 
 // The sides of the points with this entry and these flags. An error is want of memory.
 fn framed_sides(alloc: Global, site: &Site, entry: u8, flags: u8) -> Result<[Ivs; 12], Memory>
     requires { IsSound site.now }
-    ensures { IfOk result (λ sides. (q : List ℕ) → IsWithin (tops_of site.now) q → sides_have sides q ≡ (has (record { lo = entry; hi = entry } ∷ []) (slice_index q 0) && has (record { lo = flags; hi = flags } ∷ []) (slice_index q 6))) }
+    ensures { IfOk result (λ sides. (q : List ℕ) → IsWithin (tops_of site.now) q → sides_have sides q ≡ (has (record { lo = entry; hi = entry } ∷ []) (value_of q fields.Entry) && has (record { lo = flags; hi = flags } ∷ []) (value_of q fields.Flags))) }
 {
     let tops = tops(site);
     let mut sides = whole_sides(alloc, &tops)?;
-    sides[0] = one(alloc, entry as u32, entry as u32)?;
-    sides[6] = one(alloc, flags as u32, flags as u32)?;
+    sides[Field::Entry as usize] = one(alloc, entry as u32, entry as u32)?;
+    sides[Field::Flags as usize] = one(alloc, flags as u32, flags as u32)?;
     Ok(sides)
 }
 
@@ -82,7 +85,7 @@ fn framed_part(
     requires sound { IsSound site.now }
     requires tops { tree.now.0 ≡ tops_of site.now }
     ensures tops { IfOk result (λ t. t.0 ≡ tree.now.0) }
-    ensures value { IfOk result (λ t. (q : List ℕ) → IsWithin (tops_of site.now) q → value t.1 q ≡ (if has (record { lo = entry; hi = entry } ∷ []) (slice_index q 0) && has (record { lo = flags; hi = flags } ∷ []) (slice_index q 6) then value tree.now.1 q else Some false)) }
+    ensures value { IfOk result (λ t. (q : List ℕ) → IsWithin (tops_of site.now) q → value t.1 q ≡ (if has (record { lo = entry; hi = entry } ∷ []) (value_of q fields.Entry) && has (record { lo = flags; hi = flags } ∷ []) (value_of q fields.Flags) then value tree.now.1 q else Some false)) }
 {
     let sides = framed_sides(alloc, site, entry, flags)?;
     tree.restrict(alloc, &sides, false)
@@ -109,14 +112,11 @@ pub(crate) fn fixed(
     Ok(fixed)
 }
 
-// All twelve fields.
-const ALL_FIELDS: u16 = 0xfff;
-
 /// Whether the tree is true at some point of the site. An error is want of memory.
 pub(crate) fn is_somewhere(alloc: Global, site: &Site, tree: &Tree<bool>) -> Result<bool, Memory>
     requires { tree.now.0 ≡ tops_of site.now }
     ensures { IfOk result (λ b. b ≡ false → IsNowhere site.now tree.now.1) }
 {
-    let all = tree.exists(alloc, ALL_FIELDS)?;
+    let all = tree.exists(alloc, ALL)?;
     Ok(*all.lookup(&[0; 12]))
 }

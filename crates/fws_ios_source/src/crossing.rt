@@ -8,7 +8,7 @@ ghost use Rattle.fws_net.specs.Points.{packet_of, tops_of};
 ghost use Rattle.fws_net.specs.Routes.{IsSound};
 
 use crate::sides::{entries_on, sent_outside};
-use fws_box::whole_sides;
+use fws_box::{Field, whole_sides};
 use fws_iv::Ivs;
 use fws_net::{Outcome, Site, tops};
 use fws_num::Memory;
@@ -22,8 +22,8 @@ fn crossing_sides(alloc: Global, site: &Site) -> Result<[Ivs; 12], Memory>
 {
     let tops = tops(site);
     let mut sides = whole_sides(alloc, &tops)?;
-    sides[0] = entries_on(alloc, site, false)?;
-    sides[2] = sent_outside(alloc, site)?;
+    sides[Field::Entry as usize] = entries_on(alloc, site, false)?;
+    sides[Field::Dst as usize] = sent_outside(alloc, site)?;
     Ok(sides)
 }
 

@@ -11,22 +11,12 @@ use fws_net::Outcome;
 use fws_num::Memory;
 use fws_tree::Tree;
 use fws_truth::both;
+use fws_truth::fields::{DPORT, DST, ICMP, PROTO, SPORT, SRC};
 use indexmap::IndexSet;
 use std::alloc::Global;
 
-// The fields that are left out one after another, each where what is permitted stays apart from what is denied: the type of
-// ICMP, the ports of the source and of the destination, the protocol with all of these, and the addresses.
-const ICMP: u16 = 0x80;
-
-const SPORT: u16 = 0x20;
-
-const DPORT: u16 = 0x8;
-
-const PROTO: u16 = 0xaa;
-
-const DST: u16 = 0x4;
-
-const SRC: u16 = 0x10;
+// The protocol is left out with all fields that only some protocols have.
+const PROTO_WITH_DETAILS: u16 = PROTO | DPORT | SPORT | ICMP;
 
 // Whether one of the leaves is true.
 fn has_true(leaves: &[bool]) -> bool
@@ -107,7 +97,9 @@ fn left_out(alloc: Global, sets: Parted, fields: u16) -> Result<Parted, Memory>
     }
 }
 
-// The sets without tests of fields that needn't be tested. An error is want of memory.
+// The sets without tests of fields that needn't be tested. Fields are left out one after another, each where what is permitted
+// stays apart from what is denied: the type of ICMP, the ports of the source and of the destination, the protocol with all of
+// these, and the addresses. An error is want of memory.
 fn freed(alloc: Global, sets: Parted) -> Result<Parted, Memory>
     requires { IsParted sets }
     ensures parted { IfOk result IsParted }
@@ -116,7 +108,7 @@ fn freed(alloc: Global, sets: Parted) -> Result<Parted, Memory>
     let sets = left_out(alloc, sets, ICMP)?;
     let sets = left_out(alloc, sets, SPORT)?;
     let sets = left_out(alloc, sets, DPORT)?;
-    let sets = left_out(alloc, sets, PROTO)?;
+    let sets = left_out(alloc, sets, PROTO_WITH_DETAILS)?;
     let sets = left_out(alloc, sets, DST)?;
     let sets = left_out(alloc, sets, SRC)?;
     Ok(sets)

@@ -6,11 +6,12 @@ ghost use Rattle.fws_ios_source.specs.Picking.{is_at, is_picked, place_in, place
 use fws_net::{Outcome, Rewrite};
 use fws_num::Memory;
 use fws_tree::{Relabelling, Tree};
+use fws_truth::fields::{ENTRY, FLAGS};
 use indexmap::IndexSet;
 use std::alloc::Global;
 
 // The entry and the flags, of which no list asks here.
-const ENTRY_AND_FLAGS: u16 = 0x41;
+const ENTRY_AND_FLAGS: u16 = ENTRY | FLAGS;
 
 // The place of the list that gives an address.
 fn place_in(addrs: &IndexSet<u32>, addr: u32) -> usize

@@ -1,6 +1,7 @@
 -- The rules ahead of the look-up of connections, which drop what is dropped of these.
-use Rattle.std.specs.Prelude.{◌≡◌, ◌⊎◌, ℕ, Bool, true, ◌&&◌, ◌||◌, not, nat_eq, Some, List, [], ◌++◌, slice_index, if◌then◌else◌}
+use Rattle.std.specs.Prelude.{◌≡◌, ◌⊎◌, ℕ, Bool, true, ◌&&◌, ◌||◌, not, nat_eq, Some, List, [], ◌++◌, if◌then◌else◌}
 use Rattle.fws_box.specs.Sides.{IsWithin}
+use Rattle.fws_box.specs.declared.field.Field.TheVariants as fields
 use Rattle.fws_net.specs.declared.site.Site.{Site}
 use Rattle.fws_net.specs.Points.{tops_of}
 use Rattle.fws_net.specs.Routes.{is_local}
@@ -11,10 +12,11 @@ use Rattle.fws_ipfw_tree.specs.declared.choice.Section.{Section}
 use Rattle.fws_ipfw_tree.specs.Lists.{IsList}
 use Rattle.fws_sight.specs.SightLaws.{HasImages}
 use Rattle.fws_ipfw_put.specs.Layout.{known_arriving, known_forwarded, known_sent, leaving_rules, passing}
+use Rattle.fws_box.specs.Fields.{value_of}
 
 -- the pair of a point arrives and makes no out pass: it is delivered or lost
 abbrev pub is_unmet : Site → List ℕ → Bool
-is_unmet site x = not (nat_eq (slice_index x 0) 0) && (is_local site (slice_index x 8) || not site.forwarding)
+is_unmet site x = not (nat_eq (value_of x fields.Entry) 0) && (is_local site (value_of x fields.SentDst) || not site.forwarding)
 
 -- rules of a section that choose for each packet what is made of the value of a tree
 pub record IsImageList {L : Type 0} (site : Site) (section : Section) (gives : L → Choice) (t : Plain L) (block : List IpfwRule) : Type 0 where

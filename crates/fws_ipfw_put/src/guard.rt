@@ -16,7 +16,7 @@ ghost use Rattle.fws_ipfw_put.specs.Layout.{passing};
 use crate::choices::Passing;
 use crate::rules::put_leaving;
 use crate::sections::{KNOWN_ARRIVING, KNOWN_FORWARDED, KNOWN_SENT};
-use fws_box::whole_sides;
+use fws_box::{Field, whole_sides};
 use fws_ipfw::IpfwRule;
 use fws_ipfw_tree::{Choice, Section, put_list};
 use fws_iv::{Ivs, one};
@@ -44,8 +44,8 @@ fn unmet_sides(alloc: Global, site: &Site) -> Result<[Ivs; 12], Memory>
 {
     let tops = tops(site);
     let mut sides = whole_sides(alloc, &tops)?;
-    sides[0] = one(alloc, 1, tops[0])?;
-    sides[8] = unmet_destinations(alloc, site)?;
+    sides[Field::Entry as usize] = one(alloc, 1, tops[Field::Entry as usize])?;
+    sides[Field::SentDst as usize] = unmet_destinations(alloc, site)?;
     Ok(sides)
 }
 

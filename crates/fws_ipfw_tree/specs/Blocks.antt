@@ -1,5 +1,5 @@
 -- Blocks of rules that decide on packets.
-use Rattle.std.specs.Prelude.{◌≡◌, ◌≢◌, ℕ, ◌≤◌, ◌<◌, Bool, true, false, ◌&&◌, not, nat_le, nat_lt, Option, Some, List, ◌++◌, length, All, slice_get, slice_index}
+use Rattle.std.specs.Prelude.{◌≡◌, ◌≢◌, ℕ, ◌≤◌, ◌<◌, Bool, true, false, ◌&&◌, not, nat_le, nat_lt, Option, Some, List, ◌++◌, length, All, slice_get}
 use Rattle.std.specs.List.{list_all, list_any}
 use Rattle.std.specs.Option.{option_map_or}
 use Rattle.fws_net.specs.declared.condition.Lit.{Lit}
@@ -12,6 +12,7 @@ use Rattle.fws_net.specs.Conditions.{holds}
 use Rattle.fws_net.specs.Connections.{is_est}
 use Rattle.fws_net.specs.Points.{tops_of}
 use Rattle.fws_net.specs.Showing.{receiving}
+use Rattle.fws_box.specs.declared.field.Field.TheVariants as fields
 use Rattle.fws_ipfw.specs.declared.config.IpfwConfig.{IpfwConfig}
 use Rattle.fws_ipfw.specs.declared.config.IpfwNat.{IpfwNat}
 use Rattle.fws_ipfw.specs.declared.config.IpfwRule.{IpfwRule}
@@ -36,6 +37,7 @@ use Rattle.fws_ipfw_tree.specs.Lists.{act_of, tag_of, fits_at, is_of, is_plain}
 use Rattle.fws_ipfw_tree.specs.Literals.{has_place, holds_or_none, is_printed_at}
 use Rattle.fws_ipfw_tree.specs.Pieces.{place_at}
 use Rattle.fws_ipfw_tree.specs.Turns.{Leads}
+use Rattle.fws_box.specs.Fields.{value_of}
 
 -- What packets do
 
@@ -44,7 +46,7 @@ pub record IsFine (tops : List ℕ) (section : Section) (v : View) : Type 0 wher
   pub topped : IsTopped tops section.seen v.packet
   pub shown : v.recv ≡ receiving v.packet
   pub origin : is_of section.origin v.packet ≡ true
-  pub entry : v.packet.entry ≤ slice_index tops 0
+  pub entry : v.packet.entry ≤ value_of tops fields.Entry
 
 -- no rule of the block lets a packet of the class pass whatever its condition says
 abbrev pub lets_through : Kind → List IpfwRule → Bool

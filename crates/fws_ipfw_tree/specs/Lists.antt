@@ -1,8 +1,9 @@
 -- Lists of rules that decide what a tree decides.
-use Rattle.std.specs.Prelude.{◌≡◌, ◌⊎◌, ℕ, ◌≤◌, ◌<◌, Bool, true, false, ◌&&◌, ◌||◌, not, nat_eq, nat_le, nat_lt, Option, Some, None, List, ◌++◌, All, slice_index}
+use Rattle.std.specs.Prelude.{◌≡◌, ◌⊎◌, ℕ, ◌≤◌, ◌<◌, Bool, true, false, ◌&&◌, ◌||◌, not, nat_eq, nat_le, nat_lt, Option, Some, None, List, ◌++◌, All}
 use Rattle.std.specs.List.{list_all}
 use Rattle.std.specs.Option.{option_map_or}
 use Rattle.fws_box.specs.Sides.{IsWithin}
+use Rattle.fws_box.specs.declared.field.Field.TheVariants as fields
 use Rattle.fws_net.specs.declared.condition.Lit.{Lit}
 use Rattle.fws_net.specs.declared.connection.Kind.{Kind}
 use Rattle.fws_net.specs.declared.packet.Packet.{Packet}
@@ -26,6 +27,7 @@ use Rattle.fws_ipfw_tree.specs.declared.choice.Choice.TheVariants.{Deny, Allow, 
 use Rattle.fws_ipfw_tree.specs.declared.choice.Origin.{Origin}
 use Rattle.fws_ipfw_tree.specs.declared.choice.Origin.TheVariants.{Arriving, Host}
 use Rattle.fws_ipfw_tree.specs.declared.choice.Section.{Section}
+use Rattle.fws_box.specs.Fields.{value_of}
 
 -- Choices
 
@@ -83,7 +85,7 @@ Decides site tops section t block =
     (c : IpfwConfig) (p : Packet) (k : Kind) (rest : List IpfwRule) (to : ℕ) (m : Pass) (x : List ℕ) (choice : Choice)
     → to ≤ section.number → All (λ r. section.number < r.number) rest
     → (is_est k ≡ false) ⊎ NeverAllows tops t
-    → is_of section.origin m.transit.packet ≡ true → slice_index x 0 ≡ m.transit.packet.entry
+    → is_of section.origin m.transit.packet ≡ true → value_of x fields.Entry ≡ m.transit.packet.entry
     → IsWithin tops x → IsSeenAs section.seen m.transit.packet x → value t x ≡ Some choice
     → rules_walk c site p k section.outward (block ++ rest) to m
     ≡ stepped (rules_walk c site p k section.outward rest)

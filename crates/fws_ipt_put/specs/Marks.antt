@@ -1,10 +1,11 @@
 -- Marks: a number for each rewriting that new packets get, under which a chain of mangle sets it.
-use Rattle.std.specs.Prelude.{◌≡◌, ◌≢◌, ℕ, suc, ◌+◌, ◌≤◌, ◌<◌, ◌^◌, Bool, true, false, ◌&&◌, ◌||◌, nat_eq, nat_lt, is_some, if◌then◌else◌, Option, Some, None, List, [], ◌∷◌, ◌++◌, codes, map, All, slice_get, slice_index, position}
+use Rattle.std.specs.Prelude.{◌≡◌, ◌≢◌, ℕ, suc, ◌+◌, ◌≤◌, ◌<◌, ◌^◌, Bool, true, false, ◌&&◌, ◌||◌, nat_eq, nat_lt, is_some, if◌then◌else◌, Option, Some, None, List, [], ◌∷◌, ◌++◌, codes, map, All, slice_get, position}
 use Rattle.std.specs.Fmt.{decimal}
 use Rattle.std.specs.Option.{option_map_or, option_eq}
 use Rattle.fws_num.specs.declared.prefix.Prefix.{Prefix}
 use Rattle.fws_iv.specs.Prefixes.{IsBlock, some_prefix_has}
 use Rattle.fws_box.specs.Sides.{IsWithin}
+use Rattle.fws_box.specs.declared.field.Field.TheVariants as fields
 use Rattle.fws_net.specs.declared.outcome.End.{End}
 use Rattle.fws_net.specs.declared.outcome.Rewrite.{Rewrite}
 use Rattle.fws_net.specs.declared.outcome.Outcome.{Outcome}
@@ -16,6 +17,7 @@ use Rattle.fws_ipt_tree.specs.declared.verdict.Verdict.{Verdict}
 use Rattle.fws_ipt_tree.specs.declared.verdict.Verdict.TheVariants as verdicts
 use Rattle.fws_ipt_tree.specs.Branches.{mark_rules}
 use Rattle.fws_ipt_put.specs.declared.marks.Mark.{Mark}
+use Rattle.fws_box.specs.Fields.{value_of}
 
 -- Rewritings
 
@@ -76,12 +78,12 @@ is_network end = option_map_or (λ e. nat_lt e.len 32) end false
 
 -- the mark tells of each point at which its rewriting is given where its packets come from, and what they are
 pub record IsMarkOf (tops : List ℕ) (t : Plain Outcome) (mark : Mark) : Type 0 where
-  pub tcp : (p : List ℕ) → IsWithin tops p → value t p ≡ Some (Accept mark.rewrite) → slice_index p 1 ≡ 6 → mark.tcp ≡ true
-  pub udp : (p : List ℕ) → IsWithin tops p → value t p ≡ Some (Accept mark.rewrite) → slice_index p 1 ≡ 17 → mark.udp ≡ true
-  pub arrives : (p : List ℕ) → IsWithin tops p → value t p ≡ Some (Accept mark.rewrite) → slice_index p 0 ≢ 0 → mark.arrives ≡ true
-  pub sends : (p : List ℕ) → IsWithin tops p → value t p ≡ Some (Accept mark.rewrite) → slice_index p 0 ≡ 0 → mark.sends ≡ true
-  pub dst : (p : List ℕ) → IsWithin tops p → value t p ≡ Some (Accept mark.rewrite) → is_network mark.rewrite.dst ≡ true → some_prefix_has mark.dst_blocks (slice_index p 2) ≡ true
-  pub src : (p : List ℕ) → IsWithin tops p → value t p ≡ Some (Accept mark.rewrite) → is_network mark.rewrite.src ≡ true → some_prefix_has mark.src_blocks (slice_index p 4) ≡ true
+  pub tcp : (p : List ℕ) → IsWithin tops p → value t p ≡ Some (Accept mark.rewrite) → value_of p fields.Proto ≡ 6 → mark.tcp ≡ true
+  pub udp : (p : List ℕ) → IsWithin tops p → value t p ≡ Some (Accept mark.rewrite) → value_of p fields.Proto ≡ 17 → mark.udp ≡ true
+  pub arrives : (p : List ℕ) → IsWithin tops p → value t p ≡ Some (Accept mark.rewrite) → value_of p fields.Entry ≢ 0 → mark.arrives ≡ true
+  pub sends : (p : List ℕ) → IsWithin tops p → value t p ≡ Some (Accept mark.rewrite) → value_of p fields.Entry ≡ 0 → mark.sends ≡ true
+  pub dst : (p : List ℕ) → IsWithin tops p → value t p ≡ Some (Accept mark.rewrite) → is_network mark.rewrite.dst ≡ true → some_prefix_has mark.dst_blocks (value_of p fields.Dst) ≡ true
+  pub src : (p : List ℕ) → IsWithin tops p → value t p ≡ Some (Accept mark.rewrite) → is_network mark.rewrite.src ≡ true → some_prefix_has mark.src_blocks (value_of p fields.Src) ≡ true
   pub dst_blocks : AreBlocks mark.rewrite.dst mark.dst_blocks
   pub src_blocks : AreBlocks mark.rewrite.src mark.src_blocks
   pub dst_sound : All IsBlock mark.dst_blocks

@@ -3,6 +3,7 @@
 ghost use Rattle.std.specs.Prelude.{◌≡◌, length, IfOk, OnOk};
 ghost use Rattle.fws_ipt_put.specs.Gathered.{AreUses, Covers, IsWithinSet, PutsRow};
 
+use fws_box::Field;
 use fws_iv::Ivs;
 use fws_net::{Outcome, Rewrite};
 use fws_num::Memory;
@@ -34,10 +35,12 @@ fn with_row(alloc: Global, uses: &Uses, row: &Row<Outcome>) -> Result<Uses, Memo
     let sides = &row.sides[..];
     prove_eq!(sides.len(), 12);
     Ok(Uses {
-        entries: uses.entries.union(alloc, &row.sides[0])?,
-        protos: uses.protos.union(alloc, &row.sides[1])?,
-        dsts: uses.dsts.union(alloc, &row.sides[2])?,
-        srcs: uses.srcs.union(alloc, &row.sides[4])?,
+        entries: uses
+            .entries
+            .union(alloc, &row.sides[Field::Entry as usize])?,
+        protos: uses.protos.union(alloc, &row.sides[Field::Proto as usize])?,
+        dsts: uses.dsts.union(alloc, &row.sides[Field::Dst as usize])?,
+        srcs: uses.srcs.union(alloc, &row.sides[Field::Src as usize])?,
     })
 }
 

@@ -1,7 +1,8 @@
 -- Chains that decide what a tree decides.
-use Rattle.std.specs.Prelude.{◌≡◌, ◌≢◌, ℕ, ◌+◌, ◌≤◌, ◌<◌, Bool, true, List, [], ◌∷◌, ◌++◌, length, All, slice_index}
+use Rattle.std.specs.Prelude.{◌≡◌, ◌≢◌, ℕ, ◌+◌, ◌≤◌, ◌<◌, Bool, true, List, [], ◌∷◌, ◌++◌, length, All}
 use Rattle.std.specs.List.{count_by}
 use Rattle.fws_box.specs.Sides.{IsWithin}
+use Rattle.fws_box.specs.declared.field.Field.TheVariants as fields
 use Rattle.fws_iv.specs.Ivs.{has}
 use Rattle.fws_net.specs.declared.packet.Packet.{Packet}
 use Rattle.fws_net.specs.declared.site.Site.{Site}
@@ -22,6 +23,7 @@ use Rattle.fws_ipt_tree.specs.declared.verdict.Branch.{Branch}
 use Rattle.fws_ipt_tree.specs.declared.verdict.Verdict.{Verdict}
 use Rattle.fws_ipt_tree.specs.declared.verdict.Verdict.TheVariants.{Accept, Drop, Mark}
 use Rattle.std.specs.Prelude.{Some}
+use Rattle.fws_box.specs.Fields.{value_of}
 
 -- how a chain is left for a verdict
 abbrev pub verdict_end : Verdict → Passage → ChainEnd
@@ -60,7 +62,7 @@ Leads tops t seen least before past chains branch =
     (further : List IptChain) (site : Site) (p : Packet) (is_est : Bool) (hook : Hook) (n : ℕ) (path : List ℕ)
     (next : Passage → ChainEnd) (m : Passage) (x : List ℕ) (verdict : Verdict)
     → past < before + n → All (λ c. c < least) path
-    → IsWithin tops x → has branch.entries (slice_index x 0) ≡ true → IsSeenAs seen m.packet x → value t x ≡ Some verdict
+    → IsWithin tops x → has branch.entries (value_of x fields.Entry) ≡ true → IsSeenAs seen m.packet x → value t x ≡ Some verdict
     → act (chain_walk (chains ++ further) site p is_est hook n path) next site p hook branch.go m ≡ verdict_end verdict m
 
 -- each entry up to the top lies in the entries of one branch, and those of a branch are some and lie up to the top

@@ -1,7 +1,8 @@
 -- Blocks of translations that decide on packets.
-use Rattle.std.specs.Prelude.{◌≡◌, ◌⊎◌, ℕ, suc, ◌≤◌, ◌<◌, Bool, true, false, ◌&&◌, not, Some, None, List, [], ◌∷◌, ◌++◌, length, map, drop, All, slice_get, slice_index}
+use Rattle.std.specs.Prelude.{◌≡◌, ◌⊎◌, ℕ, suc, ◌≤◌, ◌<◌, Bool, true, false, ◌&&◌, not, Some, None, List, [], ◌∷◌, ◌++◌, length, map, drop, All, slice_get}
 use Rattle.std.specs.List.{list_all, list_any}
 use Rattle.fws_box.specs.Sides.{IsWithin}
+use Rattle.fws_box.specs.declared.field.Field.TheVariants as fields
 use Rattle.fws_iv.specs.declared.iv.Iv.{Iv}
 use Rattle.fws_net.specs.declared.outcome.Outcome.{Outcome}
 use Rattle.fws_net.specs.declared.outcome.Outcome.TheVariants.{Accept}
@@ -31,6 +32,7 @@ use Rattle.fws_pf_list.specs.declared.turn.Last.TheVariants.{Root, Kept, Nothing
 use Rattle.fws_pf_list.specs.Ends.{AreEnds, IsRoot}
 use Rattle.fws_pf_list.specs.Paths.{hits, nat_of, number_of, path_has, some_path_has, IsGoodPath}
 use Rattle.fws_pf_list.specs.Translations.{end_of, AgreeBefore, IsLed, IsMet, KeepsPortsOutward, WritesOneEnd, WritesPortsOfProtocols}
+use Rattle.fws_box.specs.Fields.{value_of}
 
 -- For which packets lists are made
 
@@ -91,7 +93,7 @@ pub record IsCome (s : Scene) (n : ℕ) (p : Packet) : Type 0 where
   pub reached : (w : Outcome) → Reaches Entered p (branch 0 (below s n) p.entry) w → Reaches Entered p (branch 0 s.tree p.entry) w
   pub point : List ℕ
   pub within : IsWithin s.tops point
-  pub entry : slice_index point 0 ≡ p.entry
+  pub entry : value_of point fields.Entry ≡ p.entry
   pub sees : IsSeenAs Entered p point
   pub bound : ℕ
   pub early : CutsFrom s n bound

@@ -3,6 +3,7 @@
 use Rattle.std.specs.Prelude.{◌≡◌, ◌≢◌, ℕ, ◌≤◌, ◌<◌, Bool, true, false, not, Option, Some, None, List, ◌++◌, length, slice_get, slice_index, IfSome}
 use Rattle.std.specs.List.{list_all}
 use Rattle.fws_box.specs.Sides.{IsWithin}
+use Rattle.fws_box.specs.declared.field.Field.TheVariants as fields
 use Rattle.fws_net.specs.declared.outcome.End.{End}
 use Rattle.fws_net.specs.declared.outcome.Outcome.{Outcome}
 use Rattle.fws_net.specs.declared.outcome.Outcome.TheVariants.{Accept}
@@ -21,6 +22,7 @@ use Rattle.fws_tree.specs.declared.node.Node.{Node}
 use Rattle.fws_tree.specs.declared.node.Node.TheVariants.{Leaf, Cut}
 use Rattle.fws_tree.specs.Plain.{Plain, branch, value}
 use Rattle.fws_tree.specs.Shared.{subtree_of}
+use Rattle.fws_box.specs.Fields.{value_of}
 
 -- Passes
 
@@ -32,7 +34,7 @@ end_of false w = w.dst
 -- packets with this entry meet the list of a pass: those of the host itself on the out pass, and those that arrive on the in pass
 abbrev pub IsMet : Bool → List ℕ → ℕ → Type 0
 IsMet true tops entry = entry ≡ 0
-IsMet false tops entry = (1 ≤ entry) × (entry ≤ slice_index tops 0)
+IsMet false tops entry = (1 ≤ entry) × (entry ≤ value_of tops fields.Entry)
 
 -- a packet before and behind the translation of a pass, where only what the end is written over may change
 abbrev pub IsAfter : Bool → Option End → Packet → Packet → Type 0
@@ -45,7 +47,7 @@ IsAfter true (Some e) p q = q ≡ record p { src = q.src }
 -- no port is written where the protocol has none
 abbrev pub WritesPortsOfProtocols : List ℕ → Plain Outcome → Type 0
 WritesPortsOfProtocols tops t =
-    (p : List ℕ) (w : Rewrite) → IsWithin tops p → value t p ≡ Some (Accept w) → has_ports (slice_index p 1) ≡ false → WritesNoPort w
+    (p : List ℕ) (w : Rewrite) → IsWithin tops p → value t p ≡ Some (Accept w) → has_ports (value_of p fields.Proto) ≡ false → WritesNoPort w
 
 -- the points agree in their first n fields
 abbrev pub AgreeBefore : ℕ → List ℕ → List ℕ → Type 0
@@ -54,13 +56,13 @@ AgreeBefore n p q = (f : ℕ) → f < n → slice_index q f ≡ slice_index p f
 -- packets that agree in entry, protocol, addresses and ports get the same end
 abbrev pub WritesOneEnd : Bool → List ℕ → Plain Outcome → Type 0
 WritesOneEnd outward tops t =
-    (p q : List ℕ) (v w : Rewrite) → IsWithin tops p → IsWithin tops q → IsMet outward tops (slice_index p 0) → AgreeBefore 6 p q
+    (p q : List ℕ) (v w : Rewrite) → IsWithin tops p → IsWithin tops q → IsMet outward tops (value_of p fields.Entry) → AgreeBefore 6 p q
     → value t p ≡ Some (Accept v) → value t q ≡ Some (Accept w) → end_of outward v ≡ end_of outward w
 
 -- on the out pass no port is written
 abbrev pub KeepsPortsOutward : Bool → List ℕ → Plain Outcome → Type 0
 KeepsPortsOutward outward tops t =
-    outward ≡ true → (p : List ℕ) (w : Rewrite) → IsWithin tops p → slice_index p 0 ≡ 0 → value t p ≡ Some (Accept w) → IfSome w.src (λ e. e.port ≡ None)
+    outward ≡ true → (p : List ℕ) (w : Rewrite) → IsWithin tops p → value_of p fields.Entry ≡ 0 → value t p ≡ Some (Accept w) → IfSome w.src (λ e. e.port ≡ None)
 
 -- Translations
 

@@ -1,7 +1,8 @@
 -- What is gathered from the rows of the table of new packets.
-use Rattle.std.specs.Prelude.{◌≡◌, ℕ, true, false, nat_eq, if◌then◌else◌, Option, Some, None, option_and_then, List, [], ◌++◌, length, All, position, slice_get, slice_index, slice_index_or}
+use Rattle.std.specs.Prelude.{◌≡◌, ℕ, true, false, nat_eq, if◌then◌else◌, Option, Some, None, option_and_then, List, [], ◌++◌, length, All, position, slice_get, slice_index_or}
 use Rattle.std.specs.Option.{option_map_or}
 use Rattle.fws_box.specs.Sides.{IsWithin}
+use Rattle.fws_box.specs.declared.field.Field.TheVariants as fields
 use Rattle.fws_iv.specs.declared.iv.Iv.{Iv}
 use Rattle.fws_iv.specs.Ivs.{has}
 use Rattle.fws_net.specs.declared.outcome.End.{End}
@@ -13,6 +14,7 @@ use Rattle.fws_tree.specs.declared.node.Node.TheVariants.{Leaf, Cut}
 use Rattle.fws_tree.specs.declared.row.Row.{Row}
 use Rattle.fws_tree.specs.Plain.{Plain, value}
 use Rattle.fws_pf_put.specs.Sources.{IsWrittenOver, same_end}
+use Rattle.fws_box.specs.Fields.{value_of}
 
 -- States
 
@@ -85,4 +87,4 @@ PutsRow ends row old new =
 abbrev pub TellSources : List ℕ → Plain Outcome → List End → List (List Iv) → Type 0
 TellSources tops t ends sets =
     (p : List ℕ) (w : Rewrite) (e : End) → IsWithin tops p → value t p ≡ Some (Accept w) → w.src ≡ Some e
-    → IsWrittenOver ends sets e (slice_index p 4)
+    → IsWrittenOver ends sets e (value_of p fields.Src)

@@ -4,6 +4,7 @@ ghost use Rattle.std.specs.Prelude.{◌≡◌, Some, length, IfOk, OnOk};
 ghost use Rattle.fws_pf_put.specs.Gathered.{AreSets, Covers, Extends, HaveSources, IsAmong, IsAmongIf, IsWithinSet, PutsRow, TellSources, source_of};
 
 use crate::ends::Sources;
+use fws_box::Field;
 use fws_iv::Ivs;
 use fws_net::{End, Outcome};
 use fws_num::Memory;
@@ -62,7 +63,7 @@ fn with_row(alloc: Global, set: &Ivs, row: &Row<Outcome>) -> Result<Ivs, Memory>
 {
     let sides = &row.sides[..];
     prove_eq!(sides.len(), 12);
-    Ok(set.union(alloc, &row.sides[4])?)
+    Ok(set.union(alloc, &row.sides[Field::Src as usize])?)
 }
 
 /// Puts the sources of a row to those over which its source is written, if it writes one among these. An error is want of

@@ -1,5 +1,5 @@
 -- Filter rules that decide what the nodes of a tree decide.
-use Rattle.std.specs.Prelude.{◌≡◌, ℕ, ◌≤◌, ◌<◌, Bool, true, false, ◌&&◌, ◌||◌, not, Option, Some, None, List, [], ◌∷◌, length, slice_get, slice_index}
+use Rattle.std.specs.Prelude.{◌≡◌, ℕ, ◌≤◌, ◌<◌, Bool, true, false, ◌&&◌, ◌||◌, not, Option, Some, None, List, [], ◌∷◌, length, slice_get}
 use Rattle.std.specs.List.{list_all, list_any}
 use Rattle.fws_net.specs.declared.condition.Lit.{Lit}
 use Rattle.fws_net.specs.declared.outcome.End.{End}
@@ -9,6 +9,7 @@ use Rattle.fws_net.specs.declared.packet.Packet.{Packet}
 use Rattle.fws_net.specs.declared.site.Site.{Site}
 use Rattle.fws_net.specs.declared.transit.Transit.{Transit}
 use Rattle.fws_net.specs.Transits.{with_only_tag, with_verdict}
+use Rattle.fws_box.specs.declared.field.Field.TheVariants as fields
 use Rattle.fws_pf.specs.declared.config.PfRule.{PfRule}
 use Rattle.fws_pf.specs.declared.config.Way.{Way}
 use Rattle.fws_pf.specs.declared.config.Way.TheVariants.{Both}
@@ -22,10 +23,11 @@ use Rattle.fws_sight.specs.declared.seen.Seen.TheVariants.{Entered}
 use Rattle.fws_sight.specs.Reached.{IsTopped, Reaches}
 use Rattle.fws_pf_print.specs.Printable.{is_printed_rule}
 use Rattle.fws_pf_tree.specs.States.{state_at, IsSourceState}
+use Rattle.fws_box.specs.Fields.{value_of}
 
 -- where the node cuts the entry, the packet comes in by an interface
 abbrev pub ComesIn : List ℕ → List Node → ℕ → Bool → Packet → Type 0
-ComesIn tops nodes n outward p = (kids : List Kid) → slice_get nodes n ≡ Some (Cut 0 kids) → (outward ≡ false) × (1 ≤ p.entry) × (p.entry ≤ slice_index tops 0)
+ComesIn tops nodes n outward p = (kids : List Kid) → slice_get nodes n ≡ Some (Cut 0 kids) → (outward ≡ false) × (1 ≤ p.entry) × (p.entry ≤ value_of tops fields.Entry)
 
 -- what the packet reaches below the node at its entry
 abbrev pub ReachesBelow : List Outcome → List Node → ℕ → Packet → Outcome → Type 0

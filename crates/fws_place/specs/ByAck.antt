@@ -1,7 +1,8 @@
 -- Points that differ in flags alone, and how ACK and RST tell them apart.
-use Rattle.std.specs.Prelude.{◌≡◌, ℕ, Bool, true, false, ◌||◌, not, nat_eq, Option, Some, List, slice_index, if◌then◌else◌, MatchOption}
+use Rattle.std.specs.Prelude.{◌≡◌, ℕ, Bool, true, false, ◌||◌, not, nat_eq, Option, Some, List, if◌then◌else◌, MatchOption}
 use Rattle.std.specs.Int.Bits.{bit_and}
 use Rattle.fws_box.specs.Sides.{IsWithin}
+use Rattle.fws_box.specs.declared.field.Field.TheVariants as fields
 use Rattle.fws_net.specs.declared.site.Site.{Site}
 use Rattle.fws_net.specs.Points.{tops_of}
 use Rattle.fws_net.specs.Routes.{is_local}
@@ -10,6 +11,7 @@ use Rattle.fws_tree.specs.Plain.{Plain, value}
 use Rattle.fws_place.specs.declared.breach.Pair.{Pair}
 use Rattle.fws_place.specs.Apart.{flags_alone}
 use Rattle.fws_place.specs.Found.{IsTrueAt}
+use Rattle.fws_box.specs.Fields.{value_of}
 
 -- ACK or RST is among the flags
 abbrev pub acknowledges : ℕ → Bool
@@ -21,7 +23,7 @@ acknowledges_as asked flags = if asked then acknowledges flags else not (acknowl
 
 -- the point is one of packets that arrive
 abbrev pub arrives_at : List ℕ → Bool
-arrives_at q = not (nat_eq (slice_index q 0) 0)
+arrives_at q = not (nat_eq (value_of q fields.Entry) 0)
 
 -- of two points that agree in all but flags one tree is true at the first, and the other false at the second, where flags
 -- have ACK or RST, or neither, as it is asked
@@ -29,7 +31,7 @@ pub record AreFalseNear (asked : Bool) (tops : List ℕ) (t u : Plain Bool) (p q
   pub first : IsTrueAt tops t p
   pub within : IsWithin tops q
   pub second : value u q ≡ Some false
-  pub flags : acknowledges_as asked (slice_index q 6) ≡ true
+  pub flags : acknowledges_as asked (value_of q fields.Flags) ≡ true
   pub near : Agree flags_alone p q
 
 -- two points of arriving packets agree in all but flags; both have ACK or RST, or neither has, as it is asked; the tree is
@@ -39,8 +41,8 @@ pub record AreToldByMore (asked : Bool) (tops : List ℕ) (t : Plain Bool) (p q 
   pub within : IsWithin tops q
   pub second : value t q ≡ Some false
   pub arrives : arrives_at p ≡ true
-  pub flags : acknowledges_as asked (slice_index p 6) ≡ true
-  pub other_flags : acknowledges_as asked (slice_index q 6) ≡ true
+  pub flags : acknowledges_as asked (value_of p fields.Flags) ≡ true
+  pub other_flags : acknowledges_as asked (value_of q fields.Flags) ≡ true
   pub near : Agree flags_alone p q
 
 -- two points are such, or there are none
@@ -60,10 +62,10 @@ pub record AreAheadAt (site : Site) (sometimes new : Plain Bool) (p q : List ℕ
   pub within : IsWithin (tops_of site) q
   pub never : value sometimes q ≡ Some false
   pub arrives : arrives_at p ≡ true
-  pub tcp : nat_eq (slice_index p 1) 6 ≡ true
-  pub found : is_found site (slice_index p 2) ≡ true
-  pub flags : acknowledges (slice_index p 6) ≡ true
-  pub other_flags : acknowledges (slice_index q 6) ≡ false
+  pub tcp : nat_eq (value_of p fields.Proto) 6 ≡ true
+  pub found : is_found site (value_of p fields.Dst) ≡ true
+  pub flags : acknowledges (value_of p fields.Flags) ≡ true
+  pub other_flags : acknowledges (value_of q fields.Flags) ≡ false
   pub near : Agree flags_alone p q
 
 -- packets are named that are such, or there are none

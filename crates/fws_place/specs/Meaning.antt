@@ -1,6 +1,7 @@
 -- What tables make of the packets of a site.
-use Rattle.std.specs.Prelude.{ℕ, ◌-◌, ◌^◌, List, [], ◌∷◌, slice_index, unwrap_or}
+use Rattle.std.specs.Prelude.{ℕ, ◌-◌, ◌^◌, List, [], ◌∷◌, unwrap_or}
 use Rattle.fws_box.specs.Sides.{IsWithin}
+use Rattle.fws_box.specs.declared.field.Field.TheVariants as fields
 use Rattle.fws_net.specs.declared.connection.Rec.{Rec}
 use Rattle.fws_net.specs.declared.outcome.Outcome.{Outcome}
 use Rattle.fws_net.specs.declared.outcome.Outcome.TheVariants.{Drop}
@@ -9,6 +10,7 @@ use Rattle.fws_net.specs.declared.site.Site.{Site}
 use Rattle.fws_net.specs.Points.{tops_of}
 use Rattle.fws_tree.specs.declared.tables.Tables.{Tables}
 use Rattle.fws_tree.specs.Plain.{value}
+use Rattle.fws_box.specs.Fields.{value_of}
 
 -- the point of a packet, and of the ends with which a connection sends it
 abbrev pub point_of : Packet → Rec → List ℕ
@@ -17,7 +19,7 @@ point_of p r = p.entry ∷ p.proto ∷ p.dst ∷ p.dport ∷ p.src ∷ p.sport �
 
 -- the ends of a point
 abbrev pub rec_of : List ℕ → Rec
-rec_of p = record { rdst = slice_index p 8; rdport = slice_index p 9; rsrc = slice_index p 10; rsport = slice_index p 11 }
+rec_of p = record { rdst = value_of p fields.SentDst; rdport = value_of p fields.SentDport; rsrc = value_of p fields.SentSrc; rsport = value_of p fields.SentSport }
 
 -- the greatest values that packets and ends have room for
 abbrev pub widest : List ℕ

@@ -1,11 +1,13 @@
 //! Points that flags tell apart though ACK and RST are the same.
 
-ghost use Rattle.std.specs.Prelude.{◌≡◌, not, false, ℕ, Bool, List, Some, IfOk, MatchOption, slice_index, if◌then◌else◌};
+ghost use Rattle.std.specs.Prelude.{◌≡◌, not, false, ℕ, Bool, List, Some, IfOk, MatchOption, if◌then◌else◌};
 ghost use Rattle.fws_box.specs.Sides.{IsWithin};
+ghost use Rattle.fws_box.specs.declared.field.Field.TheVariants as fields;
 ghost use Rattle.fws_net.specs.Points.{tops_of};
 ghost use Rattle.fws_net.specs.Routes.{IsSound};
 ghost use Rattle.fws_place.specs.ByAck.{acknowledges_as, arrives_at, AreFalseNear, AreSoughtByMore, AreToldByMore};
 ghost use Rattle.fws_tree.specs.Plain.{value};
+ghost use Rattle.fws_box.specs.Fields.{value_of};
 
 use crate::ack_flags::ack_flags;
 use crate::true_near::true_together;
@@ -14,11 +16,12 @@ use fws_iv::one;
 use fws_net::{Site, tops};
 use fws_num::Memory;
 use fws_tree::Tree;
+use fws_truth::fields::FLAGS;
 use fws_truth::{kept_in, negated};
 use std::alloc::Global;
 
-// The field of flags, by its bit.
-const FLAGS_ALONE: u16 = 0x40;
+// The field of flags.
+const FLAGS_ALONE: u16 = FLAGS;
 
 /// The tree that is true where this one is at packets that arrive. An error is want of memory.
 pub(crate) fn arriving_in(
@@ -31,7 +34,7 @@ pub(crate) fn arriving_in(
     ensures tops { IfOk result (λ t. t.0 ≡ tops_of site.now) }
     ensures value { IfOk result (λ t. (q : List ℕ) → IsWithin (tops_of site.now) q → value t.1 q ≡ (if arrives_at q then value tree.now.1 q else Some false)) }
 {
-    let entries = one(alloc, 1, tops(site)[0])?;
+    let entries = one(alloc, 1, tops(site)[Field::Entry as usize])?;
     kept_in(alloc, tree, Field::Entry, entries, false)
 }
 
@@ -45,7 +48,7 @@ pub(crate) fn acknowledging_in(
 ) -> Result<Tree<bool>, Memory>
     requires { tree.now.0 ≡ tops_of site.now }
     ensures tops { IfOk result (λ t. t.0 ≡ tops_of site.now) }
-    ensures value { IfOk result (λ t. (q : List ℕ) → IsWithin (tops_of site.now) q → value t.1 q ≡ (if acknowledges_as asked (slice_index q 6) then value tree.now.1 q else Some false)) }
+    ensures value { IfOk result (λ t. (q : List ℕ) → IsWithin (tops_of site.now) q → value t.1 q ≡ (if acknowledges_as asked (value_of q fields.Flags) then value tree.now.1 q else Some false)) }
 {
     let flags = ack_flags(alloc, asked)?;
     kept_in(alloc, tree, Field::Flags, flags, false)
@@ -61,7 +64,7 @@ fn arriving_with(
     requires sound { IsSound site.now }
     requires tops { tree.now.0 ≡ tops_of site.now }
     ensures tops { IfOk result (λ t. t.0 ≡ tops_of site.now) }
-    ensures value { IfOk result (λ t. (q : List ℕ) → IsWithin (tops_of site.now) q → value t.1 q ≡ (if acknowledges_as asked (slice_index q 6) then (if arrives_at q then value tree.now.1 q else Some false) else Some false)) }
+    ensures value { IfOk result (λ t. (q : List ℕ) → IsWithin (tops_of site.now) q → value t.1 q ≡ (if acknowledges_as asked (value_of q fields.Flags) then (if arrives_at q then value tree.now.1 q else Some false) else Some false)) }
 {
     let arriving = arriving_in(alloc, site, tree)?;
     acknowledging_in(alloc, site, &arriving, asked)
@@ -76,7 +79,7 @@ fn false_with(
 ) -> Result<Tree<bool>, Memory>
     requires { tree.now.0 ≡ tops_of site.now }
     ensures tops { IfOk result (λ t. t.0 ≡ tops_of site.now) }
-    ensures value { IfOk result (λ t. (q : List ℕ) → IsWithin (tops_of site.now) q → (b : Bool) × (value tree.now.1 q ≡ Some b) × (value t.1 q ≡ (if acknowledges_as asked (slice_index q 6) then Some (not b) else Some false))) }
+    ensures value { IfOk result (λ t. (q : List ℕ) → IsWithin (tops_of site.now) q → (b : Bool) × (value tree.now.1 q ≡ Some b) × (value t.1 q ≡ (if acknowledges_as asked (value_of q fields.Flags) then Some (not b) else Some false))) }
 {
     let other = negated(alloc, tree)?;
     acknowledging_in(alloc, site, &other, asked)

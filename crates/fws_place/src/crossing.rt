@@ -1,14 +1,16 @@
 //! Where packets go that cross a translation: from interfaces on the inside, and to those on the outside.
 
-ghost use Rattle.std.specs.Prelude.{◌≡◌, ℕ, ◌+◌, ◌<◌, ◌^◌, length, ◌&&◌, not, nat_lt, List, slice_index, IfOk};
+ghost use Rattle.std.specs.Prelude.{◌≡◌, ℕ, ◌+◌, ◌<◌, ◌^◌, length, ◌&&◌, not, nat_lt, List, IfOk};
 ghost use Rattle.fws_box.specs.Sides.{IsWithin, sides_have};
+ghost use Rattle.fws_box.specs.declared.field.Field.TheVariants as fields;
 ghost use Rattle.fws_iv.specs.Ivs.{has};
 ghost use Rattle.fws_net.specs.Points.{tops_of};
 ghost use Rattle.fws_net.specs.Routes.{IsSound, route_of};
 ghost use Rattle.fws_place.specs.Crossing.{is_sent_outside};
 ghost use Rattle.fws_place.specs.Rewritings.{is_inside, is_outside, side_of};
+ghost use Rattle.fws_box.specs.Fields.{value_of};
 
-use fws_box::whole_sides;
+use fws_box::{Field, whole_sides};
 use fws_iv::{Ivs, one};
 use fws_net::{Side, Site, local_set, route_set, tops};
 use fws_num::Memory;
@@ -63,11 +65,11 @@ pub(crate) fn inside_entries(alloc: Global, site: &Site) -> Result<Ivs, Memory>
 /// The sides of what comes from the inside. An error is want of memory.
 pub(crate) fn inside_sides(alloc: Global, site: &Site) -> Result<[Ivs; 12], Memory>
     requires { IsSound site.now }
-    ensures { IfOk result (λ sides. (p : List ℕ) → IsWithin (tops_of site.now) p → sides_have sides p ≡ is_inside (side_of site.now (slice_index p 0))) }
+    ensures { IfOk result (λ sides. (p : List ℕ) → IsWithin (tops_of site.now) p → sides_have sides p ≡ is_inside (side_of site.now (value_of p fields.Entry))) }
 {
     let tops = tops(site);
     let mut sides = whole_sides(alloc, &tops)?;
-    sides[0] = inside_entries(alloc, site)?;
+    sides[Field::Entry as usize] = inside_entries(alloc, site)?;
     Ok(sides)
 }
 

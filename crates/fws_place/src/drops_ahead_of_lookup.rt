@@ -1,7 +1,8 @@
 //! Whether ipfw can drop established packets ahead of the look-up of connections.
 
-ghost use Rattle.std.specs.Prelude.{◌≡◌, ℕ, Bool, true, false, ◌&&◌, ◌||◌, not, nat_eq, List, Some, slice_index, if◌then◌else◌, IfOk};
+ghost use Rattle.std.specs.Prelude.{◌≡◌, ℕ, Bool, true, false, ◌&&◌, ◌||◌, not, nat_eq, List, Some, if◌then◌else◌, IfOk};
 ghost use Rattle.fws_box.specs.Sides.{IsWithin, sides_have};
+ghost use Rattle.fws_box.specs.declared.field.Field.TheVariants as fields;
 ghost use Rattle.fws_net.specs.Points.{tops_of};
 ghost use Rattle.fws_net.specs.Routes.{IsSound, is_local};
 ghost use Rattle.fws_place.specs.declared.clause.Clause.TheVariants.{DropsAheadOfLookup};
@@ -12,12 +13,13 @@ ghost use Rattle.fws_place.specs.Pairs.{is_host};
 ghost use Rattle.fws_place.specs.Seen.{IsAcceptedPair, IsAcceptedSomewhere, IsAcceptedAlike, Tells};
 ghost use Rattle.fws_tree.specs.Plain.{value};
 ghost use Rattle.fws_tree.specs.Regular.{AreRegular};
+ghost use Rattle.fws_box.specs.Fields.{value_of};
 
 use crate::breach::Pair;
 use crate::lost::passing_sides;
 use crate::naming::named_pair;
 use crate::seeing::{Accepting, accepted, seen};
-use fws_box::{copy_sides, whole_sides};
+use fws_box::{Field, copy_sides, whole_sides};
 use fws_iv::{Ivs, one};
 use fws_net::{Site, local_set, tops};
 use fws_num::Memory;
@@ -28,23 +30,23 @@ use std::alloc::Global;
 /// The sides of the host's packets. An error is want of memory.
 pub(crate) fn host_sides(alloc: Global, site: &Site) -> Result<[Ivs; 12], Memory>
     requires { IsSound site.now }
-    ensures { IfOk result (λ sides. (p : List ℕ) → IsWithin (tops_of site.now) p → sides_have sides p ≡ nat_eq (slice_index p 0) 0) }
+    ensures { IfOk result (λ sides. (p : List ℕ) → IsWithin (tops_of site.now) p → sides_have sides p ≡ nat_eq (value_of p fields.Entry) 0) }
 {
     let tops = tops(site);
     let mut sides = whole_sides(alloc, &tops)?;
-    sides[0] = one(alloc, 0, 0)?;
+    sides[Field::Entry as usize] = one(alloc, 0, 0)?;
     Ok(sides)
 }
 
 // The sides of the pairs that arrive and are delivered.
 fn staying_sides(alloc: Global, site: &Site) -> Result<[Ivs; 12], Memory>
     requires { IsSound site.now }
-    ensures { IfOk result (λ sides. (p : List ℕ) → IsWithin (tops_of site.now) p → sides_have sides p ≡ (not (nat_eq (slice_index p 0) 0) && is_local site.now (slice_index p 8))) }
+    ensures { IfOk result (λ sides. (p : List ℕ) → IsWithin (tops_of site.now) p → sides_have sides p ≡ (not (nat_eq (value_of p fields.Entry) 0) && is_local site.now (value_of p fields.SentDst))) }
 {
     let tops = tops(site);
     let mut sides = whole_sides(alloc, &tops)?;
-    sides[0] = one(alloc, 1, tops[0])?;
-    sides[8] = local_set(alloc, site)?;
+    sides[Field::Entry as usize] = one(alloc, 1, tops[Field::Entry as usize])?;
+    sides[Field::SentDst as usize] = local_set(alloc, site)?;
     Ok(sides)
 }
 
@@ -66,8 +68,8 @@ fn exchanged_row(alloc: Global, row: &Row<bool>) -> Result<Row<bool>, Memory>
     ensures { IfOk result (λ r. r ≡ exchanged_row row.now) }
 {
     let mut sides = copy_sides(alloc, &row.sides)?;
-    sides.swap(2, 8);
-    sides.swap(3, 9);
+    sides.swap(Field::Dst as usize, Field::SentDst as usize);
+    sides.swap(Field::Dport as usize, Field::SentDport as usize);
     Ok(Row {
         sides,
         leaf: row.leaf,
@@ -103,7 +105,7 @@ fn of_host(alloc: Global, site: &Site, tree: &Tree<bool>) -> Result<Tree<bool>, 
     requires sound { IsSound site.now }
     requires tops { tree.now.0 ≡ tops_of site.now }
     ensures tops { IfOk result (λ t. t.0 ≡ tops_of site.now) }
-    ensures value { IfOk result (λ t. (q : List ℕ) → IsWithin (tops_of site.now) q → value t.1 q ≡ (if nat_eq (slice_index q 0) 0 then value tree.now.1 q else Some false)) }
+    ensures value { IfOk result (λ t. (q : List ℕ) → IsWithin (tops_of site.now) q → value t.1 q ≡ (if nat_eq (value_of q fields.Entry) 0 then value tree.now.1 q else Some false)) }
 {
     let sides = host_sides(alloc, site)?;
     tree.restrict(alloc, &sides, false)

@@ -21,6 +21,7 @@ use crate::first_true::leasts;
 use crate::gathering::{MOST_REDIRECTS, gather};
 use crate::point::packet_at;
 use crate::redirect::Redirect;
+use fws_box::Field;
 use fws_iv::Ivs;
 use fws_net::{End, Outcome, Site};
 use fws_num::{Items, Memory};
@@ -66,9 +67,15 @@ fn same_redirects(a: &Row<Outcome>, b: &Row<Outcome>) -> bool
     ensures { result ≡ true → HaveSame a.now b.now }
 {
     same_destination(&destination_of(&a.leaf), &destination_of(&b.leaf))
-        && same_set(&a.sides[1], &b.sides[1])
-        && same_set(&a.sides[2], &b.sides[2])
-        && same_set(&a.sides[3], &b.sides[3])
+        && same_set(
+            &a.sides[Field::Proto as usize],
+            &b.sides[Field::Proto as usize],
+        )
+        && same_set(&a.sides[Field::Dst as usize], &b.sides[Field::Dst as usize])
+        && same_set(
+            &a.sides[Field::Dport as usize],
+            &b.sides[Field::Dport as usize],
+        )
 }
 
 // Whether the row at a place has no redirects beside those of an earlier one.
@@ -96,10 +103,16 @@ fn passes(met: &mut IndexSet<Redirect>, row: &Row<Outcome>) -> Result<bool, Memo
     match destination_of(&row.leaf) {
         None => Ok(false),
         Some(local) => {
-            if row.sides[2].has(0) {
+            if row.sides[Field::Dst as usize].has(0) {
                 return Ok(true);
             }
-            gather(met, local, &row.sides[2], &row.sides[1], &row.sides[3])?;
+            gather(
+                met,
+                local,
+                &row.sides[Field::Dst as usize],
+                &row.sides[Field::Proto as usize],
+                &row.sides[Field::Dport as usize],
+            )?;
             if met.len() > MOST_REDIRECTS {
                 return Ok(true);
             }

@@ -17,7 +17,7 @@ use crate::delivering::{local_of, writes_addresses};
 use crate::first_true::leasts;
 use crate::point::packet_at;
 use crate::values::next_value;
-use fws_box::Point;
+use fws_box::{Field, Point};
 use fws_iv::Ivs;
 use fws_net::{Outcome, Site, local_set, tops};
 use fws_num::Memory;
@@ -54,9 +54,9 @@ fn delivered(local: &Ivs, top: u32, row: &Row<Outcome>) -> Option<(u32, u32)>
         Outcome::Drop => None,
         Outcome::Accept(rewrite) => {
             writes_addresses(rewrite.dst);
-            match next_value(&row.sides[0], 1, top) {
+            match next_value(&row.sides[Field::Entry as usize], 1, top) {
                 None => None,
-                Some(entry) => match local_of(local, rewrite.dst, &row.sides[2]) {
+                Some(entry) => match local_of(local, rewrite.dst, &row.sides[Field::Dst as usize]) {
                     None => None,
                     Some(dst) => Some((entry, dst)),
                 },
@@ -73,8 +73,8 @@ pub(crate) fn first_delivered(local: &Ivs, top: u32, rows: &[Row<Outcome>]) -> O
     for row in rows {
         if let Some((entry, dst)) = delivered(local, top, row) {
             let mut point = leasts(&row.sides);
-            point[0] = entry;
-            point[2] = dst;
+            point[Field::Entry as usize] = entry;
+            point[Field::Dst as usize] = dst;
             return Some(point);
         }
     }
@@ -113,7 +113,7 @@ fn delivered_among(
     ensures { IfOk result (λ found. IsSought site.now tables.now KeepsDeliveredSources found) }
 {
     let local = local_set(alloc, site)?;
-    match delivered_in(alloc, sources, &local, tops(site)[0])? {
+    match delivered_in(alloc, sources, &local, tops(site)[Field::Entry as usize])? {
         Some(point) => {
             let packet = packet_at(&point);
             Ok(Some((Pair { packet, rec: None }, None)))

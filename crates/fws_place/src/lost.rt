@@ -1,13 +1,15 @@
 //! Trees over pairs without those that are lost.
 
-ghost use Rattle.std.specs.Prelude.{◌≡◌, ℕ, false, ◌&&◌, not, nat_eq, List, Some, slice_index, IfOk, if◌then◌else◌};
+ghost use Rattle.std.specs.Prelude.{◌≡◌, ℕ, false, ◌&&◌, not, nat_eq, List, Some, IfOk, if◌then◌else◌};
 ghost use Rattle.fws_box.specs.Sides.{IsWithin, sides_have};
+ghost use Rattle.fws_box.specs.declared.field.Field.TheVariants as fields;
 ghost use Rattle.fws_net.specs.Points.{tops_of};
 ghost use Rattle.fws_net.specs.Routes.{IsSound, is_local};
 ghost use Rattle.fws_place.specs.Lost.{is_lost_at};
 ghost use Rattle.fws_tree.specs.Plain.{value};
+ghost use Rattle.fws_box.specs.Fields.{value_of};
 
-use fws_box::whole_sides;
+use fws_box::{Field, whole_sides};
 use fws_iv::{Ivs, one};
 use fws_net::{Site, local_set, tops};
 use fws_num::Memory;
@@ -17,13 +19,13 @@ use std::alloc::Global;
 /// The sides of the pairs that arrive for another host. An error is want of memory.
 pub(crate) fn passing_sides(alloc: Global, site: &Site) -> Result<[Ivs; 12], Memory>
     requires { IsSound site.now }
-    ensures { IfOk result (λ sides. (p : List ℕ) → IsWithin (tops_of site.now) p → sides_have sides p ≡ (not (nat_eq (slice_index p 0) 0) && not (is_local site.now (slice_index p 8)))) }
+    ensures { IfOk result (λ sides. (p : List ℕ) → IsWithin (tops_of site.now) p → sides_have sides p ≡ (not (nat_eq (value_of p fields.Entry) 0) && not (is_local site.now (value_of p fields.SentDst)))) }
 {
     let tops = tops(site);
     let mut sides = whole_sides(alloc, &tops)?;
-    sides[0] = one(alloc, 1, tops[0])?;
+    sides[Field::Entry as usize] = one(alloc, 1, tops[Field::Entry as usize])?;
     let local = local_set(alloc, site)?;
-    sides[8] = one(alloc, 0, u32::MAX)?.minus(alloc, &local)?;
+    sides[Field::SentDst as usize] = one(alloc, 0, u32::MAX)?.minus(alloc, &local)?;
     Ok(sides)
 }
 

@@ -1,13 +1,15 @@
 //! Whether the ends that are written depend on flags or ICMP types.
 
-ghost use Rattle.std.specs.Prelude.{◌≡◌, ℕ, List, Some, slice_index, if◌then◌else◌, IfOk};
+ghost use Rattle.std.specs.Prelude.{◌≡◌, ℕ, List, Some, if◌then◌else◌, IfOk};
 ghost use Rattle.fws_box.specs.Sides.{IsWithin};
+ghost use Rattle.fws_box.specs.declared.field.Field.TheVariants as fields;
 ghost use Rattle.fws_net.specs.declared.outcome.Outcome.{Outcome};
 ghost use Rattle.fws_net.specs.Points.{tops_of};
 ghost use Rattle.fws_net.specs.Routes.{IsSound};
 ghost use Rattle.fws_place.specs.OneEnd.{alone, compares, end_alone, AreSoughtEnds};
 ghost use Rattle.fws_tree.specs.Plain.{value};
 ghost use Rattle.fws_tree.specs.Regular.{AreRegular};
+ghost use Rattle.fws_box.specs.Fields.{value_of};
 
 use crate::apart::apart;
 use crate::breach::Pair;
@@ -16,10 +18,11 @@ use crate::point::packet_at;
 use fws_net::{Outcome, Rewrite, Site};
 use fws_num::Memory;
 use fws_tree::{Relabelling, Tables, Tree};
+use fws_truth::fields::{FLAGS, ICMP};
 use std::alloc::Global;
 
 // The fields of flags and ICMP types, by their bits.
-const FLAGS_AND_ICMP: u16 = 0xc0;
+const FLAGS_AND_ICMP: u16 = FLAGS | ICMP;
 
 /// Which ends of which packets are compared.
 #[derive(Clone, Copy)]
@@ -74,7 +77,7 @@ fn ends_alone(
     requires sound { IsSound site.now }
     requires regular { AreRegular site.now tables.now }
     ensures tops { IfOk result (λ t. t.0 ≡ tops_of site.now) }
-    ensures value { IfOk result (λ t. (q : List ℕ) → IsWithin (tops_of site.now) q → (o : Outcome) × (value tables.now.fresh.1 q ≡ Some o) × (value t.1 q ≡ Some (if compares compared (slice_index q 0) then alone compared o else Outcome.Drop))) }
+    ensures value { IfOk result (λ t. (q : List ℕ) → IsWithin (tops_of site.now) q → (o : Outcome) × (value tables.now.fresh.1 q ≡ Some o) × (value t.1 q ≡ Some (if compares compared (value_of q fields.Entry) then alone compared o else Outcome.Drop))) }
 {
     let all = tables.fresh.relabel(alloc, &Alone(compared))?;
     let host = host_sides(alloc, site)?;

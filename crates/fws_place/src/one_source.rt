@@ -13,10 +13,11 @@ use crate::outgoing::outgoing_sources;
 use fws_net::{Outcome, Site};
 use fws_num::Memory;
 use fws_tree::Tables;
+use fws_truth::fields::{ENTRY, FLAGS};
 use std::alloc::Global;
 
 // The fields of the entry and of flags, by their bits.
-const ENTRY_AND_FLAGS: u16 = 0x41;
+const ENTRY_AND_FLAGS: u16 = ENTRY | FLAGS;
 
 /// Two new packets that go from the inside to the outside, agree in all but entry and flags and get different sources, if
 /// there are any. An error is want of memory.

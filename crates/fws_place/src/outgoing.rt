@@ -1,7 +1,8 @@
 //! Packets that go from the inside to the outside, and their sources.
 
-ghost use Rattle.std.specs.Prelude.{◌≡◌, ◌^◌, ◌<◌, ◌||◌, ◌↔◌, ℕ, Bool, true, false, List, Some, slice_index, if◌then◌else◌, IfOk};
+ghost use Rattle.std.specs.Prelude.{◌≡◌, ◌^◌, ◌<◌, ◌||◌, ◌↔◌, ℕ, Bool, true, false, List, Some, if◌then◌else◌, IfOk};
 ghost use Rattle.fws_box.specs.Sides.{IsWithin};
+ghost use Rattle.fws_box.specs.declared.field.Field.TheVariants as fields;
 ghost use Rattle.fws_iv.specs.Ivs.{has};
 ghost use Rattle.fws_net.specs.declared.outcome.Outcome.{Outcome};
 ghost use Rattle.fws_net.specs.Points.{tops_of};
@@ -9,6 +10,7 @@ ghost use Rattle.fws_net.specs.Routes.{IsSound};
 ghost use Rattle.fws_place.specs.Outgoing.{ends_outside, goes_out, AreInside, AreOutside, HasSources};
 ghost use Rattle.fws_tree.specs.Plain.{value};
 ghost use Rattle.fws_tree.specs.Regular.{AreRegular};
+ghost use Rattle.fws_box.specs.Fields.{value_of};
 
 use crate::crossing::{inside_entries, outside_set};
 use crate::one_end::{Alone, Compared, end_alone};
@@ -40,7 +42,7 @@ fn coming_with(
     entries: &Ivs,
 ) -> Result<Tree<bool>, Memory>
     ensures tops { IfOk result (λ t. t.0 ≡ outcomes.now.0) }
-    ensures value { IfOk result (λ t. (q : List ℕ) → IsWithin outcomes.now.0 q → (b : Bool) × ((b ≡ true) ↔ (value outcomes.now.1 q ≡ Some outcome.now)) × (value t.1 q ≡ (if has entries.now (slice_index q 0) then Some b else Some false))) }
+    ensures value { IfOk result (λ t. (q : List ℕ) → IsWithin outcomes.now.0 q → (b : Bool) × ((b ≡ true) ↔ (value outcomes.now.1 q ≡ Some outcome.now)) × (value t.1 q ≡ (if has entries.now (value_of q fields.Entry) then Some b else Some false))) }
 {
     let such = outcomes.select(alloc, outcome)?;
     kept_in(alloc, &such, Field::Entry, entries.copy(alloc)?, false)

@@ -5,7 +5,7 @@ ghost use Rattle.fws_box.specs.Sides.{IsWithin};
 ghost use Rattle.fws_net.specs.Points.{packet_of};
 ghost use Rattle.fws_place.specs.Meaning.{rec_of, widest};
 
-use fws_box::Point;
+use fws_box::{Field, Point};
 use fws_net::{Packet, Rec};
 
 /// The packet of a point.
@@ -14,14 +14,14 @@ pub fn packet_at(point: &Point) -> Packet
     ensures { result ≡ packet_of point.now }
 {
     Packet {
-        entry: point[0] as u8,
-        proto: point[1] as u8,
-        dst: point[2],
-        dport: point[3] as u16,
-        src: point[4],
-        sport: point[5] as u16,
-        flags: point[6] as u8,
-        icmp: point[7] as u8,
+        entry: point[Field::Entry as usize] as u8,
+        proto: point[Field::Proto as usize] as u8,
+        dst: point[Field::Dst as usize],
+        dport: point[Field::Dport as usize] as u16,
+        src: point[Field::Src as usize],
+        sport: point[Field::Sport as usize] as u16,
+        flags: point[Field::Flags as usize] as u8,
+        icmp: point[Field::Icmp as usize] as u8,
     }
 }
 
@@ -31,9 +31,9 @@ pub fn ends_at(point: &Point) -> Rec
     ensures { result ≡ rec_of point.now }
 {
     Rec {
-        rdst: point[8],
-        rdport: point[9] as u16,
-        rsrc: point[10],
-        rsport: point[11] as u16,
+        rdst: point[Field::SentDst as usize],
+        rdport: point[Field::SentDport as usize] as u16,
+        rsrc: point[Field::SentSrc as usize],
+        rsport: point[Field::SentSport as usize] as u16,
     }
 }

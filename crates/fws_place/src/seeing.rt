@@ -8,6 +8,7 @@ ghost use Rattle.fws_tree.specs.Plain.{IsReduced};
 use fws_net::{Outcome, Site};
 use fws_num::Memory;
 use fws_tree::{Relabelling, Tables, Tree};
+use fws_truth::fields::{DPORT, DST, SENT_DPORT, SENT_DST, SENT_SPORT, SENT_SRC};
 use std::alloc::Global;
 
 /// What rules see of established packets: a packet as it enters, or with the destination of its connection behind
@@ -46,7 +47,7 @@ pub(crate) fn accepted(alloc: Global, site: &Site, tables: &Tables) -> Result<Tr
 }
 
 // The fields from rdst on: with them alone free, a point stands for its packet.
-const ENDS: u16 = 0xf00;
+const ENDS: u16 = SENT_DST | SENT_DPORT | SENT_SRC | SENT_SPORT;
 
 /// The tree that tells of each pair whether its packet is accepted in some connection: what rules that see packets
 /// as they enter can tell. An error is want of memory.
@@ -63,7 +64,7 @@ pub fn accepted_somewhere(alloc: Global, site: &Site, tables: &Tables) -> Result
 
 // The fields that a rule behind routing doesn't see: the destination and its port as the packet entered, and the
 // source and its port of the connection.
-const UNSEEN_BEHIND: u16 = 0xc0c;
+const UNSEEN_BEHIND: u16 = DST | DPORT | SENT_SRC | SENT_SPORT;
 
 // What rules can tell of established packets, of the pairs that are accepted.
 fn seen_of(

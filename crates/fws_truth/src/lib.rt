@@ -1,6 +1,8 @@
-//! Trees of truth values that are made of others, and trees of any leaves that are kept where a field lies in a set.
+//! Trees of truth values that are made of others, trees of any leaves that are kept where a field lies in a set, and sets of
+//! fields by name.
 #![tactic(auto)]
 
+pub mod fields;
 mod joining;
 mod keeping;
 
