@@ -10,35 +10,18 @@ use Rattle.fws_net.specs.Points.{tops_of}
 use Rattle.fws_tree.specs.Changed.{Agree}
 use Rattle.fws_tree.specs.Plain.{Plain, value}
 use Rattle.fws_place.specs.Apart.{flags_alone, AreTrueNear, NoneTrueNear}
-use Rattle.fws_place.specs.ByAck.{acknowledges, acknowledges_as, arrives_at, is_found, AreAheadAt, AreFalseNear, AreToldByMore}
+use Rattle.fws_place.specs.ByAck.{acknowledges, acknowledges_as, arrives_at, is_found, AreAheadAt, AreFalseNear, AreToldByMore, flags_pass, IsArrivingWith, IsFalseWith, NoneFalseNear, IsFirstWithAck}
 use Rattle.fws_place.proofs.FieldSides.{kept_back, kept_true}
 use Rattle.fws_place.proofs.PairPoints.{within_top}
 use Rattle.fws_place.proofs.Passing.{from_one}
 use Rattle.fws_place.proofs.Viewing.{some_once}
-
--- what trees have that are made of another one
-abbrev pub IsKept : List ℕ → (List ℕ → Bool) → (List ℕ → Option Bool) → Plain Bool → Type 0
-IsKept tops test v u = (q : List ℕ) → IsWithin tops q → value u q ≡ (if test q then v q else Some false)
-
-abbrev pub IsKeptWhere : List ℕ → (List ℕ → Bool) → Plain Bool → Plain Bool → Type 0
-IsKeptWhere tops test t u = IsKept tops test (λ q. value t q) u
-
--- flags as they are asked
-abbrev pub flags_pass : Bool → List ℕ → Bool
-flags_pass asked q = acknowledges_as asked (slice_index q 6)
+use Rattle.fws_place.specs.Kept.{IsKeptWhere}
 
 -- of points that agree in all but flags either both arrive or neither
 pub both_arrive : (p q : List ℕ) → Agree flags_alone p q → arrives_at p ≡ true → arrives_at q ≡ true
 both_arrive p q near e = ap (λ x. not (nat_eq x 0)) (sym (near 0 refl)) ∙ e
 
 -- Flags that tell more
-
--- what the trees of the first and of the second points have
-abbrev pub IsArrivingWith : Bool → List ℕ → Plain Bool → Plain Bool → Type 0
-IsArrivingWith asked tops t first = IsKept tops (flags_pass asked) (λ q. if arrives_at q then value t q else Some false) first
-
-abbrev pub IsFalseWith : Bool → List ℕ → Plain Bool → Plain Bool → Type 0
-IsFalseWith asked tops t second = (q : List ℕ) → IsWithin tops q → (b : Bool) × (value t q ≡ Some b) × (value second q ≡ (if flags_pass asked q then Some (not b) else Some false))
 
 false_there : (asked : Bool) (tops : List ℕ) (t second : Plain Bool) → IsFalseWith asked tops t second → (q : List ℕ) → IsWithin tops q → value second q ≡ Some true
     → (flags_pass asked q ≡ true) × (value t q ≡ Some false)
@@ -52,10 +35,6 @@ false_back : (asked : Bool) (tops : List ℕ) (t second : Plain Bool) → IsFals
 false_back asked tops t second se q v flags e =
     let here = se q v in
     kept_back (flags_pass asked q) (Some (not here.0)) (value second q) here.2 flags (ap Some (not_from_false here.0 (some_once here.0 false (sym here.1 ∙ e))))
-
--- no two points are such
-abbrev pub NoneFalseNear : Bool → List ℕ → Plain Bool → Plain Bool → Type 0
-NoneFalseNear asked tops t u = (p q : List ℕ) → AreFalseNear asked tops t u p q → ⊥
 
 -- what was found where the one tree is true and the other false
 pub false_sought : (asked : Bool) (tops others : List ℕ) (t u second : Plain Bool) → others ≡ tops → IsFalseWith asked tops u second → (found : Option (List ℕ × List ℕ))
@@ -111,21 +90,6 @@ told_either tops t None none h = by
 told_either tops t (Some pair) none h = (false, h)
 
 -- Packets that are accepted without ACK and RST
-
--- a packet of TCP arrives and isn't lost
-abbrev pub is_first_test : Site → List ℕ → Bool
-is_first_test site q = arrives_at q && (nat_eq (slice_index q 1) 6 && is_found site (slice_index q 2))
-
--- what the tree of the first points has
-abbrev pub IsFirstOf : Site → Plain Bool → Plain Bool → Plain Bool → Type 0
-IsFirstOf site sometimes new such = (q : List ℕ) → IsWithin (tops_of site) q
-    → (a : Bool) × (b : Bool) × (value sometimes q ≡ Some a) × (value new q ≡ Some b) × (value such q ≡ (if is_first_test site q then Some (a && not b) else Some false))
-
--- and that of those with ACK or RST
-abbrev pub IsFirstWithAck : Site → Plain Bool → Plain Bool → Plain Bool → Type 0
-IsFirstWithAck site sometimes new first = (q : List ℕ) → IsWithin (tops_of site) q
-    → (a : Bool) × (b : Bool) × (value sometimes q ≡ Some a) × (value new q ≡ Some b)
-    × (value first q ≡ (if flags_pass true q then (if is_first_test site q then Some (a && not b) else Some false) else Some false))
 
 pub ahead_sought : (site : Site) (sometimes new first : Plain Bool) → IsFirstWithAck site sometimes new first → (found : Option (List ℕ × List ℕ))
     → MatchOption found (NoneFalseNear false (tops_of site) first sometimes) (λ pair. AreFalseNear false (tops_of site) first sometimes pair.0 pair.1)

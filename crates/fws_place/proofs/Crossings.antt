@@ -22,13 +22,13 @@ use Rattle.fws_place.specs.declared.clause.Clause.TheVariants.{WritesInsideOut}
 use Rattle.fws_place.specs.Asked.{IsSoughtPacket}
 use Rattle.fws_place.specs.Clauses.{IsAcceptedWith}
 use Rattle.fws_place.specs.Crossing.{is_from_inside, is_sent_outside, IsWrittenElsewhere, IsWrittenWithin}
-use Rattle.fws_place.specs.Delivered.{NoneDelivered, with_source}
+use Rattle.fws_place.specs.Delivered.{NoneDelivered, with_source, AreSources}
 use Rattle.fws_place.specs.Fits.{Meets}
 use Rattle.fws_place.specs.Found.{IsSought}
 use Rattle.fws_place.specs.Meaning.{new_of, point_of}
 use Rattle.fws_place.specs.Rewritings.{goes_outside, is_accepted_with, is_inside, is_outside, leaves_outside, new_exit, side_of, writes_source}
 use Rattle.fws_place.specs.Seen.{Tells}
-use Rattle.fws_place.proofs.DeliveredRows.{AreItsRows, AreSources, IsFound, none_such, passing}
+use Rattle.fws_place.proofs.DeliveredRows.{AreItsRows, IsFound, none_such, passing}
 use Rattle.fws_place.proofs.Dropping.{among_told}
 
 -- Exits

@@ -23,7 +23,7 @@ use Rattle.fws_tree.specs.Regular.{AreRegular}
 use Rattle.fws_tree.specs.Rows.{paths_of, row_hits}
 use Rattle.fws_place.specs.declared.clause.Clause.TheVariants.{KeepsDeliveredSources}
 use Rattle.fws_place.specs.Clauses.{Breaks}
-use Rattle.fws_place.specs.Delivered.{IsDeliveredIn, NoneDelivered, with_source}
+use Rattle.fws_place.specs.Delivered.{IsDeliveredIn, NoneDelivered, with_source, AreSources}
 use Rattle.fws_place.specs.Fits.{Meets}
 use Rattle.fws_place.specs.Meaning.{IsPacketOf, IsPairOf, new_of, no_ends, point_of, rec_of, widest}
 use Rattle.fws_place.specs.Rewritings.{is_accepted_with, is_delivered, new_exit, writes_source}
@@ -80,12 +80,6 @@ is_arriving site entry dst d = by (nat_eq entry 0) (is_local site dst) refl refl
         no_other false k = false≢true k
 
 -- Trees
-
--- a tree of the outcomes that write a source, at some entries
-abbrev pub AreSources : Site → Tables → (ℕ → Bool) → Plain Outcome → Type 0
-AreSources site tables keeps t =
-    (q : List ℕ) → IsWithin (tops_of site) q
-    → (o : Outcome) × (value tables.fresh.1 q ≡ Some o) × (value t q ≡ Some (if keeps (slice_index q 0) then with_source o else Drop))
 
 -- what is known of the tree's rows
 pub record AreItsRows (site : Site) (t : Plain Outcome) (rows : List (Row Outcome)) : Type 0 where

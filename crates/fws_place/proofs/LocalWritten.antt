@@ -10,7 +10,7 @@ use Rattle.fws_iv.specs.declared.iv.Iv.{Iv}
 use Rattle.fws_iv.specs.Ivs.{has, in_part}
 use Rattle.fws_net.specs.declared.outcome.End.{End}
 use Rattle.fws_net.specs.Fates.{written_addr}
-use Rattle.fws_place.specs.Delivered.{is_kept_local, IsFirstIn, NoneIn}
+use Rattle.fws_place.specs.Delivered.{is_kept_local, IsFirstIn, NoneIn, IsIn}
 use Rattle.fws_place.specs.Gathered.{HasNone, IsNext}
 
 -- Blocks
@@ -63,9 +63,6 @@ first_there local addr size block from v low aligned next =
 -- what is known of a number that is no greater than a bound
 abbrev pub IsUpTo : ℕ → ℕ → Option ℕ → Type 0
 IsUpTo d bound o = MatchOption o (bound < d) (λ x. (x ≡ d) × (d ≤ bound) × (x < 2 ^ 32))
-
-abbrev pub IsIn : (ℕ → Bool) → ℕ → ℕ → Option ℕ → Type 0
-IsIn test lo hi o = MatchOption o (NoneIn test lo (hi + 1)) (λ x. (lo ≤ x) × (x ≤ hi) × (test x ≡ true) × (x < 2 ^ 32) × NoneIn test lo x)
 
 -- a first one behind numbers that don't pass
 pub first_up_to : (test : ℕ → Bool) (lo from end d hi : ℕ) (o : Option ℕ) → lo ≤ from → NoneIn test lo from → IsFirstIn test from end d → IsUpTo d hi o → IsIn test lo hi o

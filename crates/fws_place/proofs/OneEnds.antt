@@ -22,7 +22,7 @@ use Rattle.fws_place.specs.Apart.{flags_and_icmp, AreAlikeBy, AreApart, HaveNear
 use Rattle.fws_place.specs.Clauses.{AgreeButFlagsAndType, NamesPackets}
 use Rattle.fws_place.specs.Found.{IsSought}
 use Rattle.fws_place.specs.Meaning.{IsPacketOf, IsPairOf, new_of, no_ends, point_of, rec_of}
-use Rattle.fws_place.specs.OneEnd.{alone, compares, end_alone, end_of, AreSoughtEnds, GetDifferentEnds}
+use Rattle.fws_place.specs.OneEnd.{alone, compares, end_alone, end_of, AreSoughtEnds, GetDifferentEnds, HasEnds}
 use Rattle.fws_place.specs.Pairs.{is_host}
 use Rattle.fws_place.proofs.NewPackets.{new_is, packet_within}
 use Rattle.fws_place.proofs.PairPoints.{point_back}
@@ -48,12 +48,6 @@ pub restricted_ends : (compared : Compared) → compared ≡ HostSources → (en
     → v ≡ Some (alone compared o) → u ≡ (if host then v else Some Drop) → u ≡ Some (if compares compared entry then alone compared o else Drop)
 restricted_ends Destinations same entry host is v u o e f = absurd (cc)
 restricted_ends HostSources same entry host is v u o e f = restricted (nat_eq entry 0) v u (alone HostSources o) e (f ∙ ap (λ b. if b then v else Some Drop) is)
-
--- what the tree has
-abbrev pub HasEnds : Site → Tables → Compared → Plain Outcome → Type 0
-HasEnds site tables compared t =
-    (q : List ℕ) → IsWithin (tops_of site) q
-    → (o : Outcome) × (value tables.fresh.1 q ≡ Some o) × (value t q ≡ Some (if compares compared (slice_index q 0) then alone compared o else Drop))
 
 -- Ends
 

@@ -1,5 +1,5 @@
 -- What decides which pairs ipfw can drop ahead of the look-up of connections.
-use Rattle.std.specs.Prelude.{◌≡◌, ◌≢◌, ◌⊎◌, Bool, true, ◌&&◌, not, Option, List, [], ◌∷◌, MatchOption, if◌then◌else◌}
+use Rattle.std.specs.Prelude.{◌≡◌, ◌≢◌, ◌⊎◌, Bool, true, ◌&&◌, not, Option, List, [], ◌∷◌, MatchOption, if◌then◌else◌, ℕ}
 use Rattle.std.specs.List.{swap}
 use Rattle.fws_net.specs.declared.connection.Rec.{Rec}
 use Rattle.fws_net.specs.declared.outcome.Outcome.TheVariants.{Drop}
@@ -14,6 +14,8 @@ use Rattle.fws_place.specs.Clauses.{Breaks, BreaksAheadOfLookup}
 use Rattle.fws_place.specs.Meaning.{est_of, new_of}
 use Rattle.fws_place.specs.Pairs.{is_host, with_destination}
 use Rattle.fws_place.specs.Seen.{IsAcceptedSomewhere, IsAcceptedAlike}
+use Rattle.fws_box.specs.Sides.{IsWithin}
+use Rattle.fws_tree.specs.Plain.{Plain, value}
 
 -- Where pairs go
 
@@ -66,3 +68,7 @@ exchanged_row row = record { sides = exchanged row.sides; leaf = row.leaf }
 abbrev pub exchanged_rows : List (Row Bool) → List (Row Bool)
 exchanged_rows [] = []
 exchanged_rows (row ∷ rows) = if row.leaf then exchanged_row row ∷ exchanged_rows rows else exchanged_rows rows
+
+-- the new tree has this one's values where both destinations are in each other's place
+abbrev pub IsExchanged : List ℕ → Plain Bool → Plain Bool → Type 0
+IsExchanged tops t new = (q : List ℕ) → IsWithin tops q → IsWithin tops (exchanged q) → value new q ≡ value t (exchanged q)

@@ -1,5 +1,5 @@
 -- Points that agree in all fields but some, and what a tree has there.
-use Rattle.std.specs.Prelude.{◌≡◌, ◌≢◌, ℕ, ◌/◌, ◌%◌, Bool, ◌&&◌, not, nat_eq, Some, List, [], ◌∷◌, unwrap_or, position, Contains, if◌then◌else◌}
+use Rattle.std.specs.Prelude.{◌≡◌, ◌≢◌, ℕ, ◌/◌, ◌%◌, Bool, ◌&&◌, not, nat_eq, Some, List, [], ◌∷◌, unwrap_or, position, Contains, if◌then◌else◌, ◌↔◌, true, Option, MatchOption}
 use Rattle.fws_iv.specs.declared.iv.Iv.{Iv}
 use Rattle.fws_box.specs.Sides.{IsWithin}
 use Rattle.fws_tree.specs.Changed.{Agree, IsTrueSomewhere}
@@ -78,3 +78,26 @@ has_bit size n = nat_eq (n / size % 2) 1
 -- the leaf counts, and the bit of its place is set, or it isn't
 abbrev pub is_marked : {L : Type 0} → (L → L → Bool) → L → List L → ℕ → Bool → L → Bool
 is_marked eq off keys size set x = not (eq x off) && (if set then has_bit size (place_in eq keys x) else not (has_bit size (place_in eq keys x)))
+
+-- What is found
+
+-- a point near another one at which the tree is true, or there is none
+abbrev pub IsFoundNear : ℕ → List ℕ → Plain Bool → List ℕ → Option (List ℕ) → Type 0
+IsFoundNear fields tops t point found =
+    MatchOption found ((q : List ℕ) → IsTrueAt tops t q → Agree fields point q → ⊥) (λ q. IsTrueAt tops t q × Agree fields point q)
+
+-- the tree is true at the first of two points that are sought
+abbrev pub TellsFirstNear : ℕ → List ℕ → Plain Bool → Plain Bool → Plain Bool → Type 0
+TellsFirstNear fields tops t u new = (p : List ℕ) → IsWithin tops p → (value new p ≡ Some true) ↔ IsFirstNear fields tops t u p
+
+-- the first of two such points, or there are none
+abbrev pub IsFoundFirst : ℕ → List ℕ → Plain Bool → Plain Bool → Option (List ℕ) → Type 0
+IsFoundFirst fields tops t u found = MatchOption found (NoneTrueNear fields tops t u) (IsFirstNear fields tops t u)
+
+-- two such points, or there are none
+abbrev pub AreFoundNear : ℕ → List ℕ → Plain Bool → Plain Bool → Option (List ℕ × List ℕ) → Type 0
+AreFoundNear fields tops t u found = MatchOption found (NoneTrueNear fields tops t u) (λ pair. AreTrueNear fields tops t u pair.0 pair.1)
+
+-- two points with different leaves, or a function gives the same of all leaves at such points
+abbrev pub AreFoundApart : {L X : Type 0} → (L → X) → ℕ → List ℕ → Plain L → L → Option (List ℕ × List ℕ) → Type 0
+AreFoundApart {L} f fields tops t off found = MatchOption found (AreAlikeBy f fields tops t off) (λ pair. AreApart fields tops t off pair.0 pair.1)

@@ -38,7 +38,8 @@ FittingPairsAreTold = (site : Site) (tables : Tables) (packet behind : Plain Boo
 
 -- lost pairs are dropped
 abbrev pub LostPairsAreDropped : Type 0
-LostPairsAreDropped = (site : Site) (tables : Tables) → AreRegular site tables → (p : Packet) (r : Rec) → IsPairOf site p r → IsLost site p r → est_of tables p r ≡ Drop
+LostPairsAreDropped = (site : Site) (tables : Tables) → AreRegular site tables → (p : Packet) (r : Rec) → IsPairOf site p r → IsLost site p r
+    → est_of tables p r ≡ Drop
 
 -- a point of a site is that of its packet and its ends
 abbrev pub PointsAreOfPairs : Type 0

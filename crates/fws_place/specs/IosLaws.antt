@@ -27,14 +27,16 @@ IosHostPasses = (site : Site) (tables : Tables) → AreRegular site tables → F
 -- an arriving pair is lost and dropped, or its packet alone tells what becomes of it: it is accepted with nothing written
 -- where its packet is accepted in some connection, and else dropped
 abbrev pub IosPairsAreTold : Type 0
-IosPairsAreTold = (site : Site) (tables : Tables) → AreRegular site tables → Fits Ios site tables → (p : Packet) (r : Rec) → IsPairOf site p r → is_host p ≡ false
+IosPairsAreTold = (site : Site) (tables : Tables) → AreRegular site tables → Fits Ios site tables → (p : Packet) (r : Rec) → IsPairOf site p r
+    → is_host p ≡ false
     → (IsLost site p r × (est_of tables p r ≡ Drop))
     ⊎ (IsAcceptedSomewhere site tables p × (est_of tables p r ≡ Accept nothing_written))
     ⊎ ((IsAcceptedSomewhere site tables p → ⊥) × (est_of tables p r ≡ Drop))
 
 -- an arriving packet that is accepted when it is new is accepted in some connection
 abbrev pub IosAcceptedGoOn : Type 0
-IosAcceptedGoOn = (site : Site) (tables : Tables) → AreRegular site tables → Fits Ios site tables → (p : Packet) (w : Rewrite) → IsPacketOf site p → is_host p ≡ false
+IosAcceptedGoOn = (site : Site) (tables : Tables) → AreRegular site tables → Fits Ios site tables → (p : Packet) (w : Rewrite) → IsPacketOf site p
+    → is_host p ≡ false
     → new_of tables p ≡ Accept w → IsAcceptedSomewhere site tables p
 
 -- what is kept of a new packet that is accepted with this rewriting
@@ -55,7 +57,8 @@ IosKeepsNewPackets = (site : Site) (tables : Tables) → AreRegular site tables 
 
 -- of arriving packets that differ in flags alone ACK or RST tells which are accepted when they are new
 abbrev pub IosNewByAck : Type 0
-IosNewByAck = (site : Site) (tables : Tables) → AreRegular site tables → Fits Ios site tables → (p q : Packet) → IsPacketOf site p → IsPacketOf site q → is_host p ≡ false
+IosNewByAck = (site : Site) (tables : Tables) → AreRegular site tables → Fits Ios site tables → (p q : Packet) → IsPacketOf site p → IsPacketOf site q
+    → is_host p ≡ false
     → AgreeButFlags p q → has_ack_or_rst p ≡ has_ack_or_rst q → is_accepted (new_of tables p) ≡ is_accepted (new_of tables q)
 
 -- and which are accepted in some connection
@@ -66,11 +69,14 @@ IosEstablishedByAck = (site : Site) (tables : Tables) → AreRegular site tables
 -- where a segment with ACK or RST that isn't lost is dropped when it is new and accepted in some connection, one that differs
 -- from it in flags alone and has neither is accepted in some connection, if it is decided whether it is
 abbrev pub IosAckAhead : Type 0
-IosAckAhead = (site : Site) (tables : Tables) → AreRegular site tables → Fits Ios site tables → (p q : Packet) (b : Bool) → IsPacketOf site p → IsPacketOf site q
+IosAckAhead = (site : Site) (tables : Tables) → AreRegular site tables → Fits Ios site tables → (p q : Packet) (b : Bool) → IsPacketOf site p
+    → IsPacketOf site q
     → is_host p ≡ false → exit_at site p.entry p.dst ≢ Lost → p.proto ≡ 6 → AgreeButFlags p q → has_ack_or_rst p ≡ true → has_ack_or_rst q ≡ false
     → new_of tables p ≡ Drop → IsAcceptedSomewhere site tables p → ((b ≡ true) ↔ IsAcceptedSomewhere site tables q) → IsAcceptedSomewhere site tables q
 
 -- packets from the inside to the outside that agree in all but entries and flags and are accepted get the same source
 abbrev pub IosSourcesAgree : Type 0
-IosSourcesAgree = (site : Site) (tables : Tables) → AreRegular site tables → Fits Ios site tables → (p q : Packet) (v w : Rewrite) → IsPacketOf site p → IsPacketOf site q
-    → AgreeButEntryAndFlags p q → new_of tables p ≡ Accept v → new_of tables q ≡ Accept w → goes_outside site p v ≡ true → goes_outside site q w ≡ true → v.src ≡ w.src
+IosSourcesAgree = (site : Site) (tables : Tables) → AreRegular site tables → Fits Ios site tables → (p q : Packet) (v w : Rewrite) → IsPacketOf site p
+    → IsPacketOf site q
+    → AgreeButEntryAndFlags p q → new_of tables p ≡ Accept v → new_of tables q ≡ Accept w → goes_outside site p v ≡ true → goes_outside site q w ≡ true
+    → v.src ≡ w.src

@@ -14,6 +14,7 @@ pub mod Found
 pub mod Gathered
 pub mod IosLaws
 pub mod IpfwLaws
+pub mod Kept
 pub mod Lost
 pub mod Meaning
 pub mod NamedTwo

@@ -19,7 +19,12 @@ point_of p r = p.entry ∷ p.proto ∷ p.dst ∷ p.dport ∷ p.src ∷ p.sport �
 
 -- the ends of a point
 abbrev pub rec_of : List ℕ → Rec
-rec_of p = record { rdst = value_of p fields.SentDst; rdport = value_of p fields.SentDport; rsrc = value_of p fields.SentSrc; rsport = value_of p fields.SentSport }
+rec_of p = record {
+  rdst = value_of p fields.SentDst;
+  rdport = value_of p fields.SentDport;
+  rsrc = value_of p fields.SentSrc;
+  rsport = value_of p fields.SentSport;
+}
 
 -- the greatest values that packets and ends have room for
 abbrev pub widest : List ℕ

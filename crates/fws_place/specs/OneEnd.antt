@@ -1,5 +1,5 @@
 -- Packets that agree in all but flags and ICMP types and get different ends.
-use Rattle.std.specs.Prelude.{◌≡◌, ◌≢◌, ℕ, Bool, true, not, nat_eq, Option, None, MatchOption}
+use Rattle.std.specs.Prelude.{◌≡◌, ◌≢◌, ℕ, Bool, true, not, nat_eq, Option, None, MatchOption, Some, List, if◌then◌else◌}
 use Rattle.fws_net.specs.declared.outcome.End.{End}
 use Rattle.fws_net.specs.declared.outcome.Outcome.{Outcome}
 use Rattle.fws_net.specs.declared.outcome.Outcome.TheVariants.{Drop, Accept}
@@ -11,6 +11,11 @@ use Rattle.fws_place.specs.declared.breach.Pair.{Pair}
 use Rattle.fws_place.specs.declared.one_end.Compared.{Compared}
 use Rattle.fws_place.specs.declared.one_end.Compared.TheVariants.{Destinations, HostSources}
 use Rattle.fws_place.specs.Clauses.{AgreeButFlagsAndType, Differ, NamesPackets}
+use Rattle.fws_net.specs.Points.{tops_of}
+use Rattle.fws_tree.specs.Plain.{Plain, value}
+use Rattle.fws_box.specs.Sides.{IsWithin}
+use Rattle.fws_box.specs.declared.field.Field.TheVariants as fields
+use Rattle.fws_box.specs.Fields.{value_of}
 
 -- the end that is compared
 abbrev pub end_of : Compared → Rewrite → Option End
@@ -43,3 +48,8 @@ abbrev pub AreSoughtEnds : Site → Tables → Compared → Option (Pair × Opti
 AreSoughtEnds site tables compared found =
     MatchOption found ((first : Pair) (second : Option Pair) → NamesPackets site (GetDifferentEnds compared tables) first second → ⊥)
     (λ named. NamesPackets site (GetDifferentEnds compared tables) named.0 named.1)
+
+-- a tree of the ends that are compared, and drops for packets whose ends aren't
+abbrev pub HasEnds : Site → Tables → Compared → Plain Outcome → Type 0
+HasEnds site tables compared t = (q : List ℕ) → IsWithin (tops_of site) q
+    → (o : Outcome) × (value tables.fresh.1 q ≡ Some o) × (value t q ≡ Some (if compares compared (value_of q fields.Entry) then alone compared o else Drop))

@@ -100,3 +100,8 @@ pub record AreRedirects (site : Site) (tables : Tables) (rs : List Redirect) : T
   pub few : length rs ≤ 4096
   pub somewhere : All (λ redirect. redirect.public.addr ≢ 0) rs
   pub different : AreDifferent rs
+
+-- all redirects that accepted new packets of the site show are among these
+abbrev pub HaveAllShown : Site → Tables → List Redirect → Type 0
+HaveAllShown site tables rs =
+    (p : Packet) (w : Rewrite) (e : End) → IsPacketOf site p → new_of tables p ≡ Accept w → w.dst ≡ Some e → Contains rs (redirect_of e p)

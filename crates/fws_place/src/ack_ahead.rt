@@ -1,14 +1,12 @@
 //! Packets with ACK or RST that are dropped when they are new, though established ones are accepted.
 
-ghost use Rattle.std.specs.Prelude.{◌≡◌, ◌^◌, ◌<◌, ◌&&◌, not, true, false, ℕ, Bool, List, Some, IfOk, MatchOption, nat_eq, if◌then◌else◌};
-ghost use Rattle.fws_box.specs.Sides.{IsWithin};
-ghost use Rattle.fws_box.specs.declared.field.Field.TheVariants as fields;
+ghost use Rattle.std.specs.Prelude.{◌≡◌, ◌^◌, ◌<◌, true, false, ℕ, IfOk};
 ghost use Rattle.fws_iv.specs.Ivs.{has};
 ghost use Rattle.fws_net.specs.Points.{tops_of};
 ghost use Rattle.fws_net.specs.Routes.{IsSound};
-ghost use Rattle.fws_place.specs.ByAck.{acknowledges_as, arrives_at, is_found, AreAheadAt};
+ghost use Rattle.fws_place.specs.ByAck.{is_found, is_first_test, is_found_tcp, AreFoundAhead, IsFirstOf, IsFirstWithAck};
 ghost use Rattle.fws_tree.specs.Plain.{value};
-ghost use Rattle.fws_box.specs.Fields.{value_of};
+ghost use Rattle.fws_place.specs.Kept.{IsKeptWhere};
 
 use crate::by_ack::{acknowledging_in, arriving_in, false_near};
 use fws_box::{Field, Point};
@@ -36,7 +34,7 @@ fn found_set(alloc: Global, site: &Site) -> Result<Ivs, Memory>
 fn found_in(alloc: Global, site: &Site, tree: &Tree<bool>) -> Result<Tree<bool>, Memory>
     requires { tree.now.0 ≡ tops_of site.now }
     ensures tops { IfOk result (λ t. t.0 ≡ tops_of site.now) }
-    ensures value { IfOk result (λ t. (q : List ℕ) → IsWithin (tops_of site.now) q → value t.1 q ≡ (if nat_eq (value_of q fields.Proto) 6 && is_found site.now (value_of q fields.Dst) then value tree.now.1 q else Some false)) }
+    ensures value { IfOk result (λ t. IsKeptWhere (tops_of site.now) (is_found_tcp site.now) tree.now.1 t.1) }
 {
     let found = kept_in(alloc, tree, Field::Dst, found_set(alloc, site)?, false)?;
     kept_in(alloc, &found, Field::Proto, one(alloc, TCP, TCP)?, false)
@@ -47,7 +45,7 @@ fn arriving_found(alloc: Global, site: &Site, tree: &Tree<bool>) -> Result<Tree<
     requires sound { IsSound site.now }
     requires tops { tree.now.0 ≡ tops_of site.now }
     ensures tops { IfOk result (λ t. t.0 ≡ tops_of site.now) }
-    ensures value { IfOk result (λ t. (q : List ℕ) → IsWithin (tops_of site.now) q → value t.1 q ≡ (if arrives_at q && (nat_eq (value_of q fields.Proto) 6 && is_found site.now (value_of q fields.Dst)) then value tree.now.1 q else Some false)) }
+    ensures value { IfOk result (λ t. IsKeptWhere (tops_of site.now) (is_first_test site.now) tree.now.1 t.1) }
 {
     let found = found_in(alloc, site, tree)?;
     arriving_in(alloc, site, &found)
@@ -64,7 +62,7 @@ fn first_of(
     requires tops { sometimes.now.0 ≡ tops_of site.now }
     requires new_tops { new.now.0 ≡ tops_of site.now }
     ensures tops { IfOk result (λ t. t.0 ≡ tops_of site.now) }
-    ensures value { IfOk result (λ t. (q : List ℕ) → IsWithin (tops_of site.now) q → (a : Bool) × (b : Bool) × (value sometimes.now.1 q ≡ Some a) × (value new.now.1 q ≡ Some b) × (value t.1 q ≡ (if arrives_at q && (nat_eq (value_of q fields.Proto) 6 && is_found site.now (value_of q fields.Dst)) then Some (a && not b) else Some false))) }
+    ensures value { IfOk result (λ t. IsFirstOf site.now sometimes.now.1 new.now.1 t.1) }
 {
     let both = without(alloc, sometimes, new)?;
     arriving_found(alloc, site, &both)
@@ -81,7 +79,7 @@ fn first_with_ack(
     requires tops { sometimes.now.0 ≡ tops_of site.now }
     requires new_tops { new.now.0 ≡ tops_of site.now }
     ensures tops { IfOk result (λ t. t.0 ≡ tops_of site.now) }
-    ensures value { IfOk result (λ t. (q : List ℕ) → IsWithin (tops_of site.now) q → (a : Bool) × (b : Bool) × (value sometimes.now.1 q ≡ Some a) × (value new.now.1 q ≡ Some b) × (value t.1 q ≡ (if acknowledges_as true (value_of q fields.Flags) then (if arrives_at q && (nat_eq (value_of q fields.Proto) 6 && is_found site.now (value_of q fields.Dst)) then Some (a && not b) else Some false) else Some false))) }
+    ensures value { IfOk result (λ t. IsFirstWithAck site.now sometimes.now.1 new.now.1 t.1) }
 {
     let such = first_of(alloc, site, sometimes, new)?;
     acknowledging_in(alloc, site, &such, true)
@@ -99,7 +97,7 @@ pub(crate) fn ahead_at(
     requires sound { IsSound site.now }
     requires tops { sometimes.now.0 ≡ tops_of site.now }
     requires new_tops { new.now.0 ≡ tops_of site.now }
-    ensures { IfOk result (λ found. MatchOption found ((p q : List ℕ) → AreAheadAt site.now sometimes.now.1 new.now.1 p q → ⊥) (λ pair. AreAheadAt site.now sometimes.now.1 new.now.1 pair.0 pair.1)) }
+    ensures { IfOk result (AreFoundAhead site.now sometimes.now.1 new.now.1) }
 {
     let first = first_with_ack(alloc, site, sometimes, new)?;
     false_near(alloc, site, &first, sometimes, false)

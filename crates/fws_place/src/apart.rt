@@ -1,7 +1,7 @@
 //! Points that agree in all fields but some and have different leaves.
 
-ghost use Rattle.std.specs.Prelude.{◌≡◌, ◌<◌, List, IfOk, MatchOption, All, Contains};
-ghost use Rattle.fws_place.specs.Apart.{has_bit, is_marked, place_in, AreAlikeBy, AreApart, HasValuesAmong};
+ghost use Rattle.std.specs.Prelude.{◌≡◌, ◌<◌, IfOk, All, Contains};
+ghost use Rattle.fws_place.specs.Apart.{has_bit, is_marked, place_in, HasValuesAmong, AreFoundApart};
 
 use crate::exact::put_leaf;
 use crate::true_near::true_together;
@@ -86,7 +86,7 @@ fn apart_by<L: Leaf>(
     fields: u16,
 ) -> Result<Option<(Point, Point)>, Memory>
     requires { 0 < size }
-    ensures { IfOk result (λ found. MatchOption found (AreAlikeBy (λ x. has_bit size (place_in L.PartialEq.eq kept.now.keys x)) fields tree.now.0 tree.now.1 off.now) (λ pair. AreApart fields tree.now.0 tree.now.1 off.now pair.0 pair.1)) }
+    ensures { IfOk result (λ found. AreFoundApart (λ x. has_bit size (place_in L.PartialEq.eq kept.now.keys x)) fields tree.now.0 tree.now.1 off.now found) }
 {
     let set = ByBit {
         off,
@@ -115,7 +115,7 @@ fn apart_among<L: Leaf>(
     fields: u16,
 ) -> Result<Option<(Point, Point)>, Memory>
     requires { HasValuesAmong tree.now.1 kept.now.keys }
-    ensures { IfOk result (λ found. MatchOption found (AreAlikeBy (λ x. x) fields tree.now.0 tree.now.1 off.now) (λ pair. AreApart fields tree.now.0 tree.now.1 off.now pair.0 pair.1)) }
+    ensures { IfOk result (AreFoundApart (λ x. x) fields tree.now.0 tree.now.1 off.now) }
 {
     let count = kept.len() as u64;
     let mut size: u64 = 1;
@@ -137,7 +137,7 @@ pub(crate) fn apart<L: Leaf>(
     off: &L,
     fields: u16,
 ) -> Result<Option<(Point, Point)>, Memory>
-    ensures { IfOk result (λ found. MatchOption found (AreAlikeBy (λ x. x) fields tree.now.0 tree.now.1 off.now) (λ pair. AreApart fields tree.now.0 tree.now.1 off.now pair.0 pair.1)) }
+    ensures { IfOk result (AreFoundApart (λ x. x) fields tree.now.0 tree.now.1 off.now) }
 {
     let kept = once(alloc, tree.shared().leaves)?;
     apart_among(alloc, tree, off, &kept, fields)

@@ -1,13 +1,11 @@
 //! Points that flags tell apart though ACK and RST are the same.
 
-ghost use Rattle.std.specs.Prelude.{◌≡◌, not, false, ℕ, Bool, List, Some, IfOk, MatchOption, if◌then◌else◌};
-ghost use Rattle.fws_box.specs.Sides.{IsWithin};
-ghost use Rattle.fws_box.specs.declared.field.Field.TheVariants as fields;
+ghost use Rattle.std.specs.Prelude.{◌≡◌, false, Some, IfOk};
 ghost use Rattle.fws_net.specs.Points.{tops_of};
 ghost use Rattle.fws_net.specs.Routes.{IsSound};
-ghost use Rattle.fws_place.specs.ByAck.{acknowledges_as, arrives_at, AreFalseNear, AreSoughtByMore, AreToldByMore};
+ghost use Rattle.fws_place.specs.ByAck.{arrives_at, AreSoughtByMore, flags_pass, AreFoundFalse, AreFoundTold, IsArrivingWith, IsFalseWith};
 ghost use Rattle.fws_tree.specs.Plain.{value};
-ghost use Rattle.fws_box.specs.Fields.{value_of};
+ghost use Rattle.fws_place.specs.Kept.{IsKeptWhere};
 
 use crate::ack_flags::ack_flags;
 use crate::true_near::true_together;
@@ -32,7 +30,7 @@ pub(crate) fn arriving_in(
     requires sound { IsSound site.now }
     requires tops { tree.now.0 ≡ tops_of site.now }
     ensures tops { IfOk result (λ t. t.0 ≡ tops_of site.now) }
-    ensures value { IfOk result (λ t. (q : List ℕ) → IsWithin (tops_of site.now) q → value t.1 q ≡ (if arrives_at q then value tree.now.1 q else Some false)) }
+    ensures value { IfOk result (λ t. IsKeptWhere (tops_of site.now) arrives_at tree.now.1 t.1) }
 {
     let entries = one(alloc, 1, tops(site)[Field::Entry as usize])?;
     kept_in(alloc, tree, Field::Entry, entries, false)
@@ -48,7 +46,7 @@ pub(crate) fn acknowledging_in(
 ) -> Result<Tree<bool>, Memory>
     requires { tree.now.0 ≡ tops_of site.now }
     ensures tops { IfOk result (λ t. t.0 ≡ tops_of site.now) }
-    ensures value { IfOk result (λ t. (q : List ℕ) → IsWithin (tops_of site.now) q → value t.1 q ≡ (if acknowledges_as asked (value_of q fields.Flags) then value tree.now.1 q else Some false)) }
+    ensures value { IfOk result (λ t. IsKeptWhere (tops_of site.now) (flags_pass asked) tree.now.1 t.1) }
 {
     let flags = ack_flags(alloc, asked)?;
     kept_in(alloc, tree, Field::Flags, flags, false)
@@ -64,7 +62,7 @@ fn arriving_with(
     requires sound { IsSound site.now }
     requires tops { tree.now.0 ≡ tops_of site.now }
     ensures tops { IfOk result (λ t. t.0 ≡ tops_of site.now) }
-    ensures value { IfOk result (λ t. (q : List ℕ) → IsWithin (tops_of site.now) q → value t.1 q ≡ (if acknowledges_as asked (value_of q fields.Flags) then (if arrives_at q then value tree.now.1 q else Some false) else Some false)) }
+    ensures value { IfOk result (λ t. IsArrivingWith asked (tops_of site.now) tree.now.1 t.1) }
 {
     let arriving = arriving_in(alloc, site, tree)?;
     acknowledging_in(alloc, site, &arriving, asked)
@@ -79,7 +77,7 @@ fn false_with(
 ) -> Result<Tree<bool>, Memory>
     requires { tree.now.0 ≡ tops_of site.now }
     ensures tops { IfOk result (λ t. t.0 ≡ tops_of site.now) }
-    ensures value { IfOk result (λ t. (q : List ℕ) → IsWithin (tops_of site.now) q → (b : Bool) × (value tree.now.1 q ≡ Some b) × (value t.1 q ≡ (if acknowledges_as asked (value_of q fields.Flags) then Some (not b) else Some false))) }
+    ensures value { IfOk result (λ t. IsFalseWith asked (tops_of site.now) tree.now.1 t.1) }
 {
     let other = negated(alloc, tree)?;
     acknowledging_in(alloc, site, &other, asked)
@@ -96,7 +94,7 @@ pub(crate) fn false_near(
 ) -> Result<Option<(Point, Point)>, Memory>
     requires first { first.now.0 ≡ tops_of site.now }
     requires tops { tree.now.0 ≡ tops_of site.now }
-    ensures { IfOk result (λ found. MatchOption found ((p q : List ℕ) → AreFalseNear asked (tops_of site.now) first.now.1 tree.now.1 p q → ⊥) (λ pair. AreFalseNear asked (tops_of site.now) first.now.1 tree.now.1 pair.0 pair.1)) }
+    ensures { IfOk result (AreFoundFalse asked (tops_of site.now) first.now.1 tree.now.1) }
 {
     let second = false_with(alloc, site, tree, asked)?;
     true_together(alloc, first, &second, FLAGS_ALONE)
@@ -112,7 +110,7 @@ fn told_with(
 ) -> Result<Option<(Point, Point)>, Memory>
     requires sound { IsSound site.now }
     requires tops { tree.now.0 ≡ tops_of site.now }
-    ensures { IfOk result (λ found. MatchOption found ((p q : List ℕ) → AreToldByMore asked (tops_of site.now) tree.now.1 p q → ⊥) (λ pair. AreToldByMore asked (tops_of site.now) tree.now.1 pair.0 pair.1)) }
+    ensures { IfOk result (AreFoundTold asked (tops_of site.now) tree.now.1) }
 {
     let first = arriving_with(alloc, site, tree, asked)?;
     false_near(alloc, site, &first, tree, asked)

@@ -1,7 +1,6 @@
 //! Where packets go that cross a translation: from interfaces on the inside, and to those on the outside.
 
-ghost use Rattle.std.specs.Prelude.{◌≡◌, ℕ, ◌+◌, ◌<◌, ◌^◌, length, ◌&&◌, not, nat_lt, List, IfOk};
-ghost use Rattle.fws_box.specs.Sides.{IsWithin, sides_have};
+ghost use Rattle.std.specs.Prelude.{◌≡◌, ℕ, ◌+◌, ◌<◌, ◌^◌, length, ◌&&◌, not, nat_lt, IfOk};
 ghost use Rattle.fws_box.specs.declared.field.Field.TheVariants as fields;
 ghost use Rattle.fws_iv.specs.Ivs.{has};
 ghost use Rattle.fws_net.specs.Points.{tops_of};
@@ -9,6 +8,7 @@ ghost use Rattle.fws_net.specs.Routes.{IsSound, route_of};
 ghost use Rattle.fws_place.specs.Crossing.{is_sent_outside};
 ghost use Rattle.fws_place.specs.Rewritings.{is_inside, is_outside, side_of};
 ghost use Rattle.fws_box.specs.Fields.{value_of};
+ghost use Rattle.fws_place.specs.Kept.{HaveWhere};
 
 use fws_box::{Field, whole_sides};
 use fws_iv::{Ivs, one};
@@ -65,7 +65,7 @@ pub(crate) fn inside_entries(alloc: Global, site: &Site) -> Result<Ivs, Memory>
 /// The sides of what comes from the inside. An error is want of memory.
 pub(crate) fn inside_sides(alloc: Global, site: &Site) -> Result<[Ivs; 12], Memory>
     requires { IsSound site.now }
-    ensures { IfOk result (λ sides. (p : List ℕ) → IsWithin (tops_of site.now) p → sides_have sides p ≡ is_inside (side_of site.now (value_of p fields.Entry))) }
+    ensures { IfOk result (HaveWhere (tops_of site.now) (λ p. is_inside (side_of site.now (value_of p fields.Entry)))) }
 {
     let tops = tops(site);
     let mut sides = whole_sides(alloc, &tops)?;

@@ -1,9 +1,9 @@
 //! Destinations that are local once an end is written over them.
 
-ghost use Rattle.std.specs.Prelude.{◌≡◌, ℕ, ◌+◌, ◌-◌, ◌%◌, ◌^◌, ◌<◌, ◌≤◌, true, false, MatchOption};
+ghost use Rattle.std.specs.Prelude.{◌≡◌, ℕ, ◌+◌, ◌-◌, ◌%◌, ◌^◌, ◌<◌, ◌≤◌, MatchOption};
 ghost use Rattle.fws_iv.specs.Ivs.{has};
 ghost use Rattle.fws_net.specs.Fates.{written_addr};
-ghost use Rattle.fws_place.specs.Delivered.{is_kept_local, IsFirstIn, NoneIn};
+ghost use Rattle.fws_place.specs.Delivered.{is_kept_local, IsFoundFirst, IsFoundIn, IsFoundWritten, IsIn};
 
 use crate::values::next_value;
 use fws_iv::Ivs;
@@ -16,7 +16,7 @@ fn first_in_block(local: &Ivs, addr: u32, size: u64, block: u64, from: u64) -> O
     requires from { from < size }
     requires aligned { block % size ≡ 0 }
     requires low { block ≤ 2 ^ 33 }
-    ensures { MatchOption result (NoneIn (is_kept_local local.now addr size) (block + from) (block + size)) (IsFirstIn (is_kept_local local.now addr size) (block + from) (block + size)) }
+    ensures { IsFoundFirst (is_kept_local local.now addr size) (block + from) (block + size) result }
 {
     let begin = addr as u64;
     let top = (begin + size - 1) as u32;
@@ -40,7 +40,7 @@ fn up_to(d: u64, bound: u32) -> Option<u32>
 pub(crate) fn kept_local(local: &Ivs, addr: u32, size: u64, lo: u32, hi: u32) -> Option<u32>
     requires some { 0 < size }
     requires fits { addr + size ≤ 2 ^ 32 }
-    ensures { MatchOption result (NoneIn (is_kept_local local.now addr size) lo (hi + 1)) (λ d. (lo ≤ d) × (d ≤ hi) × (is_kept_local local.now addr size d ≡ true) × (d < 2 ^ 32) × NoneIn (is_kept_local local.now addr size) lo d) }
+    ensures { IsIn (is_kept_local local.now addr size) lo hi result }
 {
     let from = lo as u64 % size;
     let block = lo as u64 - from;
@@ -57,7 +57,7 @@ pub(crate) fn kept_local(local: &Ivs, addr: u32, size: u64, lo: u32, hi: u32) ->
 fn kept_local_of(local: &Ivs, addr: u32, size: u64, side: &Ivs) -> Option<u32>
     requires some { 0 < size }
     requires fits { addr + size ≤ 2 ^ 32 }
-    ensures { MatchOption result ((d : ℕ) → has side.now d ≡ true → is_kept_local local.now addr size d ≡ false) (λ d. (d < 2 ^ 32) × (has side.now d ≡ true) × (is_kept_local local.now addr size d ≡ true)) }
+    ensures { IsFoundIn (is_kept_local local.now addr size) side.now result }
 {
     for part in side.parts() {
         if let Some(d) = kept_local(local, addr, size, part.lo, part.hi) {
@@ -88,7 +88,7 @@ pub(crate) fn writes_addresses(end: Option<End>)
 
 /// A destination of the side that is local once the end is written over it. The work is that of the side's ranges.
 pub(crate) fn local_of(local: &Ivs, end: Option<End>, side: &Ivs) -> Option<u32>
-    ensures { MatchOption result ((d : ℕ) → d < 2 ^ 32 → has side.now d ≡ true → has local.now (written_addr end d) ≡ true → ⊥) (λ d. (has side.now d ≡ true) × (has local.now (written_addr end d) ≡ true) × (d < 2 ^ 32)) }
+    ensures { IsFoundWritten local.now end side.now result }
 {
     match end {
         None => kept_local_of(local, 0, 4_294_967_296, side),

@@ -1,12 +1,11 @@
 //! Whether ipfw can drop established packets ahead of the look-up of connections.
 
-ghost use Rattle.std.specs.Prelude.{◌≡◌, ℕ, Bool, true, false, ◌&&◌, ◌||◌, not, nat_eq, List, Some, if◌then◌else◌, IfOk};
-ghost use Rattle.fws_box.specs.Sides.{IsWithin, sides_have};
+ghost use Rattle.std.specs.Prelude.{◌≡◌, true, false, ◌&&◌, ◌||◌, not, nat_eq, Some, IfOk};
 ghost use Rattle.fws_box.specs.declared.field.Field.TheVariants as fields;
 ghost use Rattle.fws_net.specs.Points.{tops_of};
 ghost use Rattle.fws_net.specs.Routes.{IsSound, is_local};
 ghost use Rattle.fws_place.specs.declared.clause.Clause.TheVariants.{DropsAheadOfLookup};
-ghost use Rattle.fws_place.specs.AheadOfLookup.{exchanged, exchanged_row, exchanged_rows, passes, stays, IsAcceptedNew, IsAcceptedNewAlike, IsDroppedOfAlike, IsDroppedOfPacket, IsSoughtAmong};
+ghost use Rattle.fws_place.specs.AheadOfLookup.{exchanged, exchanged_row, exchanged_rows, passes, stays, IsAcceptedNew, IsAcceptedNewAlike, IsDroppedOfAlike, IsDroppedOfPacket, IsSoughtAmong, IsExchanged};
 ghost use Rattle.fws_place.specs.Clauses.{BreaksAheadOfLookup};
 ghost use Rattle.fws_place.specs.Found.{IsSought};
 ghost use Rattle.fws_place.specs.Pairs.{is_host};
@@ -14,6 +13,8 @@ ghost use Rattle.fws_place.specs.Seen.{IsAcceptedPair, IsAcceptedSomewhere, IsAc
 ghost use Rattle.fws_tree.specs.Plain.{value};
 ghost use Rattle.fws_tree.specs.Regular.{AreRegular};
 ghost use Rattle.fws_box.specs.Fields.{value_of};
+ghost use Rattle.fws_place.specs.Kept.{AreMixed, HaveWhere, IsKeptWhere};
+ghost use Rattle.fws_place.specs.ByAck.{arrives_at};
 
 use crate::breach::Pair;
 use crate::lost::passing_sides;
@@ -30,7 +31,7 @@ use std::alloc::Global;
 /// The sides of the host's packets. An error is want of memory.
 pub(crate) fn host_sides(alloc: Global, site: &Site) -> Result<[Ivs; 12], Memory>
     requires { IsSound site.now }
-    ensures { IfOk result (λ sides. (p : List ℕ) → IsWithin (tops_of site.now) p → sides_have sides p ≡ nat_eq (value_of p fields.Entry) 0) }
+    ensures { IfOk result (HaveWhere (tops_of site.now) (λ p. nat_eq (value_of p fields.Entry) 0)) }
 {
     let tops = tops(site);
     let mut sides = whole_sides(alloc, &tops)?;
@@ -41,7 +42,7 @@ pub(crate) fn host_sides(alloc: Global, site: &Site) -> Result<[Ivs; 12], Memory
 // The sides of the pairs that arrive and are delivered.
 fn staying_sides(alloc: Global, site: &Site) -> Result<[Ivs; 12], Memory>
     requires { IsSound site.now }
-    ensures { IfOk result (λ sides. (p : List ℕ) → IsWithin (tops_of site.now) p → sides_have sides p ≡ (not (nat_eq (value_of p fields.Entry) 0) && is_local site.now (value_of p fields.SentDst))) }
+    ensures { IfOk result (HaveWhere (tops_of site.now) (λ p. arrives_at p && is_local site.now (value_of p fields.SentDst))) }
 {
     let tops = tops(site);
     let mut sides = whole_sides(alloc, &tops)?;
@@ -92,7 +93,7 @@ fn exchanged_rows(alloc: Global, rows: &[Row<bool>]) -> Result<Vec<Row<bool>>, M
 // The tree with the values of this one where both destinations are in each other's place.
 fn exchanged(alloc: Global, tree: &Tree<bool>) -> Result<Tree<bool>, Memory>
     ensures tops { IfOk result (λ t. t.0 ≡ tree.now.0) }
-    ensures value { IfOk result (λ t. (q : List ℕ) → IsWithin tree.now.0 q → IsWithin tree.now.0 (exchanged q) → value t.1 q ≡ value tree.now.1 (exchanged q)) }
+    ensures value { IfOk result (λ t. IsExchanged tree.now.0 tree.now.1 t.1) }
 {
     let tops = tree.tops();
     let paths = tree.paths(alloc)?;
@@ -105,7 +106,7 @@ fn of_host(alloc: Global, site: &Site, tree: &Tree<bool>) -> Result<Tree<bool>, 
     requires sound { IsSound site.now }
     requires tops { tree.now.0 ≡ tops_of site.now }
     ensures tops { IfOk result (λ t. t.0 ≡ tops_of site.now) }
-    ensures value { IfOk result (λ t. (q : List ℕ) → IsWithin (tops_of site.now) q → value t.1 q ≡ (if nat_eq (value_of q fields.Entry) 0 then value tree.now.1 q else Some false)) }
+    ensures value { IfOk result (λ t. IsKeptWhere (tops_of site.now) (λ q. nat_eq (value_of q fields.Entry) 0) tree.now.1 t.1) }
 {
     let sides = host_sides(alloc, site)?;
     tree.restrict(alloc, &sides, false)
@@ -157,7 +158,7 @@ pub(crate) fn together(
     requires second { second.now.0 ≡ first.now.0 }
     requires third { third.now.0 ≡ first.now.0 }
     ensures tops { IfOk result (λ t. t.0 ≡ first.now.0) }
-    ensures value { IfOk result (λ t. (q : List ℕ) → IsWithin first.now.0 q → (a : Bool) × (b : Bool) × (c : Bool) × (value first.now.1 q ≡ Some a) × (value second.now.1 q ≡ Some b) × (value third.now.1 q ≡ Some c) × (value t.1 q ≡ Some (a, (b, c)))) }
+    ensures value { IfOk result (λ t. AreMixed (λ a b c. (a, (b, c))) first.now.0 first.now.1 second.now.1 third.now.1 t.1) }
 {
     let both = second.pair(alloc, third)?;
     first.pair(alloc, &both)
@@ -173,7 +174,7 @@ fn dropped_with_either(
     requires first { first.now.0 ≡ accepted.now.0 }
     requires second { second.now.0 ≡ accepted.now.0 }
     ensures tops { IfOk result (λ t. t.0 ≡ accepted.now.0) }
-    ensures value { IfOk result (λ t. (q : List ℕ) → IsWithin accepted.now.0 q → (a : Bool) × (b : Bool) × (c : Bool) × (value accepted.now.1 q ≡ Some a) × (value first.now.1 q ≡ Some b) × (value second.now.1 q ≡ Some c) × (value t.1 q ≡ Some (not a && (b || c)))) }
+    ensures value { IfOk result (λ t. AreMixed (λ a b c. not a && (b || c)) accepted.now.0 accepted.now.1 first.now.1 second.now.1 t.1) }
 {
     let all = together(alloc, accepted, first, second)?;
     all.relabel(alloc, &DroppedWithEither)

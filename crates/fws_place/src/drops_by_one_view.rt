@@ -1,7 +1,6 @@
 //! Whether established packets are dropped by what one rule can see.
 
-ghost use Rattle.std.specs.Prelude.{◌≡◌, ℕ, Bool, ◌&&◌, not, List, Some, IfOk};
-ghost use Rattle.fws_box.specs.Sides.{IsWithin};
+ghost use Rattle.std.specs.Prelude.{◌≡◌, ◌&&◌, not, IfOk};
 ghost use Rattle.fws_net.specs.Points.{tops_of};
 ghost use Rattle.fws_net.specs.Routes.{IsSound};
 ghost use Rattle.fws_place.specs.declared.clause.Clause.TheVariants.{DropsByOneView};
@@ -10,6 +9,7 @@ ghost use Rattle.fws_place.specs.Found.{IsSought};
 ghost use Rattle.fws_place.specs.Seen.{IsAcceptedPair, IsAcceptedSomewhere, IsAcceptedAlike, Tells};
 ghost use Rattle.fws_tree.specs.Plain.{value};
 ghost use Rattle.fws_tree.specs.Regular.{AreRegular};
+ghost use Rattle.fws_place.specs.Kept.{AreMixed};
 
 use crate::breach::Pair;
 use crate::drops_ahead_of_lookup::together;
@@ -45,7 +45,7 @@ fn dropped_alone(
     requires packet { packet.now.0 ≡ accepted.now.0 }
     requires behind { behind.now.0 ≡ accepted.now.0 }
     ensures tops { IfOk result (λ t. t.0 ≡ accepted.now.0) }
-    ensures value { IfOk result (λ t. (q : List ℕ) → IsWithin accepted.now.0 q → (a : Bool) × (b : Bool) × (c : Bool) × (value accepted.now.1 q ≡ Some a) × (value packet.now.1 q ≡ Some b) × (value behind.now.1 q ≡ Some c) × (value t.1 q ≡ Some (not a && b && c))) }
+    ensures value { IfOk result (λ t. AreMixed (λ a b c. not a && b && c) accepted.now.0 accepted.now.1 packet.now.1 behind.now.1 t.1) }
 {
     let all = together(alloc, accepted, packet, behind)?;
     all.relabel(alloc, &DroppedAlone)

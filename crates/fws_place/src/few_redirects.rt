@@ -1,18 +1,15 @@
 //! Whether accepted new packets show few redirects, and which.
 
-ghost use Rattle.std.specs.Prelude.{◌≡◌, ◌≢◌, ◌<◌, ◌≤◌, true, Some, List, length, take, slice_index_or, IfOk, All, Contains};
+ghost use Rattle.std.specs.Prelude.{◌≡◌, ◌≢◌, ◌<◌, ◌≤◌, true, Some, length, take, slice_index_or, IfOk, All};
 ghost use Rattle.fws_net.specs.declared.outcome.End.{End};
 ghost use Rattle.fws_net.specs.declared.outcome.Outcome.TheVariants.{Accept};
 ghost use Rattle.fws_net.specs.declared.outcome.Outcome.{Outcome};
-ghost use Rattle.fws_net.specs.declared.outcome.Rewrite.{Rewrite};
-ghost use Rattle.fws_net.specs.declared.packet.Packet.{Packet};
 ghost use Rattle.fws_net.specs.Routes.{IsSound};
 ghost use Rattle.fws_place.specs.declared.clause.Clause.TheVariants.{FewRedirects};
-ghost use Rattle.fws_place.specs.Counts.{AreDifferent, IsShown, new_rows, redirect_of};
+ghost use Rattle.fws_place.specs.Counts.{AreDifferent, IsShown, new_rows};
 ghost use Rattle.fws_place.specs.Fits.{Meets};
 ghost use Rattle.fws_place.specs.Found.{IsSought};
-ghost use Rattle.fws_place.specs.Meaning.{IsPacketOf, new_of};
-ghost use Rattle.fws_place.specs.RowRedirects.{destination_of, AreGathered, AreRedirects, HaveSame, IsOfRow, IsOfRows, IsPassed, IsServed};
+ghost use Rattle.fws_place.specs.RowRedirects.{destination_of, AreGathered, AreRedirects, HaveSame, IsOfRow, IsOfRows, IsPassed, IsServed, HaveAllShown};
 ghost use Rattle.fws_tree.specs.declared.row.Row.{Row};
 ghost use Rattle.fws_tree.specs.Regular.{AreRegular};
 
@@ -195,7 +192,7 @@ pub fn redirects(alloc: Global, site: &Site, tables: &Tables) -> Result<Items<Re
     requires sound { IsSound site.now }
     requires regular { AreRegular site.now tables.now }
     requires few { Meets site.now tables.now FewRedirects }
-    ensures shown { IfOk result (λ rs. (p : Packet) (w : Rewrite) (e : End) → IsPacketOf site.now p → new_of tables.now p ≡ Accept w → w.dst ≡ Some e → Contains rs (redirect_of e p)) }
+    ensures shown { IfOk result (HaveAllShown site.now tables.now) }
     ensures sound { IfOk result (λ rs. All (IsShown site.now tables.now (new_rows tables.now)) rs) }
     ensures few { IfOk result (λ rs. length rs ≤ 4096) }
     ensures somewhere { IfOk result (λ rs. All (λ redirect. redirect.public.addr ≢ 0) rs) }

@@ -1,14 +1,14 @@
 //! Whether the sources of delivered packets are kept.
 
-ghost use Rattle.std.specs.Prelude.{◌≡◌, ◌^◌, ◌<◌, ◌≤◌, ℕ, List, Some, length, All, IfOk, IsTrue, MatchOption};
-ghost use Rattle.fws_box.specs.Sides.{IsWithin, sides_have};
+ghost use Rattle.std.specs.Prelude.{◌≡◌, ◌^◌, ◌<◌, ◌≤◌, ℕ, List, Some, length, All, IfOk, MatchOption};
+ghost use Rattle.fws_box.specs.Sides.{IsWithin};
 ghost use Rattle.fws_net.specs.declared.outcome.Outcome.{Outcome};
 ghost use Rattle.fws_net.specs.Points.{tops_of};
 ghost use Rattle.fws_net.specs.Routes.{IsSound};
 ghost use Rattle.fws_place.specs.declared.clause.Clause.TheVariants.{KeepsDeliveredSources};
-ghost use Rattle.fws_place.specs.Delivered.{with_source, IsDelivered, IsDeliveredIn, NoneDelivered};
+ghost use Rattle.fws_place.specs.Delivered.{with_source, IsDelivered, IsDeliveredIn, NoneDelivered, AreAllSources, AreRightRows, IsFoundDelivered};
 ghost use Rattle.fws_place.specs.Found.{IsSought};
-ghost use Rattle.fws_tree.specs.Plain.{value, IsReduced};
+ghost use Rattle.fws_tree.specs.Plain.{IsReduced};
 ghost use Rattle.fws_tree.specs.Regular.{AreRegular};
 ghost use Rattle.fws_tree.specs.Rows.{paths_of, row_hits};
 
@@ -89,9 +89,9 @@ pub(crate) fn delivered_in(
     local: &Ivs,
     top: u32,
 ) -> Result<Option<Point>, Memory>
-    ensures found { IfOk result (λ found. MatchOption found (All (NoneDelivered local.now top) (paths_of tree.now.0 tree.now.1)) (IsDeliveredIn local.now top (paths_of tree.now.0 tree.now.1))) }
+    ensures found { IfOk result (IsFoundDelivered local.now top (paths_of tree.now.0 tree.now.1)) }
     ensures once { IfOk result (λ found. (p : List ℕ) → IsWithin tree.now.0 p → row_hits (paths_of tree.now.0 tree.now.1) p ≡ 1) }
-    ensures right { IfOk result (λ found. (p : List ℕ) → IsWithin tree.now.0 p → All (λ row. IsTrue (sides_have row.sides p) → value tree.now.1 p ≡ Some row.leaf) (paths_of tree.now.0 tree.now.1)) }
+    ensures right { IfOk result (λ found. AreRightRows tree.now.0 tree.now.1 (paths_of tree.now.0 tree.now.1)) }
 {
     let _tops = tree.tops();
     let rows = tree.paths(alloc)?;
@@ -109,7 +109,7 @@ fn delivered_among(
     requires regular { AreRegular site.now tables.now }
     requires tops { sources.now.0 ≡ tops_of site.now }
     requires reduced { IsReduced sources.now.0 sources.now.1 }
-    requires sources { (q : List ℕ) → IsWithin (tops_of site.now) q → (o : Outcome) × (value tables.now.fresh.1 q ≡ Some o) × (value sources.now.1 q ≡ Some (with_source o)) }
+    requires sources { AreAllSources site.now tables.now sources.now.1 }
     ensures { IfOk result (λ found. IsSought site.now tables.now KeepsDeliveredSources found) }
 {
     let local = local_set(alloc, site)?;

@@ -1,13 +1,13 @@
 //! Trees over pairs without those that are lost.
 
-ghost use Rattle.std.specs.Prelude.{◌≡◌, ℕ, false, ◌&&◌, not, nat_eq, List, Some, IfOk, if◌then◌else◌};
-ghost use Rattle.fws_box.specs.Sides.{IsWithin, sides_have};
+ghost use Rattle.std.specs.Prelude.{◌≡◌, false, ◌&&◌, not, IfOk};
 ghost use Rattle.fws_box.specs.declared.field.Field.TheVariants as fields;
 ghost use Rattle.fws_net.specs.Points.{tops_of};
 ghost use Rattle.fws_net.specs.Routes.{IsSound, is_local};
-ghost use Rattle.fws_place.specs.Lost.{is_lost_at};
 ghost use Rattle.fws_tree.specs.Plain.{value};
 ghost use Rattle.fws_box.specs.Fields.{value_of};
+ghost use Rattle.fws_place.specs.Kept.{HasNoLost, HaveWhere};
+ghost use Rattle.fws_place.specs.ByAck.{arrives_at};
 
 use fws_box::{Field, whole_sides};
 use fws_iv::{Ivs, one};
@@ -19,7 +19,7 @@ use std::alloc::Global;
 /// The sides of the pairs that arrive for another host. An error is want of memory.
 pub(crate) fn passing_sides(alloc: Global, site: &Site) -> Result<[Ivs; 12], Memory>
     requires { IsSound site.now }
-    ensures { IfOk result (λ sides. (p : List ℕ) → IsWithin (tops_of site.now) p → sides_have sides p ≡ (not (nat_eq (value_of p fields.Entry) 0) && not (is_local site.now (value_of p fields.SentDst)))) }
+    ensures { IfOk result (HaveWhere (tops_of site.now) (λ p. arrives_at p && not (is_local site.now (value_of p fields.SentDst)))) }
 {
     let tops = tops(site);
     let mut sides = whole_sides(alloc, &tops)?;
@@ -38,7 +38,7 @@ pub(crate) fn without_lost(
     requires sound { IsSound site.now }
     requires tops { tree.0 ≡ tops_of site.now }
     ensures tops { IfOk result (λ t. t.0 ≡ tops_of site.now) }
-    ensures value { IfOk result (λ t. (p : List ℕ) → IsWithin (tops_of site.now) p → value t.1 p ≡ (if is_lost_at site.now p then Some false else value tree.1 p)) }
+    ensures value { IfOk result (λ t. HasNoLost site.now tree.1 t.1) }
 {
     if site.forwarding {
         return Ok(tree);

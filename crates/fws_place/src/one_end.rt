@@ -1,15 +1,12 @@
 //! Whether the ends that are written depend on flags or ICMP types.
 
-ghost use Rattle.std.specs.Prelude.{◌≡◌, ℕ, List, Some, if◌then◌else◌, IfOk};
-ghost use Rattle.fws_box.specs.Sides.{IsWithin};
-ghost use Rattle.fws_box.specs.declared.field.Field.TheVariants as fields;
+ghost use Rattle.std.specs.Prelude.{◌≡◌, Some, IfOk};
 ghost use Rattle.fws_net.specs.declared.outcome.Outcome.{Outcome};
 ghost use Rattle.fws_net.specs.Points.{tops_of};
 ghost use Rattle.fws_net.specs.Routes.{IsSound};
-ghost use Rattle.fws_place.specs.OneEnd.{alone, compares, end_alone, AreSoughtEnds};
+ghost use Rattle.fws_place.specs.OneEnd.{alone, end_alone, AreSoughtEnds, HasEnds};
 ghost use Rattle.fws_tree.specs.Plain.{value};
 ghost use Rattle.fws_tree.specs.Regular.{AreRegular};
-ghost use Rattle.fws_box.specs.Fields.{value_of};
 
 use crate::apart::apart;
 use crate::breach::Pair;
@@ -77,7 +74,7 @@ fn ends_alone(
     requires sound { IsSound site.now }
     requires regular { AreRegular site.now tables.now }
     ensures tops { IfOk result (λ t. t.0 ≡ tops_of site.now) }
-    ensures value { IfOk result (λ t. (q : List ℕ) → IsWithin (tops_of site.now) q → (o : Outcome) × (value tables.now.fresh.1 q ≡ Some o) × (value t.1 q ≡ Some (if compares compared (value_of q fields.Entry) then alone compared o else Outcome.Drop))) }
+    ensures value { IfOk result (λ t. HasEnds site.now tables.now compared t.1) }
 {
     let all = tables.fresh.relabel(alloc, &Alone(compared))?;
     let host = host_sides(alloc, site)?;

@@ -1,16 +1,13 @@
 //! Packets that go from the inside to the outside, and their sources.
 
-ghost use Rattle.std.specs.Prelude.{◌≡◌, ◌^◌, ◌<◌, ◌||◌, ◌↔◌, ℕ, Bool, true, false, List, Some, if◌then◌else◌, IfOk};
-ghost use Rattle.fws_box.specs.Sides.{IsWithin};
-ghost use Rattle.fws_box.specs.declared.field.Field.TheVariants as fields;
+ghost use Rattle.std.specs.Prelude.{◌≡◌, ◌^◌, ◌<◌, ℕ, true, false, if◌then◌else◌, IfOk};
 ghost use Rattle.fws_iv.specs.Ivs.{has};
 ghost use Rattle.fws_net.specs.declared.outcome.Outcome.{Outcome};
 ghost use Rattle.fws_net.specs.Points.{tops_of};
 ghost use Rattle.fws_net.specs.Routes.{IsSound};
-ghost use Rattle.fws_place.specs.Outgoing.{ends_outside, goes_out, AreInside, AreOutside, HasSources};
+ghost use Rattle.fws_place.specs.Outgoing.{ends_outside, AreInside, AreOutside, HasSources, AddsGoing, IsComingWith, IsGoingWith, TellsGoing};
 ghost use Rattle.fws_tree.specs.Plain.{value};
 ghost use Rattle.fws_tree.specs.Regular.{AreRegular};
-ghost use Rattle.fws_box.specs.Fields.{value_of};
 
 use crate::crossing::{inside_entries, outside_set};
 use crate::one_end::{Alone, Compared, end_alone};
@@ -42,7 +39,7 @@ fn coming_with(
     entries: &Ivs,
 ) -> Result<Tree<bool>, Memory>
     ensures tops { IfOk result (λ t. t.0 ≡ outcomes.now.0) }
-    ensures value { IfOk result (λ t. (q : List ℕ) → IsWithin outcomes.now.0 q → (b : Bool) × ((b ≡ true) ↔ (value outcomes.now.1 q ≡ Some outcome.now)) × (value t.1 q ≡ (if has entries.now (value_of q fields.Entry) then Some b else Some false))) }
+    ensures value { IfOk result (λ t. IsComingWith entries.now outcomes.now.0 outcomes.now.1 outcome.now t.1) }
 {
     let such = outcomes.select(alloc, outcome)?;
     kept_in(alloc, &such, Field::Entry, entries.copy(alloc)?, false)
@@ -61,7 +58,7 @@ fn going_with(
     requires inside { AreInside site.now inside.now }
     requires outside { AreOutside site.now outside.now }
     ensures tops { IfOk result (λ t. t.0 ≡ tops_of site.now) }
-    ensures value { IfOk result (λ t. (q : List ℕ) → IsWithin (tops_of site.now) q → (b : Bool) × (value t.1 q ≡ Some b) × ((b ≡ true) ↔ ((value outcomes.now.1 q ≡ Some outcome.now) × (goes_out site.now outcome.now q ≡ true)))) }
+    ensures value { IfOk result (λ t. IsGoingWith site.now outcomes.now.1 outcome.now t.1) }
 {
     let coming = coming_with(alloc, outcomes, outcome, inside)?;
     let set = destinations(alloc, site, outside, outcome)?;
@@ -96,7 +93,7 @@ fn with_going(
     requires inside { AreInside site.now inside.now }
     requires outside { AreOutside site.now outside.now }
     ensures tops { IfOk result (λ t. t.0 ≡ tops_of site.now) }
-    ensures value { IfOk result (λ t. (q : List ℕ) → IsWithin (tops_of site.now) q → (a : Bool) × (b : Bool) × (value all.now.1 q ≡ Some a) × ((b ≡ true) ↔ ((value outcomes.now.1 q ≡ Some outcome.now) × (goes_out site.now outcome.now q ≡ true))) × (value t.1 q ≡ Some (a || b))) }
+    ensures value { IfOk result (λ t. AddsGoing site.now outcomes.now.1 outcome.now all.now.1 t.1) }
 {
     let such = going_with(alloc, site, outcomes, outcome, inside, outside)?;
     either(alloc, all, &such)
@@ -115,7 +112,7 @@ fn going_out(
     requires inside { AreInside site.now inside.now }
     requires outside { AreOutside site.now outside.now }
     ensures tops { IfOk result (λ t. t.0 ≡ tops_of site.now) }
-    ensures value { IfOk result (λ t. (q : List ℕ) → IsWithin (tops_of site.now) q → (o : Outcome) × (value outcomes.now.1 q ≡ Some o) × (value t.1 q ≡ Some (goes_out site.now o q))) }
+    ensures value { IfOk result (λ t. TellsGoing site.now outcomes.now.1 t.1) }
 {
     let shared = outcomes.shared();
     let mut all = outcomes.relabel(alloc, &Never)?;
@@ -130,7 +127,7 @@ fn outgoing(alloc: Global, site: &Site, tables: &Tables) -> Result<Tree<bool>, M
     requires sound { IsSound site.now }
     requires regular { AreRegular site.now tables.now }
     ensures tops { IfOk result (λ t. t.0 ≡ tops_of site.now) }
-    ensures value { IfOk result (λ t. (q : List ℕ) → IsWithin (tops_of site.now) q → (o : Outcome) × (value tables.now.fresh.1 q ≡ Some o) × (value t.1 q ≡ Some (goes_out site.now o q))) }
+    ensures value { IfOk result (λ t. TellsGoing site.now tables.now.fresh.1 t.1) }
 {
     let inside = inside_entries(alloc, site)?;
     let outside = outside_set(alloc, site)?;

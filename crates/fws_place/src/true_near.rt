@@ -1,9 +1,8 @@
 //! Points that agree in all fields but some, at which trees are true.
 
-ghost use Rattle.std.specs.Prelude.{◌≡◌, ◌<◌, ◌≤◌, ◌↔◌, ℕ, true, IsTrue, List, Some, IfOk, MatchOption};
+ghost use Rattle.std.specs.Prelude.{◌≡◌, ◌<◌, ◌↔◌, ℕ, true, List, Some, IfOk};
 ghost use Rattle.fws_box.specs.Sides.{IsWithin, sides_have};
-ghost use Rattle.fws_place.specs.Apart.{near_side, AreTrueNear, IsFirstNear, NoneTrueNear};
-ghost use Rattle.fws_place.specs.Found.{IsTrueAt};
+ghost use Rattle.fws_place.specs.Apart.{near_side, AreFoundNear, IsFoundFirst, IsFoundNear, TellsFirstNear};
 ghost use Rattle.fws_tree.specs.Changed.{is_free, Agree};
 ghost use Rattle.fws_tree.specs.Plain.{value};
 
@@ -58,7 +57,7 @@ fn true_near(
     fields: u16,
 ) -> Result<Option<Point>, Memory>
     requires { IsWithin tree.now.0 point.now }
-    ensures { IfOk result (λ found. MatchOption found ((q : List ℕ) → IsTrueAt tree.now.0 tree.now.1 q → Agree fields point.now q → ⊥) (λ q. IsTrueAt tree.now.0 tree.now.1 q × Agree fields point.now q)) }
+    ensures { IfOk result (IsFoundNear fields tree.now.0 tree.now.1 point.now) }
 {
     let sides = near_sides(alloc, tree.tops(), point, fields)?;
     let near = tree.restrict(alloc, &sides, false)?;
@@ -74,7 +73,7 @@ fn first_together(
 ) -> Result<Tree<bool>, Memory>
     requires { second.now.0 ≡ first.now.0 }
     ensures tops { IfOk result (λ t. t.0 ≡ first.now.0) }
-    ensures value { IfOk result (λ t. (p : List ℕ) → IsWithin first.now.0 p → (value t.1 p ≡ Some true) ↔ IsFirstNear fields first.now.0 first.now.1 second.now.1 p) }
+    ensures value { IfOk result (λ t. TellsFirstNear fields first.now.0 first.now.1 second.now.1 t.1) }
 {
     let somewhere = second.exists(alloc, fields)?;
     both(alloc, first, &somewhere)
@@ -88,7 +87,7 @@ fn first_near(
     fields: u16,
 ) -> Result<Option<Point>, Memory>
     requires { second.now.0 ≡ first.now.0 }
-    ensures { IfOk result (λ found. MatchOption found (NoneTrueNear fields first.now.0 first.now.1 second.now.1) (IsFirstNear fields first.now.0 first.now.1 second.now.1)) }
+    ensures { IfOk result (IsFoundFirst fields first.now.0 first.now.1 second.now.1) }
 {
     let both = first_together(alloc, first, second, fields)?;
     first_true(alloc, &both)
@@ -103,7 +102,7 @@ pub(crate) fn true_together(
     fields: u16,
 ) -> Result<Option<(Point, Point)>, Memory>
     requires { second.now.0 ≡ first.now.0 }
-    ensures { IfOk result (λ found. MatchOption found (NoneTrueNear fields first.now.0 first.now.1 second.now.1) (λ pair. AreTrueNear fields first.now.0 first.now.1 second.now.1 pair.0 pair.1)) }
+    ensures { IfOk result (AreFoundNear fields first.now.0 first.now.1 second.now.1) }
 {
     match first_near(alloc, first, second, fields)? {
         None => Ok(None),

@@ -1,7 +1,6 @@
 //! Whether sources are written from the inside to the outside alone.
 
-ghost use Rattle.std.specs.Prelude.{◌≡◌, ℕ, List, Some, if◌then◌else◌, IfOk};
-ghost use Rattle.fws_box.specs.Sides.{IsWithin, sides_have};
+ghost use Rattle.std.specs.Prelude.{◌≡◌, Some, IfOk};
 ghost use Rattle.fws_box.specs.declared.field.Field.TheVariants as fields;
 ghost use Rattle.fws_net.specs.declared.outcome.Outcome.{Outcome};
 ghost use Rattle.fws_net.specs.declared.outcome.Outcome.TheVariants.{Drop};
@@ -10,13 +9,14 @@ ghost use Rattle.fws_net.specs.Routes.{IsSound};
 ghost use Rattle.fws_place.specs.declared.clause.Clause.TheVariants.{WritesInsideOut};
 ghost use Rattle.fws_place.specs.Asked.{IsSoughtPacket};
 ghost use Rattle.fws_place.specs.Crossing.{IsWrittenElsewhere, IsWrittenWithin};
-ghost use Rattle.fws_place.specs.Delivered.{with_source};
+ghost use Rattle.fws_place.specs.Delivered.{AreSources};
 ghost use Rattle.fws_place.specs.Found.{IsSought};
 ghost use Rattle.fws_place.specs.Rewritings.{is_inside, side_of};
 ghost use Rattle.fws_place.specs.Seen.{Tells};
 ghost use Rattle.fws_tree.specs.Plain.{value, IsReduced};
 ghost use Rattle.fws_tree.specs.Regular.{AreRegular};
 ghost use Rattle.fws_box.specs.Fields.{value_of};
+ghost use Rattle.fws_place.specs.Kept.{HaveWhere};
 
 use crate::asking::{Asked, accepted_with};
 use crate::breach::Pair;
@@ -38,7 +38,7 @@ fn written_elsewhere(
     inside: &[Ivs; 12],
 ) -> Result<Tree<bool>, Memory>
     requires regular { AreRegular site.now tables.now }
-    requires inside { (p : List ℕ) → IsWithin (tops_of site.now) p → sides_have inside.now p ≡ is_inside (side_of site.now (value_of p fields.Entry)) }
+    requires inside { HaveWhere (tops_of site.now) (λ p. is_inside (side_of site.now (value_of p fields.Entry))) inside.now }
     ensures tops { IfOk result (λ t. t.0 ≡ tops_of site.now) }
     ensures tells { IfOk result (λ t. Tells site.now (λ p r. IsWrittenElsewhere site.now tables.now p) t.1) }
 {
@@ -54,10 +54,10 @@ fn sources_within(
     inside: &[Ivs; 12],
 ) -> Result<Tree<Outcome>, Memory>
     requires regular { AreRegular site.now tables.now }
-    requires inside { (p : List ℕ) → IsWithin (tops_of site.now) p → sides_have inside.now p ≡ is_inside (side_of site.now (value_of p fields.Entry)) }
+    requires inside { HaveWhere (tops_of site.now) (λ p. is_inside (side_of site.now (value_of p fields.Entry))) inside.now }
     ensures tops { IfOk result (λ t. t.0 ≡ tops_of site.now) }
     ensures reduced { IfOk result (λ t. IsReduced t.0 t.1) }
-    ensures value { IfOk result (λ t. (q : List ℕ) → IsWithin (tops_of site.now) q → (o : Outcome) × (value tables.now.fresh.1 q ≡ Some o) × (value t.1 q ≡ Some (if is_inside (side_of site.now (value_of q fields.Entry)) then with_source o else Drop))) }
+    ensures value { IfOk result (λ t. AreSources site.now tables.now (λ entry. is_inside (side_of site.now entry)) t.1) }
 {
     let sources = tables.fresh.relabel(alloc, &WithSource)?;
     sources.restrict(alloc, inside, Outcome::Drop)
@@ -74,7 +74,7 @@ fn written_among(
     requires regular { AreRegular site.now tables.now }
     requires tops { within.now.0 ≡ tops_of site.now }
     requires reduced { IsReduced within.now.0 within.now.1 }
-    requires within { (q : List ℕ) → IsWithin (tops_of site.now) q → (o : Outcome) × (value tables.now.fresh.1 q ≡ Some o) × (value within.now.1 q ≡ Some (if is_inside (side_of site.now (value_of q fields.Entry)) then with_source o else Drop)) }
+    requires within { AreSources site.now tables.now (λ entry. is_inside (side_of site.now entry)) within.now.1 }
     ensures { IfOk result (IsSoughtPacket site.now (IsWrittenWithin site.now tables.now)) }
 {
     let rest = not_outside(alloc, site)?;
@@ -96,7 +96,7 @@ fn written_within(
 ) -> Result<Option<(Pair, Option<Pair>)>, Memory>
     requires sound { IsSound site.now }
     requires regular { AreRegular site.now tables.now }
-    requires inside { (p : List ℕ) → IsWithin (tops_of site.now) p → sides_have inside.now p ≡ is_inside (side_of site.now (value_of p fields.Entry)) }
+    requires inside { HaveWhere (tops_of site.now) (λ p. is_inside (side_of site.now (value_of p fields.Entry))) inside.now }
     ensures { IfOk result (IsSoughtPacket site.now (IsWrittenWithin site.now tables.now)) }
 {
     let within = sources_within(alloc, site, tables, inside)?;
@@ -112,7 +112,7 @@ fn written_outside(
 ) -> Result<Option<(Pair, Option<Pair>)>, Memory>
     requires sound { IsSound site.now }
     requires regular { AreRegular site.now tables.now }
-    requires inside { (p : List ℕ) → IsWithin (tops_of site.now) p → sides_have inside.now p ≡ is_inside (side_of site.now (value_of p fields.Entry)) }
+    requires inside { HaveWhere (tops_of site.now) (λ p. is_inside (side_of site.now (value_of p fields.Entry))) inside.now }
     ensures { IfOk result (IsSoughtPacket site.now (IsWrittenElsewhere site.now tables.now)) }
 {
     let elsewhere = written_elsewhere(alloc, site, tables, inside)?;
@@ -128,7 +128,7 @@ fn written_by(
 ) -> Result<Option<(Pair, Option<Pair>)>, Memory>
     requires sound { IsSound site.now }
     requires regular { AreRegular site.now tables.now }
-    requires inside { (p : List ℕ) → IsWithin (tops_of site.now) p → sides_have inside.now p ≡ is_inside (side_of site.now (value_of p fields.Entry)) }
+    requires inside { HaveWhere (tops_of site.now) (λ p. is_inside (side_of site.now (value_of p fields.Entry))) inside.now }
     ensures { IfOk result (λ found. IsSought site.now tables.now WritesInsideOut found) }
 {
     if let Some(found) = written_outside(alloc, site, tables, inside)? {

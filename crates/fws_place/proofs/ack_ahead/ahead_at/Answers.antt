@@ -1,8 +1,8 @@
 use Rattle.std.proofs.Common.{ℕ, false, Option, List, MatchOption}
 use Rattle.std.proofs.lemmas.Result.{IfOk-weaker}
 use Rattle.fws_net.specs.Points.{tops_of}
-use Rattle.fws_place.specs.ByAck.{AreAheadAt, AreFalseNear}
-use Rattle.fws_place.proofs.ByAcks.{ahead_sought, NoneFalseNear}
+use Rattle.fws_place.specs.ByAck.{AreAheadAt, AreFalseNear, NoneFalseNear}
+use Rattle.fws_place.proofs.ByAcks.{ahead_sought}
 use Rattle.fws_place.proofs.ack_ahead.ahead_at.Goals as goal
 
 pub returns : goal.returns

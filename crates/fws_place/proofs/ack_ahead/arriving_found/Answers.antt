@@ -3,8 +3,9 @@ use Rattle.std.proofs.lemmas.Result.{IfOk-weaker}
 use Rattle.std.specs.Prelude.{nat_eq, slice_index}
 use Rattle.fws_net.specs.Points.{tops_of}
 use Rattle.fws_tree.specs.Plain.{Plain, value}
-use Rattle.fws_place.specs.ByAck.{arrives_at, is_found}
-use Rattle.fws_place.proofs.ByAcks.{both_tests, is_first_test, IsKeptWhere}
+use Rattle.fws_place.specs.ByAck.{arrives_at, is_found, is_first_test}
+use Rattle.fws_place.specs.Kept.{IsKeptWhere}
+use Rattle.fws_place.proofs.ByAcks.{both_tests}
 use Rattle.fws_place.proofs.ack_ahead.arriving_found.Goals as goal
 
 pub returns-clause-value : goal.returns-clause-value

@@ -3,7 +3,9 @@ use Rattle.std.proofs.lemmas.Result.{IfOk-weaker}
 use Rattle.fws_box.specs.Sides.{IsWithin}
 use Rattle.fws_net.specs.Points.{tops_of}
 use Rattle.fws_tree.specs.Plain.{Plain, value}
-use Rattle.fws_place.proofs.ByAcks.{is_first_test, kept_there, IsFirstOf, IsKeptWhere}
+use Rattle.fws_place.specs.ByAck.{is_first_test, IsFirstOf}
+use Rattle.fws_place.specs.Kept.{IsKeptWhere}
+use Rattle.fws_place.proofs.ByAcks.{kept_there}
 use Rattle.fws_place.proofs.ack_ahead.first_of.Goals as goal
 
 pub returns-clause-value : goal.returns-clause-value

@@ -3,7 +3,9 @@ use Rattle.std.proofs.lemmas.Result.{IfOk-weaker}
 use Rattle.std.specs.Prelude.{if◌then◌else◌}
 use Rattle.fws_net.specs.Points.{tops_of}
 use Rattle.fws_tree.specs.Plain.{Plain, value}
-use Rattle.fws_place.proofs.ByAcks.{flags_pass, is_first_test, kept_there, IsFirstWithAck, IsKeptWhere}
+use Rattle.fws_place.specs.ByAck.{flags_pass, is_first_test, IsFirstWithAck}
+use Rattle.fws_place.specs.Kept.{IsKeptWhere}
+use Rattle.fws_place.proofs.ByAcks.{kept_there}
 use Rattle.fws_place.proofs.ack_ahead.first_with_ack.Goals as goal
 
 pub returns-clause-value : goal.returns-clause-value

@@ -7,7 +7,8 @@ use Rattle.fws_box.specs.Sides.{IsWithin}
 use Rattle.fws_net.specs.Points.{tops_of}
 use Rattle.fws_tree.specs.Plain.{Plain, value}
 use Rattle.fws_place.specs.ByAck.{is_found}
-use Rattle.fws_place.proofs.ByAcks.{kept_twice, one_is, IsKeptWhere}
+use Rattle.fws_place.specs.Kept.{IsKeptWhere}
+use Rattle.fws_place.proofs.ByAcks.{kept_twice, one_is}
 use Rattle.fws_place.proofs.PairPoints.{within_top}
 use Rattle.fws_place.proofs.ack_ahead.found_in.Goals as goal
 

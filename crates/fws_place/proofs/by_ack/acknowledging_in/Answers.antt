@@ -6,7 +6,9 @@ use Rattle.fws_iv.specs.Ivs.{has}
 use Rattle.fws_box.specs.Sides.{IsWithin}
 use Rattle.fws_net.specs.Points.{tops_of}
 use Rattle.fws_tree.specs.Plain.{Plain, value}
-use Rattle.fws_place.proofs.ByAcks.{flags_pass, kept_where, IsKeptWhere}
+use Rattle.fws_place.specs.ByAck.{flags_pass}
+use Rattle.fws_place.specs.Kept.{IsKeptWhere}
+use Rattle.fws_place.proofs.ByAcks.{kept_where}
 use Rattle.fws_place.proofs.PairPoints.{within_top}
 use Rattle.fws_place.proofs.by_ack.acknowledging_in.Goals as goal
 

@@ -7,7 +7,8 @@ use Rattle.fws_box.specs.Sides.{IsWithin}
 use Rattle.fws_net.specs.Points.{tops_of}
 use Rattle.fws_tree.specs.Plain.{Plain, value}
 use Rattle.fws_place.specs.ByAck.{arrives_at}
-use Rattle.fws_place.proofs.ByAcks.{entries_are, kept_where, IsKeptWhere}
+use Rattle.fws_place.specs.Kept.{IsKeptWhere}
+use Rattle.fws_place.proofs.ByAcks.{entries_are, kept_where}
 use Rattle.fws_place.proofs.by_ack.arriving_in.Goals as goal
 
 pub returns-clause-value : goal.returns-clause-value

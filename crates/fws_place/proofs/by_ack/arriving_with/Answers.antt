@@ -3,7 +3,8 @@ use Rattle.std.proofs.lemmas.Result.{IfOk-weaker}
 use Rattle.std.specs.Prelude.{if◌then◌else◌}
 use Rattle.fws_net.specs.Points.{tops_of}
 use Rattle.fws_tree.specs.Plain.{Plain}
-use Rattle.fws_place.proofs.ByAcks.{flags_pass, IsArrivingWith, IsKeptWhere}
+use Rattle.fws_place.specs.ByAck.{flags_pass, IsArrivingWith}
+use Rattle.fws_place.specs.Kept.{IsKeptWhere}
 use Rattle.fws_place.proofs.by_ack.arriving_with.Goals as goal
 
 pub returns-clause-value : goal.returns-clause-value

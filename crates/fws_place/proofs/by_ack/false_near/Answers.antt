@@ -2,8 +2,8 @@ use Rattle.std.proofs.Common.{ℕ, Option, List, MatchOption}
 use Rattle.std.proofs.lemmas.Result.{IfOk-weaker}
 use Rattle.fws_net.specs.Points.{tops_of}
 use Rattle.fws_place.specs.Apart.{flags_alone, AreTrueNear, NoneTrueNear}
-use Rattle.fws_place.specs.ByAck.{AreFalseNear}
-use Rattle.fws_place.proofs.ByAcks.{false_sought, NoneFalseNear}
+use Rattle.fws_place.specs.ByAck.{AreFalseNear, NoneFalseNear}
+use Rattle.fws_place.proofs.ByAcks.{false_sought}
 use Rattle.fws_place.proofs.by_ack.false_near.Goals as goal
 
 pub returns : goal.returns

@@ -3,7 +3,9 @@ use Rattle.std.proofs.lemmas.Result.{IfOk-weaker}
 use Rattle.fws_box.specs.Sides.{IsWithin}
 use Rattle.fws_net.specs.Points.{tops_of}
 use Rattle.fws_tree.specs.Plain.{Plain, value}
-use Rattle.fws_place.proofs.ByAcks.{flags_pass, other_there, IsFalseWith, IsKeptWhere}
+use Rattle.fws_place.specs.ByAck.{flags_pass, IsFalseWith}
+use Rattle.fws_place.specs.Kept.{IsKeptWhere}
+use Rattle.fws_place.proofs.ByAcks.{other_there}
 use Rattle.fws_place.proofs.by_ack.false_with.Goals as goal
 
 pub returns-clause-value : goal.returns-clause-value

@@ -1,8 +1,8 @@
 use Rattle.std.proofs.Common.{ℕ, Option, List, MatchOption}
 use Rattle.std.proofs.lemmas.Result.{IfOk-weaker}
 use Rattle.fws_net.specs.Points.{tops_of}
-use Rattle.fws_place.specs.ByAck.{AreFalseNear, AreToldByMore}
-use Rattle.fws_place.proofs.ByAcks.{told_sought, NoneFalseNear}
+use Rattle.fws_place.specs.ByAck.{AreFalseNear, AreToldByMore, NoneFalseNear}
+use Rattle.fws_place.proofs.ByAcks.{told_sought}
 use Rattle.fws_place.proofs.by_ack.told_with.Goals as goal
 
 pub returns : goal.returns

@@ -7,8 +7,8 @@ use Rattle.fws_tree.specs.declared.row.Row.{Row}
 use Rattle.fws_tree.specs.Rows.{paths_of}
 use Rattle.fws_place.specs.declared.clause.Clause.TheVariants.{KeepsDeliveredSources}
 use Rattle.fws_place.specs.Clauses.{Breaks}
-use Rattle.fws_place.specs.Delivered.{IsDeliveredIn, NoneDelivered}
-use Rattle.fws_place.proofs.DeliveredRows.{AreItsRows, AreSources, found_breaks, found_packet, found_roomy, its_rows, none_meet}
+use Rattle.fws_place.specs.Delivered.{IsDeliveredIn, NoneDelivered, AreSources}
+use Rattle.fws_place.proofs.DeliveredRows.{AreItsRows, found_breaks, found_packet, found_roomy, its_rows, none_meet}
 use Rattle.fws_place.proofs.keeps_delivered_sources.delivered_among.Goals as goal
 
 pub packet_at-packet-requires : goal.packet_at-packet-requires

@@ -5,7 +5,8 @@ use Rattle.fws_box.specs.Sides.{IsWithin, sides_have}
 use Rattle.fws_net.specs.declared.outcome.Outcome.{Outcome}
 use Rattle.fws_net.specs.declared.outcome.Outcome.TheVariants.{Drop}
 use Rattle.fws_tree.specs.Plain.{Plain, value}
-use Rattle.fws_place.proofs.OneEnds.{painted_ends, restricted_ends, HasEnds}
+use Rattle.fws_place.specs.OneEnd.{HasEnds}
+use Rattle.fws_place.proofs.OneEnds.{painted_ends, restricted_ends}
 use Rattle.fws_place.proofs.one_end.ends_alone.Goals as goal
 
 pub returns-in-Destinations-clause-value : goal.returns-in-Destinations-clause-value

@@ -8,7 +8,7 @@ use Rattle.fws_net.specs.Points.{tops_of}
 use Rattle.fws_tree.specs.Plain.{Plain, value}
 use Rattle.fws_place.specs.Rewritings.{is_inside, side_of}
 use Rattle.fws_place.proofs.Crossings.{sources_within}
-use Rattle.fws_place.proofs.DeliveredRows.{AreSources}
+use Rattle.fws_place.specs.Delivered.{AreSources}
 use Rattle.fws_place.proofs.writes_inside_out.sources_within.Goals as goal
 
 pub returns-clause-value : goal.returns-clause-value
