@@ -3,6 +3,7 @@ use Rattle.std.specs.Prelude.{◌≡◌, ℕ, Bool, true, ◌&&◌, ◌||◌, no
 use Rattle.std.specs.List.{list_all, list_any}
 use Rattle.std.proofs.Math.Bool.{beq}
 use Rattle.fws_box.specs.Sides.{IsWithin}
+use Rattle.fws_box.specs.declared.field.Field.TheVariants as fields
 use Rattle.fws_net.specs.declared.packet.Packet.{Packet}
 use Rattle.fws_net.specs.declared.site.Site.{Site}
 use Rattle.fws_net.specs.declared.view.View.{View}
@@ -17,6 +18,7 @@ use Rattle.fws_ios_path.specs.Entries.{acknowledges}
 use Rattle.fws_ios_path.specs.Paths.{some_path_has}
 use Rattle.fws_ios_path.specs.Seen.{IsSeenAt}
 use Rattle.fws_ios_cover.specs.Steps.{IsUsable}
+use Rattle.fws_box.specs.Fields.{value_of}
 
 -- the entry does what the act says
 abbrev pub does : Act → IosEntry → Bool
@@ -45,3 +47,7 @@ pub record IsCover (site : Site) (act : Act) (needed within : Plain Bool) (block
       → (value within x ≡ Some true) × (act.established ≡ true → acknowledges v.packet ≡ true)
   pub whole : (v : View) (x : List ℕ) → IsWithin (tops_of site) x → IsSeenAt v.packet x → value needed x ≡ Some true
       → (act.established ≡ true → acknowledges v.packet ≡ true) → list_any (λ e. holds e.cond v) block ≡ true
+
+-- the set has points of TCP alone
+abbrev pub IsOfTcp : Site → Plain Bool → Type 0
+IsOfTcp site t = (x : List ℕ) → IsWithin (tops_of site) x → value t x ≡ Some true → value_of x fields.Proto ≡ 6

@@ -27,7 +27,8 @@ iv_exact x y h =
     let hi = eqb-true x.hi y.hi both.1 in
     λ i. record { lo = lo i; hi = hi i }
 
-pub path_exact : (net_eq : Prefix → Prefix → Bool) → ((x y : Prefix) → net_eq x y ≡ true → x ≡ y) → (range_eq : Iv → Iv → Bool) → ((x y : Iv) → range_eq x y ≡ true → x ≡ y) → (x y : Path)
+pub path_exact : (net_eq : Prefix → Prefix → Bool) → ((x y : Prefix) → net_eq x y ≡ true → x ≡ y) → (range_eq : Iv → Iv → Bool)
+    → ((x y : Iv) → range_eq x y ≡ true → x ≡ y) → (x y : Path)
     → (option_eq nat_eq x.proto y.proto && (option_eq net_eq x.src y.src && (option_eq range_eq x.sport y.sport && (option_eq net_eq x.dst y.dst
     && (option_eq range_eq x.dport y.dport && option_eq nat_eq x.icmp y.icmp))))) ≡ true → x ≡ y
 path_exact net_eq net_same range_eq range_same x y h =

@@ -61,7 +61,8 @@ asks_details sides = not (is_whole 65535 (part sides 3)) || (not (is_whole 65535
 
 -- packets on the paths are in the set
 abbrev pub ArePathsInside : Site → Plain Bool → List Path → Type 0
-ArePathsInside site within paths = (p : Packet) (x : List ℕ) → IsWithin (tops_of site) x → IsSeenAt p x → some_path_has paths p ≡ true → value within x ≡ Some true
+ArePathsInside site within paths = (p : Packet) (x : List ℕ) → IsWithin (tops_of site) x → IsSeenAt p x → some_path_has paths p ≡ true
+    → value within x ≡ Some true
 
 -- further paths that lead into the set
 pub record AreFurther (site : Site) (established : Bool) (within : Plain Bool) (old new : List Path) : Type 0 where
@@ -82,7 +83,8 @@ pub record AreClassPaths (site : Site) (class : Class) (within : Plain Bool) (si
 
 -- the paths have the packets of a box; where `established` is asked, those of TCP
 abbrev pub HaveBox : Site → Bool → List (List Iv) → List Path → Type 0
-HaveBox site established sides paths = (p : Packet) (x : List ℕ) → IsWithin (tops_of site) x → IsSeenAt p x → sides_have sides x ≡ true → (established ≡ true → p.proto ≡ 6)
+HaveBox site established sides paths = (p : Packet) (x : List ℕ) → IsWithin (tops_of site) x → IsSeenAt p x → sides_have sides x ≡ true
+    → (established ≡ true → p.proto ≡ 6)
     → some_path_has paths p ≡ true
 
 -- a row that is true has the point
@@ -91,5 +93,6 @@ true_row_has rows x = list_any (λ row. row.leaf && sides_have row.sides x) rows
 
 -- the paths have the packets of the rows that are true
 abbrev pub HaveRows : Site → Bool → List (Row Bool) → List Path → Type 0
-HaveRows site established rows paths = (p : Packet) (x : List ℕ) → IsWithin (tops_of site) x → IsSeenAt p x → true_row_has rows x ≡ true → (established ≡ true → p.proto ≡ 6)
+HaveRows site established rows paths = (p : Packet) (x : List ℕ) → IsWithin (tops_of site) x → IsSeenAt p x → true_row_has rows x ≡ true
+    → (established ≡ true → p.proto ≡ 6)
     → some_path_has paths p ≡ true

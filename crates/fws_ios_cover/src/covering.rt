@@ -2,14 +2,12 @@
 
 ghost use Rattle.std.specs.Prelude.{◌≡◌, ◌++◌, ℕ, List, Some, true, IfOk, OnOk};
 ghost use Rattle.fws_box.specs.Sides.{IsWithin};
-ghost use Rattle.fws_box.specs.declared.field.Field.TheVariants as fields;
 ghost use Rattle.fws_net.specs.Points.{tops_of};
 ghost use Rattle.fws_net.specs.Routes.{IsSound};
 ghost use Rattle.fws_tree.specs.Plain.{value};
 ghost use Rattle.fws_ios.specs.declared.config.IosEntry.{IosEntry};
 ghost use Rattle.fws_ios_path.specs.Seen.{IsListed};
-ghost use Rattle.fws_ios_cover.specs.Covers.{ArePathsOver, IsCover};
-ghost use Rattle.fws_box.specs.Fields.{value_of};
+ghost use Rattle.fws_ios_cover.specs.Covers.{ArePathsOver, IsCover, IsOfTcp};
 
 use crate::entries::put_entries;
 use crate::kept::listed;
@@ -35,7 +33,7 @@ fn paths_over(
     requires within_tops { within.now.0 ≡ tops_of site.now }
     requires needed_listed { IsListed (tops_of site.now) (value needed.now.1) }
     requires part { (x : List ℕ) → IsWithin (tops_of site.now) x → value needed.now.1 x ≡ Some true → value within.now.1 x ≡ Some true }
-    requires tcp { established ≡ true → (x : List ℕ) → IsWithin (tops_of site.now) x → value needed.now.1 x ≡ Some true → value_of x fields.Proto ≡ 6 }
+    requires tcp { established ≡ true → IsOfTcp site.now needed.now.1 }
     ensures { IfOk result (ArePathsOver site.now established needed.now.1 within.now.1) }
 {
     let _tops = needed.tops();
@@ -61,7 +59,7 @@ pub fn put_cover(
     requires needed_listed { IsListed (tops_of site.now) (value needed.now.1) }
     requires keeps { act.reflect ≡ true → act.permit ≡ true }
     requires part { (x : List ℕ) → IsWithin (tops_of site.now) x → value needed.now.1 x ≡ Some true → value within.now.1 x ≡ Some true }
-    requires tcp { act.established ≡ true → (x : List ℕ) → IsWithin (tops_of site.now) x → value needed.now.1 x ≡ Some true → value_of x fields.Proto ≡ 6 }
+    requires tcp { act.established ≡ true → IsOfTcp site.now needed.now.1 }
     ensures { OnOk result ((block : List IosEntry) × (entries.new ≡ entries.old ++ block) × IsCover site.now act needed.now.1 within.now.1 block) }
 {
     let paths = paths_over(alloc, site, needed, within, act.established)?;

@@ -86,7 +86,8 @@ pub record AreFine (keep : Bool) (block : List IosEntry) : Type 0 where
 pub record AreNodeEntries (s : Scene) (keep : Bool) (at : ℕ) (path : Path) (falls : Option Bool) (block : List IosEntry) : Type 0 where
   pub fine : AreFine keep block
   pub passes : (g : Meeting) (rest : List IosEntry) → HasAddresses g.transit.packet → path_has path g.transit.packet ≡ false → IsPassed g block rest
-  pub decides : (g : Meeting) (rest : List IosEntry) (x : List ℕ) (b : Bool) → IsPoint s g.transit.packet x → path_has path g.transit.packet ≡ true → Comes s at x b
+  pub decides : (g : Meeting) (rest : List IosEntry) (x : List ℕ) (b : Bool) → IsPoint s g.transit.packet x → path_has path g.transit.packet ≡ true
+      → Comes s at x b
       → IsGiven g block rest b ⊎ ((falls ≡ Some b) × IsPassed g block rest)
 
 -- Paths to nodes

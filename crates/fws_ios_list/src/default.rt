@@ -1,9 +1,10 @@
 //! The kid that is left to the end.
 
 ghost use Rattle.std.specs.Prelude.{◌≡◌, ◌<◌, ◌↔◌, Some, All, length, IfOk, IfSome, IsTrue};
-ghost use Rattle.fws_ios_list.specs.Blocks.{below, scene, IsPlanned};
+ghost use Rattle.fws_ios_list.specs.Blocks.{below, IsPlanned};
 ghost use Rattle.fws_ios_list.specs.Turns.{IsKidNode};
 ghost use Rattle.fws_tree.specs.Plain.{leaf};
+ghost use Rattle.fws_ios_list.specs.Sheets.{scene_of};
 
 use crate::sheet::Sheet;
 use crate::sizes::{kid_size, size_at};
@@ -25,9 +26,9 @@ pub(crate) fn fall_to(falls: Option<bool>, permit: bool) -> bool
 
 /// The value of a node that is a leaf.
 pub(crate) fn leaf_at(sheet: &Sheet<'_>, node: u32) -> Option<bool>
-    requires planned { IsPlanned (scene sheet.now.tree.now.0 sheet.now.tree.now.1 sheet.now.leaves.now sheet.now.nodes.now) }
+    requires planned { IsPlanned (scene_of sheet.now) }
     requires inside { node < length sheet.now.nodes.now }
-    ensures { IfSome result (λ b. below (scene sheet.now.tree.now.0 sheet.now.tree.now.1 sheet.now.leaves.now sheet.now.nodes.now) node ≡ leaf b) }
+    ensures { IfSome result (λ b. below (scene_of sheet.now) node ≡ leaf b) }
 {
     leaf_nodes_are_leaves::<bool>();
     match &sheet.nodes[node as usize] {
@@ -38,7 +39,7 @@ pub(crate) fn leaf_at(sheet: &Sheet<'_>, node: u32) -> Option<bool>
 
 // How many entries a kid takes that is left to the end.
 fn last_size(sheet: &Sheet<'_>, node: u32, falls: Option<bool>) -> usize
-    requires planned { IsPlanned (scene sheet.now.tree.now.0 sheet.now.tree.now.1 sheet.now.leaves.now sheet.now.nodes.now) }
+    requires planned { IsPlanned (scene_of sheet.now) }
     requires inside { node < length sheet.now.nodes.now }
 {
     match leaf_at(sheet, node) {
@@ -55,7 +56,7 @@ pub(crate) fn dearest(
     kids: &[Kid],
     falls: Option<bool>,
 ) -> Result<u32, Memory>
-    requires planned { IsPlanned (scene sheet.now.tree.now.0 sheet.now.tree.now.1 sheet.now.leaves.now sheet.now.nodes.now) }
+    requires planned { IsPlanned (scene_of sheet.now) }
     requires inside { All (λ kid. kid.node < length sheet.now.nodes.now) kids.now }
     requires some { 0 < length kids.now }
     ensures { IfOk result (IsKidNode kids.now) }

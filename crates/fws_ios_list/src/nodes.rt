@@ -1,10 +1,12 @@
 //! The entries of nodes.
 
-ghost use Rattle.std.specs.Prelude.{◌≡◌, ◌<◌, ◌++◌, ◌∷◌, [], List, length, OnOk};
+ghost use Rattle.std.specs.Prelude.{◌≡◌, ◌<◌, ◌++◌, ◌∷◌, [], length, OnOk};
 ghost use Rattle.fws_ios.specs.declared.config.IosEntry.{IosEntry};
-ghost use Rattle.fws_ios_list.specs.Blocks.{scene, AreNodeEntries, IsPathTo, IsPlanned};
+ghost use Rattle.fws_ios_list.specs.Blocks.{AreNodeEntries, IsPathTo, IsPlanned};
 ghost use Rattle.fws_ios_list.specs.Entries.{act_of, AreLeafEntries, IsEntry};
 ghost use Rattle.fws_ios_path.specs.Paths.{IsWritable};
+ghost use Rattle.fws_print.specs.Appended.{Appends};
+ghost use Rattle.fws_ios_list.specs.Sheets.{scene_of};
 
 use crate::default::fall_to;
 use crate::sheet::Sheet;
@@ -52,7 +54,7 @@ fn put_leaf(
     falls: Option<bool>,
 ) -> Result<(), Memory>
     requires { IsWritable path }
-    ensures { OnOk result ((block : List IosEntry) × (entries.new ≡ entries.old ++ block) × AreLeafEntries permit keep path falls block) }
+    ensures { OnOk result (Appends entries.old entries.new (AreLeafEntries permit keep path falls)) }
 {
     if fall_to(falls, permit) {
         return Ok(());
@@ -71,10 +73,10 @@ pub(crate) fn put_node(
     path: Path,
     falls: Option<bool>,
 ) -> Result<(), Memory>
-    requires planned { IsPlanned (scene sheet.now.tree.now.0 sheet.now.tree.now.1 sheet.now.leaves.now sheet.now.nodes.now) }
+    requires planned { IsPlanned (scene_of sheet.now) }
     requires inside { at < length sheet.now.nodes.now }
-    requires good { IsPathTo (scene sheet.now.tree.now.0 sheet.now.tree.now.1 sheet.now.leaves.now sheet.now.nodes.now) at path }
-    ensures { OnOk result ((block : List IosEntry) × (entries.new ≡ entries.old ++ block) × AreNodeEntries (scene sheet.now.tree.now.0 sheet.now.tree.now.1 sheet.now.leaves.now sheet.now.nodes.now) sheet.now.keep at path falls block) }
+    requires good { IsPathTo (scene_of sheet.now) at path }
+    ensures { OnOk result (Appends entries.old entries.new (AreNodeEntries (scene_of sheet.now) sheet.now.keep at path falls)) }
 {
     leaf_nodes_are_leaves::<bool>();
     cut_nodes_part_values::<bool>();

@@ -2,13 +2,14 @@
 
 ghost use Rattle.std.specs.Prelude.{◌≡◌, ◌<◌, ◌-◌, ◌++◌, Some, false, List, length, OnOk};
 ghost use Rattle.fws_ios.specs.declared.config.IosEntry.{IosEntry};
-ghost use Rattle.fws_ios_list.specs.Blocks.{scene, AreNodeEntries, IsPlanned};
+ghost use Rattle.fws_ios_list.specs.Blocks.{IsPlanned};
 ghost use Rattle.fws_ios_list.specs.FirstMatch.{IsFirstMatch};
-ghost use Rattle.fws_ios_path.specs.Paths.{nothing_asked};
 ghost use Rattle.fws_ios_path.specs.Seen.{IsListed};
 ghost use Rattle.fws_net.specs.Points.{tops_of};
 ghost use Rattle.fws_net.specs.Routes.{IsSound};
 ghost use Rattle.fws_tree.specs.Plain.{value};
+ghost use Rattle.fws_print.specs.Appended.{Appends};
+ghost use Rattle.fws_ios_list.specs.Sheets.{scene_of, AreAllEntries};
 
 use crate::nodes::{put_entry, put_node};
 use crate::sheet::Sheet;
@@ -22,8 +23,8 @@ use std::alloc::Global;
 
 // Appends the entries of the last node for all packets, which fall to be denied.
 fn put_last(alloc: Global, entries: &mut Items<IosEntry>, sheet: &Sheet<'_>) -> Result<(), Memory>
-    requires { IsPlanned (scene sheet.now.tree.now.0 sheet.now.tree.now.1 sheet.now.leaves.now sheet.now.nodes.now) }
-    ensures { OnOk result ((block : List IosEntry) × (entries.new ≡ entries.old ++ block) × AreNodeEntries (scene sheet.now.tree.now.0 sheet.now.tree.now.1 sheet.now.leaves.now sheet.now.nodes.now) sheet.now.keep (length sheet.now.nodes.now - 1) nothing_asked (Some false) block) }
+    requires { IsPlanned (scene_of sheet.now) }
+    ensures { OnOk result (Appends entries.old entries.new (AreAllEntries sheet.now)) }
 {
     put_node(
         alloc,
@@ -38,8 +39,8 @@ fn put_last(alloc: Global, entries: &mut Items<IosEntry>, sheet: &Sheet<'_>) -> 
 
 // Appends the entries of all packets, and where they are none the one that denies all.
 fn put_all(alloc: Global, entries: &mut Items<IosEntry>, sheet: &Sheet<'_>) -> Result<(), Memory>
-    requires { IsPlanned (scene sheet.now.tree.now.0 sheet.now.tree.now.1 sheet.now.leaves.now sheet.now.nodes.now) }
-    ensures { OnOk result ((block : List IosEntry) × (entries.new ≡ entries.old ++ block) × (0 < length block) × AreNodeEntries (scene sheet.now.tree.now.0 sheet.now.tree.now.1 sheet.now.leaves.now sheet.now.nodes.now) sheet.now.keep (length sheet.now.nodes.now - 1) nothing_asked (Some false) block) }
+    requires { IsPlanned (scene_of sheet.now) }
+    ensures { OnOk result ((block : List IosEntry) × (entries.new ≡ entries.old ++ block) × (0 < length block) × AreAllEntries sheet.now block) }
 {
     let before = entries.len();
     put_last(alloc, entries, sheet)?;
@@ -61,7 +62,7 @@ pub fn put_first_match(
     requires sound { IsSound site.now }
     requires tops { tree.now.0 ≡ tops_of site.now }
     requires listed { IsListed tree.now.0 (value tree.now.1) }
-    ensures { OnOk result ((block : List IosEntry) × (entries.new ≡ entries.old ++ block) × IsFirstMatch site.now tree.now.1 keep block) }
+    ensures { OnOk result (Appends entries.old entries.new (IsFirstMatch site.now tree.now.1 keep)) }
 {
     let shared = tree.shared();
     let sizes = sizes_of(alloc, shared.nodes)?;

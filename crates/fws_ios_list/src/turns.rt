@@ -1,13 +1,15 @@
 //! The turns of a cut.
 
-ghost use Rattle.std.specs.Prelude.{◌≡◌, ◌⊎◌, ◌<◌, ◌≤◌, ◌++◌, ℕ, true, Some, List, length, slice_get, All, IfOk, OnOk};
-ghost use Rattle.fws_ios_list.specs.Blocks.{scene, IsGoodPath, IsPathTo, IsPlanned};
+ghost use Rattle.std.specs.Prelude.{◌≡◌, ◌⊎◌, ◌<◌, ◌≤◌, ◌++◌, ℕ, true, Some, length, slice_get, All, IfOk, OnOk};
+ghost use Rattle.fws_ios_list.specs.Blocks.{IsGoodPath, IsPathTo, IsPlanned};
 ghost use Rattle.fws_ios_list.specs.Turns.{turns_to, AreKidTests, AreTests, AreTurns};
 ghost use Rattle.fws_ios_list.specs.declared.turn.Turn.{Turn};
 ghost use Rattle.fws_ios_path.specs.Paths.{number_of, top_of};
 ghost use Rattle.fws_iv.specs.Ivs.{has};
 ghost use Rattle.fws_sight.specs.Cuts.{IsCutNode};
 ghost use Rattle.fws_tree.specs.declared.node.Node.{Node};
+ghost use Rattle.fws_print.specs.Appended.{Appends};
+ghost use Rattle.fws_ios_list.specs.Sheets.{scene_of};
 
 use crate::default::{dearest, leaf_at};
 use crate::sheet::Sheet;
@@ -45,7 +47,7 @@ fn put_kid(
 ) -> Result<(), Memory>
     requires good { IsGoodPath (number_of side) path }
     requires within { (v : ℕ) → has kid.now.set v ≡ true → v ≤ top_of side }
-    ensures { OnOk result ((block : List Turn) × (turns.new ≡ turns.old ++ block) × AreKidTests side kid.now path last falls block) }
+    ensures { OnOk result (Appends turns.old turns.new (AreKidTests side kid.now path last falls)) }
 {
     if last == kid.node {
         return Ok(());
@@ -67,7 +69,7 @@ fn put_kids(
 ) -> Result<(), Memory>
     requires good { IsGoodPath (number_of side) path }
     requires within { All (λ kid. (v : ℕ) → has kid.set v ≡ true → v ≤ top_of side) kids.now }
-    ensures { OnOk result ((block : List Turn) × (turns.new ≡ turns.old ++ block) × AreTests side kids.now path last falls (length kids.now) block) }
+    ensures { OnOk result (Appends turns.old turns.new (AreTests side kids.now path last falls (length kids.now))) }
 {
     for kid in kids {
         put_kid(alloc, turns, side, kid, path, last, falls)?;
@@ -86,12 +88,12 @@ fn asked_turns(
     path: Path,
     falls: Option<bool>,
 ) -> Result<Items<Turn>, Memory>
-    requires planned { IsPlanned (scene sheet.now.tree.now.0 sheet.now.tree.now.1 sheet.now.leaves.now sheet.now.nodes.now) }
+    requires planned { IsPlanned (scene_of sheet.now) }
     requires inside { at < length sheet.now.nodes.now }
     requires cut { slice_get sheet.now.nodes.now at ≡ Some (Node.Cut (number_of side) kids.now) }
     requires node { IsCutNode sheet.now.tree.now.0 sheet.now.leaves.now sheet.now.nodes.now at (number_of side) kids.now }
     requires good { IsGoodPath (number_of side) path }
-    ensures { IfOk result (AreTurns (scene sheet.now.tree.now.0 sheet.now.tree.now.1 sheet.now.leaves.now sheet.now.nodes.now) at path falls) }
+    ensures { IfOk result (AreTurns (scene_of sheet.now) at path falls) }
 {
     leaf_nodes_are_leaves::<bool>();
     cut_nodes_part_values::<bool>();
@@ -125,13 +127,13 @@ fn other_turns(
     path: Path,
     falls: Option<bool>,
 ) -> Result<Items<Turn>, Memory>
-    requires planned { IsPlanned (scene sheet.now.tree.now.0 sheet.now.tree.now.1 sheet.now.leaves.now sheet.now.nodes.now) }
+    requires planned { IsPlanned (scene_of sheet.now) }
     requires inside { at < length sheet.now.nodes.now }
     requires cut { slice_get sheet.now.nodes.now at ≡ Some (Node.Cut f kids.now) }
     requires node { IsCutNode sheet.now.tree.now.0 sheet.now.leaves.now sheet.now.nodes.now at f kids.now }
-    requires good { IsPathTo (scene sheet.now.tree.now.0 sheet.now.tree.now.1 sheet.now.leaves.now sheet.now.nodes.now) at path }
+    requires good { IsPathTo (scene_of sheet.now) at path }
     requires other { (f ≡ 0) ⊎ (f ≡ 6) ⊎ (8 ≤ f) }
-    ensures { IfOk result (AreTurns (scene sheet.now.tree.now.0 sheet.now.tree.now.1 sheet.now.leaves.now sheet.now.nodes.now) at path falls) }
+    ensures { IfOk result (AreTurns (scene_of sheet.now) at path falls) }
 {
     leaf_nodes_are_leaves::<bool>();
     cut_nodes_part_values::<bool>();
@@ -154,12 +156,12 @@ pub(crate) fn cut_turns(
     path: Path,
     falls: Option<bool>,
 ) -> Result<Items<Turn>, Memory>
-    requires planned { IsPlanned (scene sheet.now.tree.now.0 sheet.now.tree.now.1 sheet.now.leaves.now sheet.now.nodes.now) }
+    requires planned { IsPlanned (scene_of sheet.now) }
     requires inside { at < length sheet.now.nodes.now }
     requires cut { slice_get sheet.now.nodes.now at ≡ Some (Node.Cut f kids.now) }
     requires node { IsCutNode sheet.now.tree.now.0 sheet.now.leaves.now sheet.now.nodes.now at f kids.now }
-    requires good { IsPathTo (scene sheet.now.tree.now.0 sheet.now.tree.now.1 sheet.now.leaves.now sheet.now.nodes.now) at path }
-    ensures { IfOk result (AreTurns (scene sheet.now.tree.now.0 sheet.now.tree.now.1 sheet.now.leaves.now sheet.now.nodes.now) at path falls) }
+    requires good { IsPathTo (scene_of sheet.now) at path }
+    ensures { IfOk result (AreTurns (scene_of sheet.now) at path falls) }
 {
     match side_at(f) {
         Some(side) => asked_turns(alloc, sheet, at, side, kids, path, falls),

@@ -88,3 +88,7 @@ behind_source path established = lits_of Dst (dst_set path) ++ (lits_of Dport (d
 -- the condition that a packet is on a path, and has ACK or RST where that is asked
 abbrev pub cond_of : Path → Bool → List Lit
 cond_of path established = lits_of Proto (proto_set path) ++ (lits_of Src (src_set path) ++ (lits_of Sport (sport_set path) ++ behind_source path established))
+
+-- literals with what a condition asks up to the source's port behind them
+abbrev pub behind_front : List Lit → Path → List Lit
+behind_front lits path = lits ++ lits_of Proto (proto_set path) ++ lits_of Src (src_set path) ++ lits_of Sport (sport_set path)

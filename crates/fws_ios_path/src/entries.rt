@@ -4,7 +4,7 @@ ghost use Rattle.std.specs.Prelude.{◌≡◌, ◌≤◌, ◌++◌, ◌∷◌, [
 ghost use Rattle.fws_iv.specs.declared.iv.Iv.{Iv};
 ghost use Rattle.fws_net.specs.Faces.{prefix_parts};
 ghost use Rattle.fws_rule.specs.Literals.{one, positive};
-ghost use Rattle.fws_ios_path.specs.Entries.{behind_source, cond_of, dport_set, dst_set, flag_lits, lits_of, proto_set, sport_set, src_set, test_of, type_set, IsEntryOf, IsStateEntry};
+ghost use Rattle.fws_ios_path.specs.Entries.{behind_source, cond_of, flag_lits, lits_of, test_of, IsEntryOf, IsStateEntry, behind_front};
 ghost use Rattle.fws_ios_path.specs.Paths.{IsWritable};
 
 use crate::act::Act;
@@ -85,7 +85,7 @@ fn put_flags(cond: &mut Cond, established: bool) -> Result<(), Memory>
 // Appends the literals of the protocol, the source and its port.
 fn put_source(alloc: Global, cond: &mut Cond, path: Path) -> Result<(), Memory>
     requires { IsWritable path }
-    ensures { OnOk result (cond.new ≡ cond.old ++ lits_of Side.Proto (proto_set path) ++ lits_of Side.Src (src_set path) ++ lits_of Side.Sport (sport_set path)) }
+    ensures { OnOk result (cond.new ≡ behind_front cond.old path) }
 {
     put_number(alloc, cond, Side::Proto, path.proto)?;
     put_net(alloc, cond, Side::Src, path.src)?;

@@ -14,10 +14,6 @@ use Rattle.fws_ios_put.specs.Choices.{IsAskable, is_stray, is_tcp, truth}
 pub truth_is : (t : Plain Bool) (x : List ℕ) (b : Bool) → value t x ≡ Some b → truth t x ≡ b
 truth_is t x b is = ap (λ (o : Option Bool). unwrap_or o false) is
 
--- the tree is true where the function is
-abbrev pub HasTruth : Site → (List ℕ → Bool) → List ℕ × Plain Bool → Type 0
-HasTruth site f t = (x : List ℕ) → IsWithin (tops_of site) x → truth t.1 x ≡ f x
-
 -- where a tree gives just what a function of points does, which lists can tell, lists can ask for it
 pub askable_by : (site : Site) (t : List ℕ × Plain Bool) (f : List ℕ → Bool) → t.0 ≡ tops_of site → ((x : List ℕ) → IsWithin (tops_of site) x → value t.1 x ≡ Some (f x))
     → IsListed (tops_of site) f → IsAskable site t

@@ -1,5 +1,5 @@
 -- What packets that come in by an entry are permitted, as lists can ask for it.
-use Rattle.std.specs.Prelude.{◌≡◌, ◌≢◌, ◌↔◌, ℕ, Bool, true, false, ◌&&◌, ◌||◌, not, nat_eq, List, unwrap_or, Some, if◌then◌else◌}
+use Rattle.std.specs.Prelude.{◌≡◌, ◌≢◌, ◌↔◌, ℕ, Bool, true, false, ◌&&◌, ◌||◌, not, nat_eq, List, unwrap_or, Some, if◌then◌else◌, [], ◌∷◌}
 use Rattle.fws_box.specs.Sides.{IsWithin}
 use Rattle.fws_box.specs.declared.field.Field.TheVariants as fields
 use Rattle.fws_net.specs.declared.connection.Rec.{Rec}
@@ -19,6 +19,7 @@ use Rattle.fws_place.specs.Rewritings.{is_accepted}
 use Rattle.fws_place.specs.Seen.{IsAcceptedSomewhere, Tells}
 use Rattle.fws_ios_put.specs.declared.choices.Choices.{Choices}
 use Rattle.fws_box.specs.Fields.{value_of}
+use Rattle.fws_iv.specs.Ivs.{has}
 
 -- Trees
 
@@ -122,3 +123,30 @@ pub record NoneAlone (site : Site) (c : Choices) : Type 0 where
 pub record NoneDenied (site : Site) (c : Choices) : Type 0 where
   pub plain : (x : List ℕ) → IsWithin (tops_of site) x → truth c.known.1 x ≡ true
   pub acked : (x : List ℕ) → IsWithin (tops_of site) x → is_tcp x ≡ true → truth c.acked_known.1 x ≡ true
+
+-- What trees have that are made of others
+
+-- the tree is true where the function is
+abbrev pub HasTruth : Site → (List ℕ → Bool) → List ℕ × Plain Bool → Type 0
+HasTruth site f t = (x : List ℕ) → IsWithin (tops_of site) x → truth t.1 x ≡ f x
+
+-- the first set lies in the second one
+abbrev pub LiesIn : Site → Plain Bool → Plain Bool → Type 0
+LiesIn site t u = (x : List ℕ) → IsWithin (tops_of site) x → truth t x ≡ true → truth u x ≡ true
+
+-- as far as TCP goes
+abbrev pub LiesInForTcp : Site → Plain Bool → Plain Bool → Type 0
+LiesInForTcp site t u = (x : List ℕ) → IsWithin (tops_of site) x → is_tcp x ≡ true → truth t x ≡ true → truth u x ≡ true
+
+-- a stray destination, where packets with ACK or RST are permitted in connections and others aren't
+abbrev pub is_acked_stray : Site → Plain Bool → Plain Bool → List ℕ → Bool
+is_acked_stray site acked_known known x = is_stray site x && (truth acked_known x && not (truth known x))
+
+-- the entry and the flags are these
+abbrev pub is_framed : ℕ → ℕ → List ℕ → Bool
+is_framed entry flags q =
+    has (record { lo = entry; hi = entry } ∷ []) (value_of q fields.Entry) && has (record { lo = flags; hi = flags } ∷ []) (value_of q fields.Flags)
+
+-- packets with ACK that come in by the entry and are permitted as new ones: as the tree tells, and strays of TCP
+abbrev pub acked_truth : Site → Plain Bool → Plain Bool → Plain Bool → ℕ → List ℕ → Bool
+acked_truth site new acked_known known entry x = truth new (framed entry 16 x) || (is_tcp x && is_acked_stray site acked_known known x)

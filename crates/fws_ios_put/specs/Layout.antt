@@ -111,3 +111,7 @@ group_of site leaders entry = record { face = entry; outward = false; list = lis
 -- those of so many entries
 abbrev pub groups_of : Site → List ℕ → ℕ → List IosGroup
 groups_of site leaders most = map (group_of site leaders) (range_with_len 1 most)
+
+-- the leader of each entry is one that isn't later
+abbrev pub LeadEarly : List ℕ → Type 0
+LeadEarly leaders = (entry : ℕ) → 1 ≤ entry → entry ≤ length leaders → (1 ≤ leader leaders entry) × (leader leaders entry ≤ entry)

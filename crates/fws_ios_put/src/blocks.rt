@@ -1,12 +1,13 @@
 //! Lists for packets that come in.
 
-ghost use Rattle.std.specs.Prelude.{◌≡◌, ◌++◌, ◌&&◌, not, true, false, ℕ, List, IfOk, OnOk};
+ghost use Rattle.std.specs.Prelude.{◌≡◌, ◌&&◌, not, true, false, ℕ, List, IfOk, OnOk};
 ghost use Rattle.fws_box.specs.Sides.{IsWithin};
 ghost use Rattle.fws_ios.specs.declared.config.IosEntry.{IosEntry};
 ghost use Rattle.fws_net.specs.Points.{tops_of};
 ghost use Rattle.fws_net.specs.Routes.{IsSound};
 ghost use Rattle.fws_ios_put.specs.Blocks.{IsAhead, IsBack, IsDeniedBlock, IsFront, IsListOf, IsMarkedBlock};
-ghost use Rattle.fws_ios_put.specs.Choices.{is_tcp, truth, AreAskable, IsAskable, NoneAlone, NoneDenied};
+ghost use Rattle.fws_ios_put.specs.Choices.{is_tcp, truth, AreAskable, IsAskable, NoneAlone, NoneDenied, HasTruth, LiesIn, LiesInForTcp};
+ghost use Rattle.fws_print.specs.Appended.{Appends};
 
 use crate::choices::Choices;
 use crate::fixing::{is_somewhere, of_tcp};
@@ -31,7 +32,7 @@ fn needed_of(
     requires within { IsAskable site.now within.now }
     requires excused { IsAskable site.now excused.now }
     ensures askable { IfOk result (λ t. IsAskable site.now t) }
-    ensures value { IfOk result (λ t. (x : List ℕ) → IsWithin (tops_of site.now) x → truth t.1 x ≡ (is_tcp x && (truth within.now.1 x && not (truth excused.now.1 x)))) }
+    ensures value { IfOk result (HasTruth site.now (λ x. is_tcp x && (truth within.now.1 x && not (truth excused.now.1 x)))) }
 {
     let wanted = without(alloc, site, within, excused)?;
     of_tcp(alloc, site, &wanted)
@@ -51,7 +52,7 @@ fn put_needed(
     requires needed { IsAskable site.now needed.now }
     requires within { IsAskable site.now within.now }
     requires part { (x : List ℕ) → IsWithin (tops_of site.now) x → truth needed.now.1 x ≡ true → (is_tcp x && truth within.now.1 x) ≡ true }
-    ensures { OnOk result ((block : List IosEntry) × (entries.new ≡ entries.old ++ block) × IsMarkedBlock site.now permit (truth within.now.1) (λ x. not (truth needed.now.1 x)) block) }
+    ensures { OnOk result (Appends entries.old entries.new (IsMarkedBlock site.now permit (truth within.now.1) (λ x. not (truth needed.now.1 x)))) }
 {
     let around = of_tcp(alloc, site, within)?;
     let act = Act {
@@ -76,7 +77,7 @@ fn put_marked(
     requires sound { IsSound site.now }
     requires within { IsAskable site.now within.now }
     requires excused { IsAskable site.now excused.now }
-    ensures { OnOk result ((block : List IosEntry) × (entries.new ≡ entries.old ++ block) × IsMarkedBlock site.now permit (truth within.now.1) (truth excused.now.1) block) }
+    ensures { OnOk result (Appends entries.old entries.new (IsMarkedBlock site.now permit (truth within.now.1) (truth excused.now.1))) }
 {
     let needed = needed_of(alloc, site, within, excused)?;
     put_needed(alloc, entries, site, &needed, within, permit)?;
@@ -95,7 +96,7 @@ fn put_outside(
     requires sound { IsSound site.now }
     requires outside { IsAskable site.now outside.now }
     requires plain { IsAskable site.now plain.now }
-    ensures { OnOk result ((block : List IosEntry) × (entries.new ≡ entries.old ++ block) × IsMarkedBlock site.now false (truth outside.now.1) (λ x. not (truth plain.now.1 x)) block) }
+    ensures { OnOk result (Appends entries.old entries.new (IsMarkedBlock site.now false (truth outside.now.1) (λ x. not (truth plain.now.1 x)))) }
 {
     let excused = negated(alloc, site, plain)?;
     put_marked(alloc, entries, site, outside, &excused, false)?;
@@ -114,7 +115,7 @@ fn put_lacking(
     requires sound { IsSound site.now }
     requires acked { IsAskable site.now acked.now }
     requires plain { IsAskable site.now plain.now }
-    ensures { OnOk result ((block : List IosEntry) × (entries.new ≡ entries.old ++ block) × IsMarkedBlock site.now false (λ x. not (truth acked.now.1 x)) (λ x. not (truth plain.now.1 x)) block) }
+    ensures { OnOk result (Appends entries.old entries.new (IsMarkedBlock site.now false (λ x. not (truth acked.now.1 x)) (λ x. not (truth plain.now.1 x)))) }
 {
     let outside = negated(alloc, site, acked)?;
     put_outside(alloc, entries, site, &outside, plain)?;
@@ -130,7 +131,7 @@ fn put_denied(
 ) -> Result<(), Memory>
     requires sound { IsSound site.now }
     requires tree { IsAskable site.now tree.now }
-    ensures { OnOk result ((block : List IosEntry) × (entries.new ≡ entries.old ++ block) × IsDeniedBlock site.now (λ x. not (truth tree.now.1 x)) block) }
+    ensures { OnOk result (Appends entries.old entries.new (IsDeniedBlock site.now (λ x. not (truth tree.now.1 x)))) }
 {
     let none = negated(alloc, site, tree)?;
     let act = Act {
@@ -151,7 +152,7 @@ fn put_ahead(
 ) -> Result<(), Memory>
     requires sound { IsSound site.now }
     requires askable { AreAskable site.now c.now }
-    ensures { OnOk result ((block : List IosEntry) × (entries.new ≡ entries.old ++ block) × IsAhead site.now c.now block) }
+    ensures { OnOk result (Appends entries.old entries.new (IsAhead site.now c.now)) }
 {
     put_marked(alloc, entries, site, &c.acked_fresh, &c.known, true)?;
     put_denied(alloc, entries, site, &c.known)?;
@@ -168,7 +169,7 @@ fn is_beyond(
 ) -> Result<bool, Memory>
     requires tree { IsAskable site.now tree.now }
     requires other { IsAskable site.now other.now }
-    ensures { IfOk result (λ b. b ≡ false → (x : List ℕ) → IsWithin (tops_of site.now) x → truth tree.now.1 x ≡ true → truth other.now.1 x ≡ true) }
+    ensures { IfOk result (λ b. b ≡ false → LiesIn site.now tree.now.1 other.now.1) }
 {
     let beyond = without(alloc, site, tree, other)?;
     is_somewhere(alloc, site, &beyond)
@@ -203,7 +204,7 @@ fn is_beyond_for_tcp(
     requires sound { IsSound site.now }
     requires tree { IsAskable site.now tree.now }
     requires other { IsAskable site.now other.now }
-    ensures { IfOk result (λ b. b ≡ false → (x : List ℕ) → IsWithin (tops_of site.now) x → is_tcp x ≡ true → truth tree.now.1 x ≡ true → truth other.now.1 x ≡ true) }
+    ensures { IfOk result (λ b. b ≡ false → LiesInForTcp site.now tree.now.1 other.now.1) }
 {
     let beyond = without(alloc, site, tree, other)?;
     is_for_tcp(alloc, site, &beyond)
@@ -252,7 +253,7 @@ fn put_front(
 ) -> Result<(), Memory>
     requires sound { IsSound site.now }
     requires askable { AreAskable site.now c.now }
-    ensures { OnOk result ((block : List IosEntry) × (entries.new ≡ entries.old ++ block) × IsFront site.now c.now block) }
+    ensures { OnOk result (Appends entries.old entries.new (IsFront site.now c.now)) }
 {
     if !some_alone(alloc, site, c)? {
         return Ok(());
@@ -275,7 +276,7 @@ fn put_back(
 ) -> Result<(), Memory>
     requires sound { IsSound site.now }
     requires askable { AreAskable site.now c.now }
-    ensures { OnOk result ((block : List IosEntry) × (entries.new ≡ entries.old ++ block) × IsBack site.now c.now block) }
+    ensures { OnOk result (Appends entries.old entries.new (IsBack site.now c.now)) }
 {
     put_marked(alloc, entries, site, &c.acked_fresh, &c.fresh, true)?;
     put_lacking(alloc, entries, site, &c.acked_fresh, &c.fresh)?;

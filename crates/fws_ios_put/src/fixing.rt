@@ -1,16 +1,14 @@
 //! Trees of truth values for packets of one kind.
 
-ghost use Rattle.std.specs.Prelude.{◌≡◌, ◌&&◌, not, ◌+◌, ◌-◌, ◌^◌, ◌≤◌, ℕ, false, Some, length, List, [], ◌∷◌, if◌then◌else◌, IfOk};
-ghost use Rattle.fws_box.specs.Sides.{IsWithin, sides_have};
-ghost use Rattle.fws_box.specs.declared.field.Field.TheVariants as fields;
+ghost use Rattle.std.specs.Prelude.{◌≡◌, ◌&&◌, not, ◌+◌, ◌-◌, ◌^◌, ◌≤◌, ℕ, false, length, [], IfOk};
 ghost use Rattle.fws_iv.specs.Ivs.{has};
 ghost use Rattle.fws_net.specs.Points.{tops_of};
 ghost use Rattle.fws_net.specs.Routes.{is_local, IsSound};
 ghost use Rattle.fws_sight.specs.declared.seen.Seen.TheVariants.{Entered};
 ghost use Rattle.fws_sight.specs.Shown.{IsTold};
 ghost use Rattle.fws_tree.specs.Plain.{value};
-ghost use Rattle.fws_ios_put.specs.Choices.{framed, is_stray, is_tcp, truth, IsAskable, IsNowhere};
-ghost use Rattle.fws_box.specs.Fields.{value_of};
+ghost use Rattle.fws_ios_put.specs.Choices.{framed, is_stray, is_tcp, truth, IsAskable, IsNowhere, HasTruth, is_framed};
+ghost use Rattle.fws_place.specs.Kept.{HaveWhere, IsKeptWhere};
 
 use fws_box::{Field, whole_sides};
 use fws_iv::{Ivs, one};
@@ -25,7 +23,7 @@ pub(crate) fn of_tcp(alloc: Global, site: &Site, tree: &Tree<bool>) -> Result<Tr
     requires sound { IsSound site.now }
     requires tree { IsAskable site.now tree.now }
     ensures askable { IfOk result (λ t. IsAskable site.now t) }
-    ensures value { IfOk result (λ t. (x : List ℕ) → IsWithin (tops_of site.now) x → truth t.1 x ≡ (is_tcp x && truth tree.now.1 x)) }
+    ensures value { IfOk result (HasTruth site.now (λ x. is_tcp x && truth tree.now.1 x)) }
 {
     let tops = tops(site);
     let mut sides = whole_sides(alloc, &tops)?;
@@ -50,7 +48,7 @@ pub(crate) fn of_strays(alloc: Global, site: &Site, tree: &Tree<bool>) -> Result
     requires sound { IsSound site.now }
     requires tree { IsAskable site.now tree.now }
     ensures askable { IfOk result (λ t. IsAskable site.now t) }
-    ensures value { IfOk result (λ t. (x : List ℕ) → IsWithin (tops_of site.now) x → truth t.1 x ≡ (is_stray site.now x && truth tree.now.1 x)) }
+    ensures value { IfOk result (HasTruth site.now (λ x. is_stray site.now x && truth tree.now.1 x)) }
 {
     let tops = tops(site);
     let mut sides = whole_sides(alloc, &tops)?;
@@ -65,7 +63,7 @@ const ENTRY_AND_FLAGS: u16 = ENTRY | FLAGS;
 // The sides of the points with this entry and these flags. An error is want of memory.
 fn framed_sides(alloc: Global, site: &Site, entry: u8, flags: u8) -> Result<[Ivs; 12], Memory>
     requires { IsSound site.now }
-    ensures { IfOk result (λ sides. (q : List ℕ) → IsWithin (tops_of site.now) q → sides_have sides q ≡ (has (record { lo = entry; hi = entry } ∷ []) (value_of q fields.Entry) && has (record { lo = flags; hi = flags } ∷ []) (value_of q fields.Flags))) }
+    ensures { IfOk result (HaveWhere (tops_of site.now) (is_framed entry flags)) }
 {
     let tops = tops(site);
     let mut sides = whole_sides(alloc, &tops)?;
@@ -85,7 +83,7 @@ fn framed_part(
     requires sound { IsSound site.now }
     requires tops { tree.now.0 ≡ tops_of site.now }
     ensures tops { IfOk result (λ t. t.0 ≡ tree.now.0) }
-    ensures value { IfOk result (λ t. (q : List ℕ) → IsWithin (tops_of site.now) q → value t.1 q ≡ (if has (record { lo = entry; hi = entry } ∷ []) (value_of q fields.Entry) && has (record { lo = flags; hi = flags } ∷ []) (value_of q fields.Flags) then value tree.now.1 q else Some false)) }
+    ensures value { IfOk result (λ t. IsKeptWhere (tops_of site.now) (is_framed entry flags) tree.now.1 t.1) }
 {
     let sides = framed_sides(alloc, site, entry, flags)?;
     tree.restrict(alloc, &sides, false)
@@ -105,7 +103,7 @@ pub(crate) fn fixed(
     requires entry { entry ≤ length site.now.faces + 1 }
     requires flags { flags ≤ 63 }
     ensures askable { IfOk result (λ t. IsAskable site.now t) }
-    ensures value { IfOk result (λ t. (x : List ℕ) → IsWithin (tops_of site.now) x → truth t.1 x ≡ truth tree.now.1 (framed entry flags x)) }
+    ensures value { IfOk result (HasTruth site.now (λ x. truth tree.now.1 (framed entry flags x))) }
 {
     let part = framed_part(alloc, site, tree, entry, flags)?;
     let fixed = part.exists(alloc, ENTRY_AND_FLAGS)?;

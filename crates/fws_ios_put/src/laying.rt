@@ -1,13 +1,13 @@
 //! The lists for packets that come in, and where they are applied.
 
-ghost use Rattle.std.specs.Prelude.{◌≡◌, ◌≤◌, ◌+◌, ℕ, length, IfOk, OnOk};
+ghost use Rattle.std.specs.Prelude.{◌≡◌, ◌≤◌, ◌+◌, length, IfOk, OnOk};
 ghost use Rattle.fws_net.specs.Points.{tops_of};
 ghost use Rattle.fws_net.specs.Routes.{IsSound};
 ghost use Rattle.fws_net.specs.declared.packet.Lang.TheVariants.{Ios};
 ghost use Rattle.fws_rule.specs.Names.{AreNamed};
 ghost use Rattle.fws_sight.specs.declared.seen.Seen.TheVariants.{Entered};
 ghost use Rattle.fws_sight.specs.Shown.{IsTold};
-ghost use Rattle.fws_ios_put.specs.Layout.{groups_of, leader, AreLeaders, AreLists, IsEntryList, IsOwnList, IsPut};
+ghost use Rattle.fws_ios_put.specs.Layout.{groups_of, leader, AreLeaders, AreLists, IsEntryList, IsOwnList, IsPut, LeadEarly};
 
 use crate::blocks::list_of;
 use crate::making::choices_of;
@@ -120,7 +120,7 @@ pub(crate) fn groups_of(
     leaders: &[u8],
 ) -> Result<Items<IosGroup>, Memory>
     requires few { length leaders.now ≤ 63 }
-    requires leaders { (entry : ℕ) → 1 ≤ entry → entry ≤ length leaders.now → (1 ≤ leader leaders.now entry) × (leader leaders.now entry ≤ entry) }
+    requires leaders { LeadEarly leaders.now }
     ensures { IfOk result (λ groups. groups ≡ groups_of site.now leaders.now (length leaders.now)) }
 {
     let mut groups = Items::new(alloc);

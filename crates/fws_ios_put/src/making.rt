@@ -1,12 +1,11 @@
 //! Choices that are made of what tables tell of packets.
 
-ghost use Rattle.std.specs.Prelude.{◌≡◌, ◌&&◌, ◌||◌, not, ◌+◌, ◌≤◌, ℕ, length, List, IfOk};
-ghost use Rattle.fws_box.specs.Sides.{IsWithin};
+ghost use Rattle.std.specs.Prelude.{◌≡◌, ◌&&◌, ◌||◌, ◌+◌, ◌≤◌, length, IfOk};
 ghost use Rattle.fws_net.specs.Points.{tops_of};
 ghost use Rattle.fws_net.specs.Routes.{IsSound};
 ghost use Rattle.fws_sight.specs.declared.seen.Seen.TheVariants.{Entered};
 ghost use Rattle.fws_sight.specs.Shown.{IsTold};
-ghost use Rattle.fws_ios_put.specs.Choices.{framed, is_stray, is_tcp, truth, AreAskable, AreMadeOf, IsAskable};
+ghost use Rattle.fws_ios_put.specs.Choices.{framed, is_tcp, truth, AreAskable, AreMadeOf, IsAskable, HasTruth, is_acked_stray, acked_truth};
 
 use crate::choices::Choices;
 use crate::fixing::{fixed, of_strays, of_tcp};
@@ -27,7 +26,7 @@ fn known_strays(
     requires acked_known { IsAskable site.now acked_known.now }
     requires known { IsAskable site.now known.now }
     ensures askable { IfOk result (λ t. IsAskable site.now t) }
-    ensures value { IfOk result (λ t. (x : List ℕ) → IsWithin (tops_of site.now) x → truth t.1 x ≡ (is_stray site.now x && (truth acked_known.now.1 x && not (truth known.now.1 x)))) }
+    ensures value { IfOk result (HasTruth site.now (λ x. is_acked_stray site.now acked_known.now.1 known.now.1 x)) }
 {
     let alone = without(alloc, site, acked_known, known)?;
     of_strays(alloc, site, &alone)
@@ -44,7 +43,7 @@ fn tcp_strays(
     requires acked_known { IsAskable site.now acked_known.now }
     requires known { IsAskable site.now known.now }
     ensures askable { IfOk result (λ t. IsAskable site.now t) }
-    ensures value { IfOk result (λ t. (x : List ℕ) → IsWithin (tops_of site.now) x → truth t.1 x ≡ (is_tcp x && (is_stray site.now x && (truth acked_known.now.1 x && not (truth known.now.1 x))))) }
+    ensures value { IfOk result (HasTruth site.now (λ x. is_tcp x && is_acked_stray site.now acked_known.now.1 known.now.1 x)) }
 {
     let strays = known_strays(alloc, site, acked_known, known)?;
     of_tcp(alloc, site, &strays)
@@ -64,7 +63,7 @@ fn with_strays(
     requires acked_known { IsAskable site.now acked_known.now }
     requires known { IsAskable site.now known.now }
     ensures askable { IfOk result (λ t. IsAskable site.now t) }
-    ensures value { IfOk result (λ t. (x : List ℕ) → IsWithin (tops_of site.now) x → truth t.1 x ≡ (truth own.now.1 x || (is_tcp x && (is_stray site.now x && (truth acked_known.now.1 x && not (truth known.now.1 x)))))) }
+    ensures value { IfOk result (HasTruth site.now (λ x. truth own.now.1 x || (is_tcp x && is_acked_stray site.now acked_known.now.1 known.now.1 x))) }
 {
     let strays = tcp_strays(alloc, site, acked_known, known)?;
     either(alloc, site, own, &strays)
@@ -87,7 +86,7 @@ fn acked_fresh(
     requires known { IsAskable site.now known.now }
     requires entry { entry ≤ length site.now.faces + 1 }
     ensures askable { IfOk result (λ t. IsAskable site.now t) }
-    ensures value { IfOk result (λ t. (x : List ℕ) → IsWithin (tops_of site.now) x → truth t.1 x ≡ (truth new.now.1 (framed entry 16 x) || (is_tcp x && (is_stray site.now x && (truth acked_known.now.1 x && not (truth known.now.1 x)))))) }
+    ensures value { IfOk result (HasTruth site.now (acked_truth site.now new.now.1 acked_known.now.1 known.now.1 entry)) }
 {
     let own = fixed(alloc, site, new, entry, 16)?;
     with_strays(alloc, site, &own, acked_known, known)
@@ -107,8 +106,8 @@ fn known_kinds(
     requires entry { entry ≤ length site.now.faces + 1 }
     ensures askable { IfOk result (λ kinds. IsAskable site.now kinds.0) }
     ensures acked_askable { IfOk result (λ kinds. IsAskable site.now kinds.1) }
-    ensures value { IfOk result (λ kinds. (x : List ℕ) → IsWithin (tops_of site.now) x → truth kinds.0.1 x ≡ truth known.now.1 (framed entry 0 x)) }
-    ensures acked_value { IfOk result (λ kinds. (x : List ℕ) → IsWithin (tops_of site.now) x → truth kinds.1.1 x ≡ truth known.now.1 (framed entry 16 x)) }
+    ensures value { IfOk result (λ kinds. HasTruth site.now (λ x. truth known.now.1 (framed entry 0 x)) kinds.0) }
+    ensures acked_value { IfOk result (λ kinds. HasTruth site.now (λ x. truth known.now.1 (framed entry 16 x)) kinds.1) }
 {
     let plain = fixed(alloc, site, known, entry, 0)?;
     let acked = fixed(alloc, site, known, entry, 16)?;
@@ -132,8 +131,8 @@ fn fresh_kinds(
     requires entry { entry ≤ length site.now.faces + 1 }
     ensures askable { IfOk result (λ kinds. IsAskable site.now kinds.0) }
     ensures acked_askable { IfOk result (λ kinds. IsAskable site.now kinds.1) }
-    ensures value { IfOk result (λ kinds. (x : List ℕ) → IsWithin (tops_of site.now) x → truth kinds.0.1 x ≡ truth new.now.1 (framed entry 0 x)) }
-    ensures acked_value { IfOk result (λ kinds. (x : List ℕ) → IsWithin (tops_of site.now) x → truth kinds.1.1 x ≡ (truth new.now.1 (framed entry 16 x) || (is_tcp x && (is_stray site.now x && (truth acked_known.now.1 x && not (truth known.now.1 x)))))) }
+    ensures value { IfOk result (λ kinds. HasTruth site.now (λ x. truth new.now.1 (framed entry 0 x)) kinds.0) }
+    ensures acked_value { IfOk result (λ kinds. HasTruth site.now (acked_truth site.now new.now.1 acked_known.now.1 known.now.1 entry) kinds.1) }
 {
     let plain = fixed(alloc, site, new, entry, 0)?;
     let acked = acked_fresh(alloc, site, new, acked_known, known, entry)?;

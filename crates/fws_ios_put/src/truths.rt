@@ -1,10 +1,8 @@
 //! Trees of truth values that are made of others, as lists can ask for them. The site is read by contracts alone: it says
 //! over which points lists ask.
 
-ghost use Rattle.std.specs.Prelude.{◌≡◌, ◌&&◌, ◌||◌, not, ℕ, List, IfOk};
-ghost use Rattle.fws_box.specs.Sides.{IsWithin};
-ghost use Rattle.fws_net.specs.Points.{tops_of};
-ghost use Rattle.fws_ios_put.specs.Choices.{truth, IsAskable};
+ghost use Rattle.std.specs.Prelude.{◌&&◌, ◌||◌, not, IfOk};
+ghost use Rattle.fws_ios_put.specs.Choices.{truth, IsAskable, HasTruth};
 
 use fws_net::Site;
 use fws_num::Memory;
@@ -21,7 +19,7 @@ pub(crate) fn without(
     requires tree { IsAskable _site.now tree.now }
     requires excused { IsAskable _site.now excused.now }
     ensures askable { IfOk result (λ t. IsAskable _site.now t) }
-    ensures value { IfOk result (λ t. (x : List ℕ) → IsWithin (tops_of _site.now) x → truth t.1 x ≡ (truth tree.now.1 x && not (truth excused.now.1 x))) }
+    ensures value { IfOk result (HasTruth _site.now (λ x. truth tree.now.1 x && not (truth excused.now.1 x))) }
 {
     let made = fws_truth::without(alloc, tree, excused)?;
     Ok(made)
@@ -37,7 +35,7 @@ pub(crate) fn either(
     requires tree { IsAskable _site.now tree.now }
     requires other { IsAskable _site.now other.now }
     ensures askable { IfOk result (λ t. IsAskable _site.now t) }
-    ensures value { IfOk result (λ t. (x : List ℕ) → IsWithin (tops_of _site.now) x → truth t.1 x ≡ (truth tree.now.1 x || truth other.now.1 x)) }
+    ensures value { IfOk result (HasTruth _site.now (λ x. truth tree.now.1 x || truth other.now.1 x)) }
 {
     let made = fws_truth::either(alloc, tree, other)?;
     Ok(made)
@@ -47,7 +45,7 @@ pub(crate) fn either(
 pub(crate) fn negated(alloc: Global, _site: &Site, tree: &Tree<bool>) -> Result<Tree<bool>, Memory>
     requires { IsAskable _site.now tree.now }
     ensures askable { IfOk result (λ t. IsAskable _site.now t) }
-    ensures value { IfOk result (λ t. (x : List ℕ) → IsWithin (tops_of _site.now) x → truth t.1 x ≡ not (truth tree.now.1 x)) }
+    ensures value { IfOk result (HasTruth _site.now (λ x. not (truth tree.now.1 x))) }
 {
     let made = fws_truth::negated(alloc, tree)?;
     Ok(made)

@@ -31,7 +31,8 @@ IsCrossing site tables t =
 
 -- the outcomes that lists can give: they are told by the entry, the flags and what lists see, and the source by what lists see alone.
 pub record AreTold (tops : List ℕ) (t : Plain Outcome) : Type 0 where
-  pub steady : (x y : List ℕ) → IsWithin tops x → IsWithin tops y → value_of x fields.Entry ≡ value_of y fields.Entry → value_of x fields.Flags ≡ value_of y fields.Flags → LookSame x y
+  pub steady : (x y : List ℕ) → IsWithin tops x → IsWithin tops y → value_of x fields.Entry ≡ value_of y fields.Entry
+      → value_of x fields.Flags ≡ value_of y fields.Flags → LookSame x y
       → value t x ≡ value t y
   pub agree : (x y z : List ℕ) (v w : Rewrite) → IsWithin tops y → IsWithin tops z → Agree 65 x y → Agree 65 x z → value t y ≡ Some (Accept v)
       → value t z ≡ Some (Accept w) → v.src ≡ w.src

@@ -10,9 +10,11 @@ use Rattle.fws_tree.specs.Plain.{Plain}
 use Rattle.fws_ipfw.specs.declared.config.IpfwNat.{IpfwNat}
 use Rattle.fws_ipfw.specs.declared.config.IpfwRule.{IpfwRule}
 use Rattle.fws_ipfw_put.specs.Ends.{FitsEnd, HasSources, HaveDestinations}
-use Rattle.fws_ipfw_put.specs.Guards.{IsGuard, IsImageList}
+use Rattle.fws_ipfw_put.specs.Guards.{IsGuard, IsImageList, IsMet}
 use Rattle.fws_ipfw_put.specs.Instances.{destination_nats, source_nats}
 use Rattle.fws_ipfw_put.specs.Layout.{arriving_choice, destination_rules, lookup_rules, new_arriving, new_sent, same_end, sent_choice, source_rules}
+use Rattle.fws_tree.specs.declared.tables.Tables.{Tables}
+use Rattle.fws_place.specs.declared.seeing.Views.{Views}
 
 -- the rules by their parts
 abbrev pub laid : List IpfwRule → List IpfwRule → List IpfwRule → List End → List End → List IpfwRule
@@ -41,3 +43,12 @@ pub record AreEnds (site : Site) (fresh : Plain Outcome) (redirects : List Redir
   pub few_sources : length sources ≤ 60000
   pub fit : All (λ r. FitsEnd r.local) redirects
   pub different : IsDistinct same_end destinations
+
+-- the rules for new packets that arrive
+abbrev pub AreArriving : Site → List End → List End → Plain Outcome → List IpfwRule → Type 0
+AreArriving site destinations sources fresh block = IsImageList site new_arriving (arriving_choice destinations sources) fresh block
+
+-- the rules by what views tell of established packets, where pairs that make no out pass are met too
+abbrev pub AreRulesBy : Site → Tables → Views → List End → List End → List IpfwRule → Type 0
+AreRulesBy site tables views destinations sources rules = (behind : Plain Bool) × IsMet site views.behind.1 behind
+    × AreRules site tables.fresh.1 views.packet.1 behind destinations sources rules

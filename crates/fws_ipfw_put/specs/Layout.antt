@@ -155,3 +155,10 @@ source_rules destinations j [] = allowing source_number (outwards ∷ []) ∷ []
 source_rules destinations j (e ∷ ends) =
     plain_rule source_number (outwards ∷ tagged_with (source_tag j) ∷ []) (acts.Nat (source_instance destinations j))
     ∷ source_rules destinations (j + 1) ends
+
+-- the rules for the destination at a place, and the one for the source at a place behind so many destinations
+abbrev pub destination_pair : ℕ → List IpfwRule
+destination_pair place = plain_rule (10000 + place) (inward ∷ []) (acts.Nat (place + 1)) ∷ allowing (10000 + place) (inward ∷ []) ∷ []
+
+abbrev pub source_rule : ℕ → ℕ → IpfwRule
+source_rule destinations place = plain_rule 60000 (outwards ∷ tagged_with (place + 2) ∷ []) (acts.Nat (destinations + place + 1))

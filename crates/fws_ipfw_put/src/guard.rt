@@ -1,6 +1,6 @@
 //! The rules ahead of the look-up of connections.
 
-ghost use Rattle.std.specs.Prelude.{◌≡◌, ◌≤◌, ◌<◌, ◌-◌, ◌^◌, ◌||◌, ℕ, true, not, List, Some, ◌++◌, length, slice_get, IfOk, OnOk};
+ghost use Rattle.std.specs.Prelude.{◌≡◌, ◌≤◌, ◌<◌, ◌-◌, ◌^◌, ◌||◌, ℕ, true, not, List, Some, length, slice_get, IfOk, OnOk};
 ghost use Rattle.fws_box.specs.Sides.{IsWithin, sides_have};
 ghost use Rattle.fws_iv.specs.Ivs.{has};
 ghost use Rattle.fws_net.specs.Points.{tops_of};
@@ -12,6 +12,7 @@ ghost use Rattle.fws_tree.specs.Plain.{leaf, value};
 ghost use Rattle.fws_tree.specs.Shared.{subtree_of};
 ghost use Rattle.fws_ipfw_put.specs.Guards.{IsFullGuard, IsGuard, IsImageList, IsMet, is_unmet};
 ghost use Rattle.fws_ipfw_put.specs.Layout.{passing};
+ghost use Rattle.fws_print.specs.Appended.{Appends};
 
 use crate::choices::Passing;
 use crate::rules::put_leaving;
@@ -102,7 +103,7 @@ fn put_passing(
     requires told { IsTold section.now.seen (tops_of site.now) tree.now.1 }
     requires positive { 0 < section.now.number }
     requires ahead { section.now.number < 5000 }
-    ensures { OnOk result ((block : List IpfwRule) × (rules.new ≡ rules.old ++ block) × IsImageList site.now section.now passing tree.now.1 block) }
+    ensures { OnOk result (Appends rules.old rules.new (IsImageList site.now section.now passing tree.now.1)) }
 {
     relabelled_trees_are_told::<bool, Choice>();
     let choices = tree.relabel(alloc, &Passing)?;
@@ -123,7 +124,7 @@ fn put_full(
     requires behind_tops { behind.now.0 ≡ tops_of site.now }
     requires packet_told { IsTold Entered (tops_of site.now) packet.now.1 }
     requires behind_told { IsTold Routed (tops_of site.now) behind.now.1 }
-    ensures { OnOk result ((block : List IpfwRule) × (rules.new ≡ rules.old ++ block) × IsFullGuard site.now packet.now.1 behind.now.1 block) }
+    ensures { OnOk result (Appends rules.old rules.new (IsFullGuard site.now packet.now.1 behind.now.1)) }
 {
     put_passing(alloc, rules, site, packet, &KNOWN_ARRIVING)?;
     put_leaving(alloc, rules, site)?;
@@ -153,7 +154,7 @@ pub(crate) fn put_guard(
     requires behind_tops { behind.now.0 ≡ tops_of site.now }
     requires packet_told { IsTold Entered (tops_of site.now) packet.now.1 }
     requires behind_told { IsTold Routed (tops_of site.now) behind.now.1 }
-    ensures { OnOk result ((block : List IpfwRule) × (rules.new ≡ rules.old ++ block) × IsGuard site.now packet.now.1 behind.now.1 block) }
+    ensures { OnOk result (Appends rules.old rules.new (IsGuard site.now packet.now.1 behind.now.1)) }
 {
     if are_true_everywhere(packet, behind) {
         return Ok(());

@@ -1,14 +1,15 @@
 //! The rules and the instances of a policy.
 
-ghost use Rattle.std.specs.Prelude.{◌≡◌, ◌≤◌, ◌<◌, ◌^◌, List, ◌++◌, length, All, IfOk, OnOk};
+ghost use Rattle.std.specs.Prelude.{◌≡◌, ◌≤◌, ◌<◌, ◌^◌, ◌++◌, length, All, IfOk, OnOk};
 ghost use Rattle.fws_net.specs.Points.{tops_of};
 ghost use Rattle.fws_net.specs.Routes.{IsSound};
 ghost use Rattle.fws_ipfw.specs.declared.config.IpfwRule.{IpfwRule};
 ghost use Rattle.fws_sight.specs.Shown.{IsTold};
 ghost use Rattle.fws_sight.specs.declared.seen.Seen.TheVariants.{Entered, Routed};
 ghost use Rattle.fws_ipfw_put.specs.Guards.{IsImageList};
-ghost use Rattle.fws_ipfw_put.specs.Laid.{AreRules, nats_for};
-ghost use Rattle.fws_ipfw_put.specs.Layout.{arriving_choice, destination_rules, new_arriving, new_sent, sent_choice, source_rules};
+ghost use Rattle.fws_ipfw_put.specs.Laid.{AreRules, nats_for, AreArriving};
+ghost use Rattle.fws_ipfw_put.specs.Layout.{destination_rules, new_sent, sent_choice, source_rules};
+ghost use Rattle.fws_print.specs.Appended.{Appends};
 
 use crate::choices::{Arriving, Sent};
 use crate::guard::put_guard;
@@ -39,7 +40,7 @@ fn put_arriving(
     requires told { IsTold Entered (tops_of site.now) fresh.now.1 }
     requires few_destinations { length destinations.now.keys ≤ 4096 }
     requires few_sources { length sources.now.keys ≤ 60000 }
-    ensures { OnOk result ((block : List IpfwRule) × (rules.new ≡ rules.old ++ block) × IsImageList site.now new_arriving (arriving_choice destinations.now.keys sources.now.keys) fresh.now.1 block) }
+    ensures { OnOk result (Appends rules.old rules.new (AreArriving site.now destinations.now.keys sources.now.keys fresh.now.1)) }
 {
     relabelled_trees_are_told::<Outcome, Choice>();
     let by = Arriving {
@@ -63,7 +64,7 @@ fn put_sent(
     requires tops { fresh.now.0 ≡ tops_of site.now }
     requires told { IsTold Entered (tops_of site.now) fresh.now.1 }
     requires few_sources { length sources.now.keys ≤ 60000 }
-    ensures { OnOk result ((block : List IpfwRule) × (rules.new ≡ rules.old ++ block) × IsImageList site.now new_sent (sent_choice sources.now.keys) fresh.now.1 block) }
+    ensures { OnOk result (Appends rules.old rules.new (IsImageList site.now new_sent (sent_choice sources.now.keys) fresh.now.1)) }
 {
     relabelled_trees_are_told::<Outcome, Choice>();
     let by = Sent { sources };

@@ -1,6 +1,6 @@
 //! Tables placed.
 
-ghost use Rattle.std.specs.Prelude.{◌≡◌, ◌≤◌, ◌||◌, not, Bool, length, Err, IfOk, OnOk};
+ghost use Rattle.std.specs.Prelude.{◌≡◌, ◌≤◌, ◌||◌, not, length, Err, IfOk, OnOk};
 ghost use Rattle.fws_ipfw.specs.RuleText.{allows};
 ghost use Rattle.fws_net.specs.Points.{tops_of};
 ghost use Rattle.fws_net.specs.Routes.{IsSound};
@@ -8,11 +8,9 @@ ghost use Rattle.fws_net.specs.declared.packet.Lang.TheVariants as langs;
 ghost use Rattle.fws_place.specs.declared.clause.Clause.TheVariants.{FewRedirects};
 ghost use Rattle.fws_place.specs.Fits.{Fits, IsBreach, Meets};
 ghost use Rattle.fws_place.specs.Seen.{IsAcceptedAlike, IsAcceptedSomewhere, Tells};
-ghost use Rattle.fws_tree.specs.Plain.{Plain};
 ghost use Rattle.fws_tree.specs.Regular.{AreRegular};
-ghost use Rattle.fws_ipfw_put.specs.Guards.{IsMet};
 ghost use Rattle.fws_ipfw_put.specs.Known.{Known};
-ghost use Rattle.fws_ipfw_put.specs.Laid.{AreEnds, AreRules, nats_for};
+ghost use Rattle.fws_ipfw_put.specs.Laid.{AreEnds, AreRulesBy};
 ghost use Rattle.fws_ipfw_put.specs.Placed.{IsPlaced, tracks};
 ghost use Rattle.fws_ipfw_put.specs.Redirects.{AreRedirects};
 
@@ -98,7 +96,7 @@ fn rules_for(
     requires known { Known site.now t.now views.now.packet.1 views.now.behind.1 }
     requires few_destinations { length written.now.destinations.keys ≤ 4096 }
     requires few_sources { length written.now.sources.keys ≤ 60000 }
-    ensures { IfOk result (λ rules. (behind : Plain Bool) × IsMet site.now views.now.behind.1 behind × AreRules site.now t.now.fresh.1 views.now.packet.1 behind written.now.destinations.keys written.now.sources.keys rules) }
+    ensures { IfOk result (AreRulesBy site.now t.now views.now written.now.destinations.keys written.now.sources.keys) }
 {
     let behind = met(alloc, site, &views.behind)?;
     let rules = rules_of(

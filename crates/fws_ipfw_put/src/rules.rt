@@ -2,7 +2,7 @@
 
 ghost use Rattle.std.specs.Prelude.{◌≡◌, ◌+◌, ◌≤◌, ◌<◌, false, [], ◌∷◌, ◌++◌, length, IfOk, OnOk};
 ghost use Rattle.fws_net.specs.Routes.{IsSound};
-ghost use Rattle.fws_ipfw_put.specs.Layout.{allowing, destination_rules, inward, leaving_rules, lookup_rules, outwards, plain_rule, source_rules, tagged_with, unreceived};
+ghost use Rattle.fws_ipfw_put.specs.Layout.{allowing, destination_rules, inward, leaving_rules, lookup_rules, outwards, plain_rule, source_rules, tagged_with, unreceived, destination_pair, source_rule};
 
 use crate::sections::{
     ARRIVED, ARRIVED_LEAVE, DESTINATIONS, KNOWN_SENT, LOOKUP, OWN_LEAVE, SOURCES, TAGGING,
@@ -153,7 +153,7 @@ pub(crate) fn put_lookup(alloc: Global, rules: &mut Items<IpfwRule>) -> Result<(
 /// Puts the rules for the destination at a place. An error is want of memory.
 fn put_destination(alloc: Global, rules: &mut Items<IpfwRule>, place: u32) -> Result<(), Memory>
     requires { place ≤ 4096 }
-    ensures { OnOk result (rules.new ≡ rules.old ++ plain_rule (10000 + place) (inward ∷ []) (IpfwAct.Nat (place + 1)) ∷ allowing (10000 + place) (inward ∷ []) ∷ []) }
+    ensures { OnOk result (rules.new ≡ rules.old ++ destination_pair place) }
 {
     let number = DESTINATIONS + place;
     rules.put(plain_rule(
@@ -189,7 +189,7 @@ fn put_source(
 ) -> Result<(), Memory>
     requires few_destinations { destinations ≤ 4096 }
     requires few_sources { place ≤ 60000 }
-    ensures { OnOk result (rules.new ≡ rules.old ++ plain_rule 60000 (outwards ∷ tagged_with (place + 2) ∷ []) (IpfwAct.Nat (destinations + place + 1)) ∷ []) }
+    ensures { OnOk result (rules.new ≡ rules.old ++ source_rule destinations place ∷ []) }
 {
     let cond = leaving_with(alloc, place + 2)?;
     rules.put(plain_rule(SOURCES, cond, IpfwAct::Nat(destinations + place + 1)))?;

@@ -4,5 +4,6 @@ pub mod Leaves
 pub mod Lists
 pub mod Literals
 pub mod Pieces
+pub mod Plans
 pub mod TagEquality
 pub mod Turns

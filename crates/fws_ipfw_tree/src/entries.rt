@@ -1,8 +1,9 @@
 //! The turns of a cut of the entry.
 
-ghost use Rattle.std.specs.Prelude.{◌≡◌, ◌+◌, ◌<◌, ◌≤◌, ◌++◌, true, List, take, drop, length, IfOk, OnOk};
+ghost use Rattle.std.specs.Prelude.{◌+◌, ◌<◌, ◌≤◌, length, IfOk, OnOk};
 ghost use Rattle.fws_ipfw_tree.specs.Turns.{AreEntries, AreKidTurns, AreTurns};
 ghost use Rattle.fws_ipfw_tree.specs.declared.turn.Turn.{Turn};
+ghost use Rattle.fws_print.specs.Appended.{Appends};
 
 use crate::turn::Turn;
 use crate::turns::put_literals;
@@ -32,7 +33,7 @@ fn entries(alloc: Global, top: u32, set: &Ivs) -> Result<Items<Lit>, Memory>
 // Appends the turns to the nodes of kids for packets that their entries receive.
 fn put_kids(alloc: Global, turns: &mut Items<Turn>, top: u32, kids: &[Kid]) -> Result<(), Memory>
     requires { top ≤ 65535 }
-    ensures { OnOk result ((block : List Turn) × (turns.new ≡ turns.old ++ block) × AreKidTurns (AreEntries top) kids.now block) }
+    ensures { OnOk result (Appends turns.old turns.new (AreKidTurns (AreEntries top) kids.now)) }
 {
     for kid in kids {
         let lits = entries(alloc, top, &kid.set)?;

@@ -1,9 +1,11 @@
 //! The rules of nodes.
 
-ghost use Rattle.std.specs.Prelude.{◌≡◌, ◌<◌, ◌++◌, ◌∷◌, [], List, length, IfOk, OnOk};
+ghost use Rattle.std.specs.Prelude.{◌≡◌, ◌<◌, [], length, OnOk};
 ghost use Rattle.fws_ipfw.specs.declared.config.IpfwRule.{IpfwRule};
-ghost use Rattle.fws_ipfw_tree.specs.Blocks.{AreNodeRules, IsGoodCond, IsPlanned};
+ghost use Rattle.fws_ipfw_tree.specs.Blocks.{IsGoodCond};
 ghost use Rattle.fws_ipfw_tree.specs.Lists.{act_of, tag_for, tag_of, rule_of};
+ghost use Rattle.fws_print.specs.Appended.{Appends};
+ghost use Rattle.fws_ipfw_tree.specs.Plans.{AreRulesOfNode, IsKnown};
 
 use crate::choice::Choice;
 use crate::literals::narrowed;
@@ -73,10 +75,10 @@ pub(crate) fn put_node(
     at: usize,
     cond: &Cond,
 ) -> Result<(), Memory>
-    requires planned { IsPlanned plan.now.site.now plan.now.tree.now.0 plan.now.tree.now.1 plan.now.section.now plan.now.leaves.now plan.now.nodes.now }
+    requires planned { IsKnown plan.now }
     requires inside { at < length plan.now.nodes.now }
     requires good { IsGoodCond plan.now.site.now plan.now.section.now.seen plan.now.nodes.now at cond.now }
-    ensures { OnOk result ((block : List IpfwRule) × (rules.new ≡ rules.old ++ block) × AreNodeRules plan.now.site.now plan.now.tree.now.0 plan.now.section.now plan.now.tree.now.1 plan.now.leaves.now plan.now.nodes.now at cond.now block) }
+    ensures { OnOk result (Appends rules.old rules.new (AreRulesOfNode plan.now at cond.now)) }
 {
     leaf_nodes_are_leaves::<Choice>();
     cut_nodes_part_values::<Choice>();

@@ -1,14 +1,16 @@
 //! A decision tree as a list of rules.
 
-ghost use Rattle.std.specs.Prelude.{◌≡◌, ◌≢◌, ◌<◌, ◌≤◌, ◌-◌, ◌++◌, ◌∷◌, [], List, Some, length, slice_get, OnOk};
+ghost use Rattle.std.specs.Prelude.{◌≡◌, ◌<◌, ◌≤◌, ◌-◌, ◌∷◌, [], Some, length, slice_get, OnOk};
 ghost use Rattle.fws_ipfw.specs.declared.config.IpfwRule.{IpfwRule};
 ghost use Rattle.fws_net.specs.Points.{tops_of};
 ghost use Rattle.fws_net.specs.Routes.{IsSound};
 ghost use Rattle.fws_sight.specs.Shown.{IsTold};
 ghost use Rattle.fws_tree.specs.declared.node.Node.{Node};
-ghost use Rattle.fws_ipfw_tree.specs.Blocks.{AreRootTurns, AreTurnRules, IsPlanned, KeepsEntry};
+ghost use Rattle.fws_ipfw_tree.specs.Blocks.{KeepsEntry};
 ghost use Rattle.fws_ipfw_tree.specs.Lists.{FitsAt, IsList};
 ghost use Rattle.fws_ipfw_tree.specs.Literals.{direction};
+ghost use Rattle.fws_print.specs.Appended.{Appends};
+ghost use Rattle.fws_ipfw_tree.specs.Plans.{AreFirstTurns, AreRulesOfTurns, IsKnown, IsListOf};
 
 use crate::choice::{Choice, Section};
 use crate::literals::{narrowed, on_pass};
@@ -34,9 +36,9 @@ fn put_turns(
     cond: &Cond,
 ) -> Result<(), Memory>
     requires direction { cond.now ≡ direction plan.now.section.now.outward ∷ [] }
-    requires planned { IsPlanned plan.now.site.now plan.now.tree.now.0 plan.now.tree.now.1 plan.now.section.now plan.now.leaves.now plan.now.nodes.now }
-    requires turns { AreRootTurns plan.now.site.now plan.now.tree.now.0 plan.now.section.now plan.now.tree.now.1 plan.now.leaves.now plan.now.nodes.now turns.now }
-    ensures { OnOk result ((block : List IpfwRule) × (rules.new ≡ rules.old ++ block) × AreTurnRules plan.now.site.now plan.now.tree.now.0 plan.now.section.now plan.now.tree.now.1 plan.now.leaves.now plan.now.nodes.now cond.now turns.now block) }
+    requires planned { IsKnown plan.now }
+    requires turns { AreFirstTurns plan.now turns.now }
+    ensures { OnOk result (Appends rules.old rules.new (AreRulesOfTurns plan.now cond.now turns.now)) }
 {
     for turn in turns {
         let next = narrowed(alloc, cond, &turn.lit)?;
@@ -54,9 +56,9 @@ fn put_by_entry(
 ) -> Result<(), Memory>
     requires sound { IsSound plan.now.site.now }
     requires told { IsTold plan.now.section.now.seen plan.now.tree.now.0 plan.now.tree.now.1 }
-    requires planned { IsPlanned plan.now.site.now plan.now.tree.now.0 plan.now.tree.now.1 plan.now.section.now plan.now.leaves.now plan.now.nodes.now }
+    requires planned { IsKnown plan.now }
     requires cut { slice_get plan.now.nodes.now (length plan.now.nodes.now - 1) ≡ Some (Node.Cut 0 kids.now) }
-    ensures { OnOk result ((block : List IpfwRule) × (rules.new ≡ rules.old ++ block) × IsList plan.now.site.now plan.now.tree.now.0 plan.now.section.now plan.now.tree.now.1 block) }
+    ensures { OnOk result (Appends rules.old rules.new (IsListOf plan.now)) }
 {
     reached_values_are_told::<Choice>();
     seen_points_are_topped();
@@ -69,9 +71,9 @@ fn put_by_entry(
 // Appends the list of a tree that doesn't cut the entry.
 fn put_whole(alloc: Global, rules: &mut Items<IpfwRule>, plan: &Plan<'_>) -> Result<(), Memory>
     requires told { IsTold plan.now.section.now.seen plan.now.tree.now.0 plan.now.tree.now.1 }
-    requires planned { IsPlanned plan.now.site.now plan.now.tree.now.0 plan.now.tree.now.1 plan.now.section.now plan.now.leaves.now plan.now.nodes.now }
+    requires planned { IsKnown plan.now }
     requires keeps { (node : Node) → slice_get plan.now.nodes.now (length plan.now.nodes.now - 1) ≡ Some node → KeepsEntry node }
-    ensures { OnOk result ((block : List IpfwRule) × (rules.new ≡ rules.old ++ block) × IsList plan.now.site.now plan.now.tree.now.0 plan.now.section.now plan.now.tree.now.1 block) }
+    ensures { OnOk result (Appends rules.old rules.new (IsListOf plan.now)) }
 {
     reached_values_are_told::<Choice>();
     seen_points_are_topped();
@@ -86,8 +88,8 @@ fn put_whole(alloc: Global, rules: &mut Items<IpfwRule>, plan: &Plan<'_>) -> Res
 fn put_planned(alloc: Global, rules: &mut Items<IpfwRule>, plan: &Plan<'_>) -> Result<(), Memory>
     requires sound { IsSound plan.now.site.now }
     requires told { IsTold plan.now.section.now.seen plan.now.tree.now.0 plan.now.tree.now.1 }
-    requires planned { IsPlanned plan.now.site.now plan.now.tree.now.0 plan.now.tree.now.1 plan.now.section.now plan.now.leaves.now plan.now.nodes.now }
-    ensures { OnOk result ((block : List IpfwRule) × (rules.new ≡ rules.old ++ block) × IsList plan.now.site.now plan.now.tree.now.0 plan.now.section.now plan.now.tree.now.1 block) }
+    requires planned { IsKnown plan.now }
+    ensures { OnOk result (Appends rules.old rules.new (IsListOf plan.now)) }
 {
     match &plan.nodes[plan.nodes.len() - 1] {
         Node::Leaf(_) => put_whole(alloc, rules, plan),
@@ -115,7 +117,7 @@ pub fn put_list(
     requires told { IsTold section.now.seen tree.now.0 tree.now.1 }
     requires fits { FitsAt tree.now.0 section.now.number tree.now.1 }
     requires number { (0 < section.now.number) × (section.now.number ≤ 65534) }
-    ensures { OnOk result ((block : List IpfwRule) × (rules.new ≡ rules.old ++ block) × IsList site.now tree.now.0 section.now tree.now.1 block) }
+    ensures { OnOk result (Appends rules.old rules.new (IsList site.now tree.now.0 section.now tree.now.1)) }
 {
     let shared = tree.shared();
     let plan = Plan {

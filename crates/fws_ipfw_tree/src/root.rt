@@ -1,13 +1,12 @@
 //! The turns of the root of a tree that cuts the entry.
 
-ghost use Rattle.std.specs.Prelude.{◌≡◌, ◌<◌, ◌≤◌, ◌-◌, ◌∷◌, [], None, Some, true, length, slice_get, IfOk};
+ghost use Rattle.std.specs.Prelude.{◌≡◌, ◌<◌, ◌≤◌, ◌-◌, [], None, Some, true, length, slice_get, IfOk};
 ghost use Rattle.std.specs.List.{list_any};
 ghost use Rattle.fws_iv.specs.Ivs.{has};
-ghost use Rattle.fws_net.specs.declared.site.Site.{Site};
 ghost use Rattle.fws_tree.specs.declared.node.Kid.{Kid};
 ghost use Rattle.fws_tree.specs.declared.node.Node.{Node};
-ghost use Rattle.fws_ipfw_tree.specs.Blocks.{AreRootTurns, IsPlanned};
 ghost use Rattle.fws_ipfw_tree.specs.declared.choice.Origin.{Origin};
+ghost use Rattle.fws_ipfw_tree.specs.Plans.{AreFirstTurns, IsKnown};
 
 use crate::choice::{Choice, Origin};
 use crate::entries::entry_turns;
@@ -34,10 +33,10 @@ fn host_kid(kids: &[Kid]) -> usize
 
 // The turn of the host's own packets.
 fn host_turns(alloc: Global, plan: &Plan<'_>, kids: &[Kid]) -> Result<Items<Turn>, Memory>
-    requires planned { IsPlanned plan.now.site.now plan.now.tree.now.0 plan.now.tree.now.1 plan.now.section.now plan.now.leaves.now plan.now.nodes.now }
+    requires planned { IsKnown plan.now }
     requires origin { plan.now.section.now.origin ≡ Origin.Host }
     requires cut { slice_get plan.now.nodes.now (length plan.now.nodes.now - 1) ≡ Some (Node.Cut 0 kids.now) }
-    ensures { IfOk result (λ turns. AreRootTurns plan.now.site.now plan.now.tree.now.0 plan.now.section.now plan.now.tree.now.1 plan.now.leaves.now plan.now.nodes.now turns) }
+    ensures { IfOk result (AreFirstTurns plan.now) }
 {
     cut_nodes_part_values::<Choice>();
     let mut turns = Items::new(alloc);
@@ -50,11 +49,11 @@ fn host_turns(alloc: Global, plan: &Plan<'_>, kids: &[Kid]) -> Result<Items<Turn
 
 // The turns of packets that arrive.
 fn arriving_turns(alloc: Global, plan: &Plan<'_>, kids: &[Kid]) -> Result<Items<Turn>, Memory>
-    requires planned { IsPlanned plan.now.site.now plan.now.tree.now.0 plan.now.tree.now.1 plan.now.section.now plan.now.leaves.now plan.now.nodes.now }
+    requires planned { IsKnown plan.now }
     requires few { length plan.now.site.now.faces ≤ 62 }
     requires origin { plan.now.section.now.origin ≡ Origin.Arriving }
     requires cut { slice_get plan.now.nodes.now (length plan.now.nodes.now - 1) ≡ Some (Node.Cut 0 kids.now) }
-    ensures { IfOk result (λ turns. AreRootTurns plan.now.site.now plan.now.tree.now.0 plan.now.section.now plan.now.tree.now.1 plan.now.leaves.now plan.now.nodes.now turns) }
+    ensures { IfOk result (AreFirstTurns plan.now) }
 {
     cut_nodes_part_values::<Choice>();
     entry_turns(alloc, plan.site.faces.len() as u32 + 1, kids)
@@ -66,10 +65,10 @@ pub(crate) fn root_turns(
     plan: &Plan<'_>,
     kids: &[Kid],
 ) -> Result<Items<Turn>, Memory>
-    requires planned { IsPlanned plan.now.site.now plan.now.tree.now.0 plan.now.tree.now.1 plan.now.section.now plan.now.leaves.now plan.now.nodes.now }
+    requires planned { IsKnown plan.now }
     requires few { length plan.now.site.now.faces ≤ 62 }
     requires cut { slice_get plan.now.nodes.now (length plan.now.nodes.now - 1) ≡ Some (Node.Cut 0 kids.now) }
-    ensures { IfOk result (λ turns. AreRootTurns plan.now.site.now plan.now.tree.now.0 plan.now.section.now plan.now.tree.now.1 plan.now.leaves.now plan.now.nodes.now turns) }
+    ensures { IfOk result (AreFirstTurns plan.now) }
 {
     match plan.section.origin {
         Origin::Host => host_turns(alloc, plan, kids),

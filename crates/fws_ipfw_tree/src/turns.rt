@@ -1,11 +1,12 @@
 //! The turns of a cut.
 
-ghost use Rattle.std.specs.Prelude.{◌≡◌, ◌+◌, ◌<◌, [], ◌++◌, Some, List, take, drop, length, All, IfOk, OnOk, MatchOption};
+ghost use Rattle.std.specs.Prelude.{◌≡◌, ◌+◌, ◌<◌, [], ◌++◌, Some, take, drop, length, All, IfOk, OnOk, MatchOption};
 ghost use Rattle.fws_ipfw_tree.specs.Pieces.{ArePieces, IsProper};
 ghost use Rattle.fws_ipfw_tree.specs.Turns.{turns_for, AreCutTurns, AreKidTurns};
 ghost use Rattle.fws_ipfw_tree.specs.declared.turn.Turn.{Turn};
 ghost use Rattle.fws_sight.specs.Shown.{seen_field};
 ghost use Rattle.fws_sight.specs.declared.field.PacketField.{PacketField};
+ghost use Rattle.fws_print.specs.Appended.{Appends};
 
 use crate::default::default_kid;
 use crate::pieces::pieces;
@@ -41,7 +42,7 @@ fn put_kids(
     kids: &[Kid],
 ) -> Result<(), Memory>
     requires { All (λ kid. IsProper field kid.set) kids.now }
-    ensures { OnOk result ((block : List Turn) × (turns.new ≡ turns.old ++ block) × AreKidTurns (ArePieces field) kids.now block) }
+    ensures { OnOk result (Appends turns.old turns.new (AreKidTurns (ArePieces field) kids.now)) }
 {
     for kid in kids {
         let lits = pieces(alloc, field, &kid.set)?;

@@ -1,5 +1,5 @@
 -- The built-in chains of the tables.
-use Rattle.std.specs.Prelude.{Bool, true, false, Some, List, [], ◌∷◌}
+use Rattle.std.specs.Prelude.{Bool, true, false, Some, List, [], ◌∷◌, ℕ, ◌+◌, slice_set}
 use Rattle.fws_ipt.specs.declared.config.IptChain.{IptChain}
 use Rattle.fws_ipt.specs.declared.config.IptRule.{IptRule}
 use Rattle.fws_ipt.specs.declared.config.IptTable.{IptTable}
@@ -29,3 +29,13 @@ nat_chains marks =
 abbrev pub filter_chains : List IptRule → List IptRule → List IptRule → List IptChain
 filter_chains delivering forwarding sending =
     builtin Filter Input true delivering ∷ builtin Filter Forward true forwarding ∷ builtin Filter Output true sending ∷ []
+
+-- chains with these rules in the built-in ones of mangle, and in those of filter, which stand from a place on
+abbrev pub with_mangle : List IptChain → List IptRule → List IptRule → List IptChain
+with_mangle chains arriving sending =
+    slice_set (slice_set chains 0 (builtin Mangle Prerouting false arriving)) 3 (builtin Mangle Output false sending)
+
+abbrev pub with_filter : List IptChain → ℕ → List IptRule → List IptRule → List IptRule → List IptChain
+with_filter chains at delivering forwarding sent =
+    slice_set (slice_set (slice_set chains at (builtin Filter Input true delivering)) (at + 1) (builtin Filter Forward true forwarding))
+    (at + 2) (builtin Filter Output true sent)

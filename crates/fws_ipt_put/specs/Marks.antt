@@ -82,8 +82,10 @@ pub record IsMarkOf (tops : List ℕ) (t : Plain Outcome) (mark : Mark) : Type 0
   pub udp : (p : List ℕ) → IsWithin tops p → value t p ≡ Some (Accept mark.rewrite) → value_of p fields.Proto ≡ 17 → mark.udp ≡ true
   pub arrives : (p : List ℕ) → IsWithin tops p → value t p ≡ Some (Accept mark.rewrite) → value_of p fields.Entry ≢ 0 → mark.arrives ≡ true
   pub sends : (p : List ℕ) → IsWithin tops p → value t p ≡ Some (Accept mark.rewrite) → value_of p fields.Entry ≡ 0 → mark.sends ≡ true
-  pub dst : (p : List ℕ) → IsWithin tops p → value t p ≡ Some (Accept mark.rewrite) → is_network mark.rewrite.dst ≡ true → some_prefix_has mark.dst_blocks (value_of p fields.Dst) ≡ true
-  pub src : (p : List ℕ) → IsWithin tops p → value t p ≡ Some (Accept mark.rewrite) → is_network mark.rewrite.src ≡ true → some_prefix_has mark.src_blocks (value_of p fields.Src) ≡ true
+  pub dst : (p : List ℕ) → IsWithin tops p → value t p ≡ Some (Accept mark.rewrite) → is_network mark.rewrite.dst ≡ true
+      → some_prefix_has mark.dst_blocks (value_of p fields.Dst) ≡ true
+  pub src : (p : List ℕ) → IsWithin tops p → value t p ≡ Some (Accept mark.rewrite) → is_network mark.rewrite.src ≡ true
+      → some_prefix_has mark.src_blocks (value_of p fields.Src) ≡ true
   pub dst_blocks : AreBlocks mark.rewrite.dst mark.dst_blocks
   pub src_blocks : AreBlocks mark.rewrite.src mark.src_blocks
   pub dst_sound : All IsBlock mark.dst_blocks

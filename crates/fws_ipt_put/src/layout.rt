@@ -1,10 +1,10 @@
 //! The chains of a policy with all their rules.
 
-ghost use Rattle.std.specs.Prelude.{◌≡◌, ◌+◌, ◌<◌, ◌≤◌, ◌^◌, true, false, [], ◌∷◌, ◌++◌, length, slice_set, IfOk, OnOk, All};
+ghost use Rattle.std.specs.Prelude.{◌≡◌, ◌+◌, ◌<◌, ◌≤◌, ◌^◌, true, false, [], ◌++◌, length, slice_set, IfOk};
 ghost use Rattle.fws_net.specs.Routes.{IsSound};
 ghost use Rattle.fws_ipt.specs.declared.config.IptTable.TheVariants as tables;
 ghost use Rattle.fws_ipt.specs.declared.hook.Hook.TheVariants as hooks;
-ghost use Rattle.fws_ipt_put.specs.Builtin.{builtin};
+ghost use Rattle.fws_ipt_put.specs.Builtin.{builtin, with_filter, with_mangle};
 ghost use Rattle.fws_ipt_put.specs.Drafts.{AreRules, IsFilled};
 ghost use Rattle.fws_ipt_put.specs.Roots.{AreArriving, AreEntering, sending_rules};
 
@@ -125,7 +125,7 @@ fn with_mangle(
     sending: Items<IptRule>,
 ) -> Result<Items<IptChain>, Memory>
     requires { 3 < length chains }
-    ensures { IfOk result (λ all. all ≡ slice_set (slice_set chains 0 (builtin tables.Mangle hooks.Prerouting false arriving)) 3 (builtin tables.Mangle hooks.Output false sending)) }
+    ensures { IfOk result (λ all. all ≡ with_mangle chains arriving sending) }
 {
     let prerouting = builtin(alloc, IptTable::Mangle, Hook::Prerouting, false, arriving)?;
     let output = builtin(alloc, IptTable::Mangle, Hook::Output, false, sending)?;
@@ -144,7 +144,7 @@ fn with_filter(
 ) -> Result<Items<IptChain>, Memory>
     requires room { at < 2 ^ 32 }
     requires there { at + 2 < length chains }
-    ensures { IfOk result (λ all. all ≡ slice_set (slice_set (slice_set chains at (builtin tables.Filter hooks.Input true delivering)) (at + 1) (builtin tables.Filter hooks.Forward true forwarding)) (at + 2) (builtin tables.Filter hooks.Output true sent)) }
+    ensures { IfOk result (λ all. all ≡ with_filter chains at delivering forwarding sent) }
 {
     let input = builtin(alloc, IptTable::Filter, Hook::Input, true, delivering)?;
     let forward = builtin(alloc, IptTable::Filter, Hook::Forward, true, forwarding)?;

@@ -59,7 +59,8 @@ port_cond field proto set = proto_lit proto ∷ lit_of (set_test field set) ∷ 
 
 -- conditions for the members below a number; they are printed
 pub record AreValuesBelow (field : PacketField) (set : List Iv) (n : ℕ) (conds : List (List Lit)) : Type 0 where
-  pub hit : (v : View) → list_any (λ cond. holds cond v) conds ≡ (suits field v.packet.proto && (nat_lt (value_of field v.packet) n && has set (value_of field v.packet)))
+  pub hit : (v : View)
+      → list_any (λ cond. holds cond v) conds ≡ (suits field v.packet.proto && (nat_lt (value_of field v.packet) n && has set (value_of field v.packet)))
   pub printed : (site : Site) (shown : Bool) → list_all (is_printed_cond site shown) conds ≡ true
 
 -- lists of ports that together have the members of the set

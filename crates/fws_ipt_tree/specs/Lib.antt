@@ -5,5 +5,6 @@ pub mod Comings
 pub mod Conds
 pub mod Pieces
 pub mod Planned
+pub mod Plans
 pub mod Reached
 pub mod Rules

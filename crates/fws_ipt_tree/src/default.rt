@@ -7,6 +7,7 @@ ghost use Rattle.fws_tree.specs.declared.node.Kid.{Kid};
 ghost use Rattle.fws_sight.specs.declared.field.PacketField.{PacketField};
 ghost use Rattle.fws_sight.specs.Fields.{top_of};
 ghost use Rattle.fws_ipt_tree.specs.Pieces.{unspelled};
+ghost use Rattle.fws_ipt_tree.specs.Plans.{HoldsUnspelled};
 
 use crate::port_lists::port_lists;
 use fws_iv::{Ivs, cubes};
@@ -81,7 +82,7 @@ pub(crate) fn default_kid(
     requires some { 0 < length kids.now }
     requires below { (f : PacketField) → field ≡ Some f → All (λ kid. (v : ℕ) → has kid.set v ≡ true → v ≤ top_of f) kids.now }
     ensures within { IfOk result (λ at. at < length kids.now) }
-    ensures holds { IfOk result (λ at. (v : ℕ) → option_and_then unspelled field ≡ Some v → list_any (λ kid. has kid.set v) kids.now ≡ true → (kid : Kid) → slice_get kids.now at ≡ Some kid → has kid.set v ≡ true) }
+    ensures holds { IfOk result (HoldsUnspelled field kids.now) }
 {
     match (unspelled_value(field), field) {
         (Some(v), _) => Ok(kid_with(kids, v)),

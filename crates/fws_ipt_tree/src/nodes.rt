@@ -1,14 +1,15 @@
 //! The acts of the nodes of a tree, and the chains that they enter.
 
-ghost use Rattle.std.specs.Prelude.{◌≡◌, ◌≢◌, ◌≤◌, ◌<◌, ◌+◌, true, length, All, IfOk, OnOk};
+ghost use Rattle.std.specs.Prelude.{◌≡◌, ◌≢◌, ◌≤◌, ◌<◌, true, length, IfOk, OnOk};
 ghost use Rattle.fws_ipt.specs.declared.config.IptTable.{IptTable};
 ghost use Rattle.fws_net.specs.Points.{tops_of};
 ghost use Rattle.fws_tree.specs.Shared.{IsShared};
 ghost use Rattle.fws_ipt_print.specs.Printable.{is_chain_name};
-ghost use Rattle.fws_ipt_tree.specs.Acts.{leaf_act, AreActs, IsCutPut, IsFit, IsFitCut, IsNodePut};
+ghost use Rattle.fws_ipt_tree.specs.Acts.{leaf_act, IsCutPut, IsFit, IsFitCut, IsNodePut};
 ghost use Rattle.fws_ipt_tree.specs.Blocks.{IsBlock};
 ghost use Rattle.fws_ipt_tree.specs.Branches.{HasMarkChains};
 ghost use Rattle.fws_ipt_tree.specs.Comings.{AreComings};
+ghost use Rattle.fws_ipt_tree.specs.Plans.{AreActsFor};
 
 use crate::coming::Coming;
 use crate::names::chain_name;
@@ -108,7 +109,7 @@ pub(crate) fn put_nodes(
     requires count { count ≤ length nodes.now }
     ensures count { IfOk result (λ acts. length acts.items ≡ count) }
     ensures block { OnOk result (IsBlock plan.now.site.now plan.now.table chains.old chains.new) }
-    ensures acts { IfOk result (λ acts. AreActs plan.now.site.now plan.now.seen plan.now.table plan.now.least (length chains.old) chains.new comings.now leaves.now nodes.now acts.items) }
+    ensures acts { IfOk result (λ acts. AreActsFor plan.now (length chains.old) chains.new comings.now leaves.now nodes.now acts.items) }
 {
     seen_fields_agree();
     unseen_fields_are_open();

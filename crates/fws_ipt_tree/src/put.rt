@@ -10,7 +10,8 @@ ghost use Rattle.fws_sight.specs.Shown.{IsTold};
 ghost use Rattle.fws_ipt_tree.specs.Acts.{branch_of};
 ghost use Rattle.fws_ipt_tree.specs.Blocks.{IsBlock, IsPrintedAct};
 ghost use Rattle.fws_ipt_tree.specs.Branches.{HasMarkChains, Leads, PartEntries};
-ghost use Rattle.fws_ipt_tree.specs.Planned.{ArePut, IsPlanned, KeepsEntry};
+ghost use Rattle.fws_ipt_tree.specs.Planned.{KeepsEntry};
+ghost use Rattle.fws_ipt_tree.specs.Plans.{ArePutFor, IsKnown};
 
 use crate::coming::comings;
 use crate::nodes::put_nodes;
@@ -63,9 +64,9 @@ fn put_by_entry(
     nodes: &[Node],
     kids: &[Kid],
 ) -> Result<Items<Branch>, Memory>
-    requires planned { IsPlanned plan.now.site.now plan.now.tree.now.0 plan.now.tree.now.1 plan.now.table plan.now.front.now plan.now.seen plan.now.least chains.old leaves.now nodes.now }
+    requires planned { IsKnown plan.now chains.old leaves.now nodes.now }
     requires cut { slice_get nodes.now (length nodes.now - 1) ≡ Some (Node.Cut 0 kids.now) }
-    ensures { IfOk result (λ branches. ArePut plan.now.site.now plan.now.tree.now.0 plan.now.tree.now.1 plan.now.table plan.now.seen plan.now.least chains.old chains.new branches) }
+    ensures { IfOk result (ArePutFor plan.now chains.old chains.new) }
 {
     reached_values_are_told::<Verdict>();
     seen_points_are_topped();
@@ -85,9 +86,9 @@ fn put_whole(
     leaves: &[Verdict],
     nodes: &[Node],
 ) -> Result<Items<Branch>, Memory>
-    requires planned { IsPlanned plan.now.site.now plan.now.tree.now.0 plan.now.tree.now.1 plan.now.table plan.now.front.now plan.now.seen plan.now.least chains.old leaves.now nodes.now }
+    requires planned { IsKnown plan.now chains.old leaves.now nodes.now }
     requires keeps { (node : Node) → slice_get nodes.now (length nodes.now - 1) ≡ Some node → KeepsEntry node }
-    ensures { IfOk result (λ branches. ArePut plan.now.site.now plan.now.tree.now.0 plan.now.tree.now.1 plan.now.table plan.now.seen plan.now.least chains.old chains.new branches) }
+    ensures { IfOk result (ArePutFor plan.now chains.old chains.new) }
 {
     reached_values_are_told::<Verdict>();
     seen_points_are_topped();
@@ -108,8 +109,8 @@ fn put_planned(
     leaves: &[Verdict],
     nodes: &[Node],
 ) -> Result<Items<Branch>, Memory>
-    requires planned { IsPlanned plan.now.site.now plan.now.tree.now.0 plan.now.tree.now.1 plan.now.table plan.now.front.now plan.now.seen plan.now.least chains.old leaves.now nodes.now }
-    ensures { IfOk result (λ branches. ArePut plan.now.site.now plan.now.tree.now.0 plan.now.tree.now.1 plan.now.table plan.now.seen plan.now.least chains.old chains.new branches) }
+    requires planned { IsKnown plan.now chains.old leaves.now nodes.now }
+    ensures { IfOk result (ArePutFor plan.now chains.old chains.new) }
 {
     match &nodes[nodes.len() - 1] {
         Node::Leaf(_) => put_whole(alloc, chains, plan, leaves, nodes),

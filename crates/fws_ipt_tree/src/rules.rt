@@ -1,6 +1,6 @@
 //! The rules of the chain of a node.
 
-ghost use Rattle.std.specs.Prelude.{◌≡◌, ◌+◌, ◌<◌, [], ◌++◌, Some, List, take, drop, length, map, All, IfOk, OnOk, MatchOption};
+ghost use Rattle.std.specs.Prelude.{◌≡◌, ◌+◌, ◌<◌, [], ◌++◌, Some, take, drop, length, All, IfOk, OnOk};
 ghost use Rattle.fws_ipt.specs.declared.config.IptRule.{IptRule};
 ghost use Rattle.fws_tree.specs.declared.node.Kid.{Kid};
 ghost use Rattle.fws_sight.specs.declared.field.PacketField.{PacketField};
@@ -9,6 +9,8 @@ ghost use Rattle.fws_sight.specs.Fields.{top_of};
 ghost use Rattle.fws_sight.specs.Shown.{seen_field};
 ghost use Rattle.fws_ipt_tree.specs.Pieces.{IsSpelled};
 ghost use Rattle.fws_ipt_tree.specs.Rules.{rules_of, AreKidRules, AreCutRules};
+ghost use Rattle.fws_print.specs.Appended.{Appends};
+ghost use Rattle.fws_ipt_tree.specs.Plans.{AreOtherRules, AreSpelledBut};
 
 use crate::coming::Coming;
 use crate::default::default_kid;
@@ -41,7 +43,7 @@ fn put_kids(
 ) -> Result<(), Memory>
     requires spelled { All (λ kid. IsSpelled field kid.set) kids.now }
     requires known { All (λ kid. kid.node < length acts.now) kids.now }
-    ensures { OnOk result ((block : List IptRule) × (rules.new ≡ rules.old ++ block) × AreKidRules coming field acts.now kids.now block) }
+    ensures { OnOk result (Appends rules.old rules.new (AreKidRules coming field acts.now kids.now)) }
 {
     for kid in kids {
         let conds = pieces(alloc, field, coming, &kid.set)?;
@@ -81,9 +83,9 @@ fn tests(
     acts: &[IptGo],
 ) -> Result<Items<IptRule>, Memory>
     requires within { at < length kids.now }
-    requires spelled { (f : PacketField) → field ≡ Some f → All (λ kid. IsSpelled f kid.set) (take at kids.now) × All (λ kid. IsSpelled f kid.set) (drop (at + 1) kids.now) }
+    requires spelled { AreSpelledBut field at kids.now }
     requires known { All (λ kid. kid.node < length acts.now) kids.now }
-    ensures { IfOk result (λ rules. MatchOption field (rules ≡ []) (λ f. AreKidRules coming f acts.now (take at kids.now ++ drop (at + 1) kids.now) rules)) }
+    ensures { IfOk result (AreOtherRules coming field acts.now at kids.now) }
 {
     match field {
         Some(f) => other_rules(alloc, f, coming, kids, at, acts),

@@ -24,7 +24,7 @@ use Rattle.fws_sight.specs.Shown.{has_field, shown}
 use Rattle.fws_sight.specs.SightLaws.{ReachedValuesAreTold}
 use Rattle.fws_pf_list.specs.declared.ends.Ends.{Ends}
 use Rattle.fws_pf_list.specs.declared.ends.Ends.TheVariants.{Nothing, One, Many}
-use Rattle.fws_pf_list.specs.Blocks.{below, CutsFrom, GetsNoEnd, IsCome, IsFine, IsPlanned, Scene}
+use Rattle.fws_pf_list.specs.Scenes.{below, CutsFrom, GetsNoEnd, IsCome, IsFine, IsPlanned, Scene}
 use Rattle.fws_pf_list.specs.Ends.{IsAccepted, IsRoot, Tells}
 use Rattle.fws_pf_list.specs.Translations.{end_of, AgreeBefore, IsMet}
 use Rattle.fws_pf_list.proofs.Fields.{point_of, point_seen, point_within}

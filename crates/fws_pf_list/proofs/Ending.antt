@@ -9,7 +9,8 @@ use Rattle.fws_sight.specs.declared.seen.Seen.TheVariants.{Entered}
 use Rattle.fws_sight.specs.Shown.{IsTold}
 use Rattle.fws_pf_list.specs.declared.side.Side.{Side}
 use Rattle.fws_pf_list.specs.declared.side.Side.TheVariants.{Entry, Proto, Dst, Dport, Src, Sport}
-use Rattle.fws_pf_list.specs.Blocks.{IsPathTo, IsPlanned, Scene}
+use Rattle.fws_pf_list.specs.Scenes.{IsPlanned, Scene}
+use Rattle.fws_pf_list.specs.Turns.{IsPathTo}
 use Rattle.fws_pf_list.specs.Ends.{AreEnds}
 use Rattle.fws_pf_list.specs.Paths.{no_parts, part_of, IsGoodPath}
 use Rattle.fws_pf_list.specs.Starts.{IsStart}

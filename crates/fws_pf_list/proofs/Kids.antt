@@ -6,7 +6,7 @@ use Rattle.std.specs.Prelude.{slice_index, All}
 use Rattle.fws_iv.specs.Ivs.{has}
 use Rattle.fws_tree.specs.declared.node.Kid.{Kid}
 use Rattle.fws_sight.specs.Cuts.{IsCutNode}
-use Rattle.fws_pf_list.specs.Blocks.{IsPlanned, Scene}
+use Rattle.fws_pf_list.specs.Scenes.{IsPlanned, Scene}
 use Rattle.fws_pf_list.proofs.Points.{kid_all, kid_before}
 
 -- what holds of each kid by its place

@@ -17,7 +17,7 @@ use Rattle.fws_sight.specs.Reached.{IsOpen, Reaches, ReachesKid}
 use Rattle.fws_sight.specs.Shown.{has_field, shown}
 use Rattle.fws_pf_list.specs.declared.ends.Ends.TheVariants.{One}
 use Rattle.fws_pf_list.specs.declared.path.Path.{Path}
-use Rattle.fws_pf_list.specs.Blocks.{below, CutsFrom, GetsNoEnd, IsCome, IsFine, IsPlanned, Scene}
+use Rattle.fws_pf_list.specs.Scenes.{below, CutsFrom, GetsNoEnd, IsCome, IsFine, IsPlanned, Scene}
 use Rattle.fws_pf_list.specs.Ends.{IsAccepted, Tells}
 use Rattle.fws_pf_list.specs.Paths.{nat_of}
 use Rattle.fws_pf_list.specs.Translations.{IsAfter, IsLed, KeepsEntry}

@@ -21,7 +21,9 @@ use Rattle.fws_pf_list.specs.declared.ends.Ends.TheVariants.{One, Many}
 use Rattle.fws_pf_list.specs.declared.path.Path.{Path}
 use Rattle.fws_pf_list.specs.declared.side.Side.TheVariants.{Entry, Proto, Dst, Dport, Src, Sport}
 use Rattle.fws_pf_list.specs.declared.turn.Turn.{Turn}
-use Rattle.fws_pf_list.specs.Blocks.{are_printed, below, root_nats, some_turn_has, AreNodeRules, AreTurnRules, AreTurns, CutsFrom, GetsNoEnd, IsCome, IsFine, IsLedBy, IsPassed, IsPlanned, IsRootNode, Leads, Meets, Scene}
+use Rattle.fws_pf_list.specs.Scenes.{below, CutsFrom, GetsNoEnd, IsCome, IsFine, IsPlanned, IsRootNode, Meets, Scene}
+use Rattle.fws_pf_list.specs.Turns.{some_turn_has, AreTurnRules, AreTurns, Leads}
+use Rattle.fws_pf_list.specs.Blocks.{are_printed, root_nats, AreNodeRules, IsLedBy, IsPassed}
 use Rattle.fws_pf_list.specs.Ends.{IsAccepted, IsRoot, IsSettledAt, Tells}
 use Rattle.fws_pf_list.specs.Paths.{nat_of, no_parts, path_has, some_path_has, IsGoodPath}
 use Rattle.fws_pf_print.specs.Printable.{is_printed_translation}

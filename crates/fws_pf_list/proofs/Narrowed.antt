@@ -16,7 +16,8 @@ use Rattle.fws_pf.specs.Drawn.{is_port_protocol}
 use Rattle.fws_pf_list.specs.declared.path.Path.{Path}
 use Rattle.fws_pf_list.specs.declared.side.Side.{Side}
 use Rattle.fws_pf_list.specs.declared.side.Side.TheVariants.{Entry, Proto, Dst, Dport, Src, Sport}
-use Rattle.fws_pf_list.specs.Blocks.{ArePaths, IsFine, IsPlanned, Scene}
+use Rattle.fws_pf_list.specs.Scenes.{IsFine, IsPlanned, Scene}
+use Rattle.fws_pf_list.specs.Turns.{ArePaths}
 use Rattle.fws_pf_list.specs.Narrowing.{number_at, only, protocol_paths, range_paths, takes_protocol, AreNumberPaths, AreNumbers, AsksNumber}
 use Rattle.fws_pf_list.specs.Paths.{hits, number_of, part_has, part_of, path_has, protocol_of, some_path_has, test_of, with_part, IsGoodPath}
 use Rattle.fws_pf_print.specs.Printable.{is_printed_test}

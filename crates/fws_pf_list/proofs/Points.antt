@@ -14,7 +14,7 @@ use Rattle.fws_tree.specs.declared.node.Node.TheVariants.{Leaf, Cut}
 use Rattle.fws_tree.specs.Plain.{Plain, leaf, cut, Kids, kid_at, branch, value, value_from}
 use Rattle.fws_tree.specs.Shared.{IsShared, subtree_of}
 use Rattle.fws_sight.specs.Cuts.{kids_of, IsCutNode}
-use Rattle.fws_pf_list.specs.Blocks.{below, CutsFrom, Scene}
+use Rattle.fws_pf_list.specs.Scenes.{below, CutsFrom, Scene}
 use Rattle.fws_pf_list.specs.Ends.{HasLeaf, HasKidLeaf}
 use Rattle.fws_pf_list.proofs.Laws.{NodeLaws}
 

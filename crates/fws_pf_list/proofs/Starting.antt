@@ -12,7 +12,7 @@ use Rattle.fws_tree.specs.declared.node.Node.TheVariants.{Leaf, Cut}
 use Rattle.fws_tree.specs.Plain.{cut, Kids, kid_at, branch}
 use Rattle.fws_tree.specs.Shared.{IsShared, subtree_of}
 use Rattle.fws_sight.specs.Cuts.{kids_of, IsCutNode}
-use Rattle.fws_pf_list.specs.Blocks.{below, CutsFrom, Scene}
+use Rattle.fws_pf_list.specs.Scenes.{below, CutsFrom, Scene}
 use Rattle.fws_pf_list.specs.Starts.{IsHostKid, IsStart}
 use Rattle.fws_pf_list.proofs.Laws.{NodeLaws}
 use Rattle.fws_pf_list.proofs.Points.{at_node, branch_kept, kid_before, kid_cuts, node_cuts}

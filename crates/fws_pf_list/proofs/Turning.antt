@@ -28,7 +28,9 @@ use Rattle.fws_pf_list.specs.declared.side.Side.TheVariants.{Entry, Proto, Dst, 
 use Rattle.fws_pf_list.specs.declared.turn.Last.{Last}
 use Rattle.fws_pf_list.specs.declared.turn.Last.TheVariants.{Root, Kept, Nothing}
 use Rattle.fws_pf_list.specs.declared.turn.Turn.{Turn}
-use Rattle.fws_pf_list.specs.Blocks.{last_turns, passes_root, some_turn_has, turns_to, AreKidTests, ArePaths, AreTests, AreTurns, CutsFrom, GetsNoEnd, IsAddress, IsCome, IsFine, IsGoodTurn, IsKidNode, IsLast, IsLeft, IsPlanned, IsRootNode, IsTest, Leads, MayPass, Meets, Scene}
+use Rattle.fws_pf_list.specs.Scenes.{CutsFrom, GetsNoEnd, IsCome, IsFine, IsPlanned, IsRootNode, Meets, Scene}
+use Rattle.fws_pf_list.specs.Turns.{last_turns, passes_root, some_turn_has, turns_to, AreKidTests, ArePaths, AreTests, AreTurns, IsAddress, IsGoodTurn, IsKidNode, IsLast, IsLeft, IsTest, Leads}
+use Rattle.fws_pf_list.specs.Blocks.{MayPass}
 use Rattle.fws_pf_list.specs.Paths.{hits, number_of, path_has, some_path_has, IsGoodPath}
 use Rattle.fws_pf_list.specs.Translations.{IsMet}
 use Rattle.fws_pf_list.proofs.Coming.{come_kid, none_by}

@@ -9,6 +9,8 @@ use Rattle.fws_tree.specs.Shared.{subtree_of}
 use Rattle.fws_pf_list.specs.Translations.{end_of}
 use Rattle.fws_pf_list.specs.declared.ends.Ends.{Ends}
 use Rattle.fws_pf_list.specs.declared.ends.Ends.TheVariants.{Nothing, One, Many}
+use Rattle.fws_sight.specs.Cuts.{kids_of}
+use Rattle.fws_tree.specs.declared.node.Kid.{Kid}
 
 -- a leaf of the tree has the outcome
 abbrev mutual
@@ -64,3 +66,8 @@ IsRoot Nothing = Unit {0}
 IsRoot (One None) = Unit {0}
 IsRoot (One (Some e)) = ⊥
 IsRoot Many = ⊥
+
+-- the ends tell of kids what those of all nodes tell of their trees
+abbrev pub TellOfKids : List Ends → List Kid → Ends → Type 0
+TellOfKids ends kids all = (outward : Bool) (tree : ℕ → Plain Outcome)
+    → ((i : ℕ) (e : Ends) → slice_get ends i ≡ Some e → Tells outward (IsAccepted (tree i)) e) → Tells outward (IsKidAccepted (kids_of tree kids)) all

@@ -2,6 +2,9 @@ pub mod Blocks
 pub mod Ends
 pub mod Narrowing
 pub mod Paths
+pub mod Scenes
+pub mod Sheets
 pub mod Starts
 pub mod Translations
+pub mod Turns
 pub mod Writings

@@ -93,7 +93,8 @@ lits_of side (Some part) = record { not = false; test = test_of side (part ∷ [
 -- the condition that a packet is on a path
 abbrev pub cond_of : Path → List Lit
 cond_of path =
-    lits_of Entry path.entry ++ (lits_of Proto path.proto ++ (lits_of Src path.src ++ (lits_of Sport path.sport ++ (lits_of Dst path.dst ++ lits_of Dport path.dport))))
+    lits_of Entry path.entry
+    ++ (lits_of Proto path.proto ++ (lits_of Src path.src ++ (lits_of Sport path.sport ++ (lits_of Dst path.dst ++ lits_of Dport path.dport))))
 
 -- the translation of packets on a path, behind which they have the tag
 abbrev pub nat_of : Path → Option End → ℕ → PfNat

@@ -19,4 +19,5 @@ pub record IsStart (nodes : List Node) (outward : Bool) (n : ℕ) : Type 0 where
   pub whole : outward ≡ false → n ≡ length nodes - 1
   pub leaf : (k : ℕ) → slice_get nodes (length nodes - 1) ≡ Some (Leaf k) → n ≡ length nodes - 1
   pub later : (f : ℕ) (kids : List Kid) → slice_get nodes (length nodes - 1) ≡ Some (Cut f kids) → f ≢ 0 → n ≡ length nodes - 1
-  pub host : (kids : List Kid) → outward ≡ true → slice_get nodes (length nodes - 1) ≡ Some (Cut 0 kids) → list_any (λ kid. has kid.set 0) kids ≡ true → IsHostKid kids n
+  pub host : (kids : List Kid) → outward ≡ true → slice_get nodes (length nodes - 1) ≡ Some (Cut 0 kids) → list_any (λ kid. has kid.set 0) kids ≡ true
+      → IsHostKid kids n

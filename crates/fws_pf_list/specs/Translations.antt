@@ -62,7 +62,8 @@ WritesOneEnd outward tops t =
 -- on the out pass no port is written
 abbrev pub KeepsPortsOutward : Bool → List ℕ → Plain Outcome → Type 0
 KeepsPortsOutward outward tops t =
-    outward ≡ true → (p : List ℕ) (w : Rewrite) → IsWithin tops p → value_of p fields.Entry ≡ 0 → value t p ≡ Some (Accept w) → IfSome w.src (λ e. e.port ≡ None)
+    outward ≡ true → (p : List ℕ) (w : Rewrite) → IsWithin tops p → value_of p fields.Entry ≡ 0 → value t p ≡ Some (Accept w)
+    → IfSome w.src (λ e. e.port ≡ None)
 
 -- Translations
 

@@ -1,8 +1,10 @@
 //! What becomes of all that no test of a cut takes.
 
-ghost use Rattle.std.specs.Prelude.{◌≡◌, ◌↔◌, ◌<◌, IsTrue, length, All, IfSome, slice_get};
-ghost use Rattle.fws_pf_list.specs.Blocks.{passes_root, scene, IsKidNode, IsLast, IsLeft, IsRootNode};
+ghost use Rattle.std.specs.Prelude.{◌≡◌, ◌<◌, IsTrue, length, All, IfSome};
+ghost use Rattle.fws_pf_list.specs.Scenes.{IsRootNode};
+ghost use Rattle.fws_pf_list.specs.Turns.{passes_root, IsKidNode, IsLast, IsLeft};
 ghost use Rattle.fws_pf_list.specs.Ends.{IsRoot};
+ghost use Rattle.fws_pf_list.specs.Sheets.{scene_of};
 
 use crate::ends::Ends;
 use crate::sheet::Sheet;
@@ -26,7 +28,7 @@ pub(crate) fn is_root(ends: Ends) -> bool
 /// Whether a node is left to what becomes of all others.
 pub(crate) fn is_left(sheet: &Sheet<'_>, last: Last, node: u32) -> bool
     requires { node < length sheet.now.ends.now }
-    ensures { IsTrue result → IsLeft (scene sheet.now.site.now sheet.now.tree.now.0 sheet.now.tree.now.1 sheet.now.leaves.now sheet.now.nodes.now sheet.now.states.now sheet.now.outward sheet.now.ends.now sheet.now.start) last node }
+    ensures { IsTrue result → IsLeft (scene_of sheet.now) last node }
 {
     match last {
         Last::Root(_) => is_root(sheet.ends[node as usize]),
@@ -62,7 +64,7 @@ fn is_met(side: Side, set: &Ivs) -> bool {
 // The node of the first kid whose packets get no end.
 fn root_kid(sheet: &Sheet<'_>, side: Side, kids: &[Kid]) -> Option<u32>
     requires { All (λ kid. kid.node < length sheet.now.ends.now) kids.now }
-    ensures root { IfSome result (IsRootNode (scene sheet.now.site.now sheet.now.tree.now.0 sheet.now.tree.now.1 sheet.now.leaves.now sheet.now.nodes.now sheet.now.states.now sheet.now.outward sheet.now.ends.now sheet.now.start)) }
+    ensures root { IfSome result (IsRootNode (scene_of sheet.now)) }
     ensures kid { IfSome result (IsKidNode kids.now) }
 {
     for kid in kids {
@@ -115,7 +117,7 @@ fn dearest(side: Side, kids: &[Kid]) -> u32
 pub(crate) fn last_of(sheet: &Sheet<'_>, side: Side, kids: &[Kid]) -> Last
     requires known { All (λ kid. kid.node < length sheet.now.ends.now) kids.now }
     requires some { 0 < length kids.now }
-    ensures { IsLast (scene sheet.now.site.now sheet.now.tree.now.0 sheet.now.tree.now.1 sheet.now.leaves.now sheet.now.nodes.now sheet.now.states.now sheet.now.outward sheet.now.ends.now sheet.now.start) side kids.now result }
+    ensures { IsLast (scene_of sheet.now) side kids.now result }
 {
     if let Some(node) = root_kid(sheet, side, kids) {
         return Last::Root(node);

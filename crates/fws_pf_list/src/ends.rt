@@ -1,11 +1,10 @@
 //! The ends that the accepted packets of a tree get.
 
-ghost use Rattle.std.specs.Prelude.{◌≡◌, ◌↔◌, ◌<◌, ℕ, Bool, IsTrue, List, Some, length, slice_get, All, IfOk};
+ghost use Rattle.std.specs.Prelude.{◌≡◌, ◌↔◌, ◌<◌, ℕ, IsTrue, List, length, All, IfOk};
 ghost use Rattle.fws_net.specs.declared.outcome.Outcome.{Outcome};
 ghost use Rattle.fws_tree.specs.Plain.{Plain};
 ghost use Rattle.fws_tree.specs.Shared.{IsShared};
-ghost use Rattle.fws_sight.specs.Cuts.{kids_of};
-ghost use Rattle.fws_pf_list.specs.Ends.{Tells, AreEnds, AreJoined, IsAccepted, IsKidAccepted, IsOutcome};
+ghost use Rattle.fws_pf_list.specs.Ends.{Tells, AreEnds, AreJoined, IsOutcome, TellOfKids};
 ghost use Rattle.fws_pf_list.specs.Translations.{end_of};
 ghost use Rattle.fws_pf_list.specs.declared.ends.Ends.{Ends};
 
@@ -65,7 +64,7 @@ fn leaf_ends(outward: bool, outcome: Outcome) -> Ends
 // The ends of kids, by those of all nodes before.
 fn kid_ends(ends: &[Ends], kids: &[Kid]) -> Ends
     requires { All (λ kid. kid.node < length ends.now) kids.now }
-    ensures { (outward : Bool) (tree : ℕ → Plain Outcome) → ((i : ℕ) (e : Ends) → slice_get ends.now i ≡ Some e → Tells outward (IsAccepted (tree i)) e) → Tells outward (IsKidAccepted (kids_of tree kids.now)) result }
+    ensures { TellOfKids ends.now kids.now result }
 {
     let mut all = Ends::Nothing;
     for kid in kids {

@@ -4,9 +4,12 @@ ghost use Rattle.std.specs.Prelude.{◌≡◌, ◌<◌, ◌≤◌, ◌+◌, ◌+
 ghost use Rattle.fws_net.specs.declared.site.Site.{Site};
 ghost use Rattle.fws_iv.specs.Ivs.{has};
 ghost use Rattle.std.specs.Prelude.{slice_index};
-ghost use Rattle.fws_pf_list.specs.Blocks.{scene, ArePaths, IsPlanned};
+ghost use Rattle.fws_pf_list.specs.Scenes.{IsPlanned};
+ghost use Rattle.fws_pf_list.specs.Turns.{ArePaths};
 ghost use Rattle.fws_pf_list.specs.Narrowing.{protocol_paths, range_paths, takes_protocol, AreNumberPaths, AreNumbers};
 ghost use Rattle.fws_pf_list.specs.Paths.{number_of, part_of, IsGoodPath};
+ghost use Rattle.fws_print.specs.Appended.{Appends};
+ghost use Rattle.fws_pf_list.specs.Sheets.{scene_of};
 
 use crate::path::{Path, narrowed, only};
 use crate::sheet::Sheet;
@@ -102,12 +105,12 @@ pub(crate) fn set_paths(
     set: &Ivs,
     path: Path,
 ) -> Result<Items<Path>, Memory>
-    requires planned { IsPlanned (scene sheet.now.site.now sheet.now.tree.now.0 sheet.now.tree.now.1 sheet.now.leaves.now sheet.now.nodes.now sheet.now.states.now sheet.now.outward sheet.now.ends.now sheet.now.start) }
+    requires planned { IsPlanned (scene_of sheet.now) }
     requires few { length sheet.now.site.now.faces ≤ 62 }
     requires good { IsGoodPath sheet.now.site.now sheet.now.outward (number_of side) path }
     requires inward { sheet.now.outward ≡ true → 1 ≤ number_of side }
     requires within { (v : ℕ) → has set.now v ≡ true → v ≤ slice_index sheet.now.tree.now.0 (number_of side) }
-    ensures { IfOk result (λ paths. ArePaths (scene sheet.now.site.now sheet.now.tree.now.0 sheet.now.tree.now.1 sheet.now.leaves.now sheet.now.nodes.now sheet.now.states.now sheet.now.outward sheet.now.ends.now sheet.now.start) side set.now path (suc (number_of side)) paths) }
+    ensures { IfOk result (λ paths. ArePaths (scene_of sheet.now) side set.now path (suc (number_of side)) paths) }
 {
     match side {
         Side::Entry => number_paths(alloc, side, set, path, 1, sheet.site.faces.len() as u32 + 1),

@@ -1,16 +1,19 @@
 //! The translations of nodes.
 
-ghost use Rattle.std.specs.Prelude.{◌≡◌, ◌≤◌, ◌<◌, ◌++◌, ◌∷◌, [], ℕ, true, Some, List, length, IfOk, OnOk, slice_get, slice_index, MatchOption, IsTrue};
+ghost use Rattle.std.specs.Prelude.{◌≡◌, ◌≤◌, ◌<◌, ◌++◌, [], true, Some, length, OnOk, slice_get, slice_index, MatchOption, IsTrue};
 ghost use Rattle.fws_net.specs.declared.site.Site.{Site};
 ghost use Rattle.fws_pf.specs.declared.config.PfNat.{PfNat};
 ghost use Rattle.fws_tree.specs.declared.node.Node.{Node};
-ghost use Rattle.fws_tree.specs.declared.node.Kid.{Kid};
-ghost use Rattle.fws_pf_list.specs.Blocks.{scene, AreNodeRules, root_nats, CutsFrom, IsPathTo, IsPlanned};
+ghost use Rattle.fws_pf_list.specs.Scenes.{CutsFrom, IsPlanned};
+ghost use Rattle.fws_pf_list.specs.Turns.{IsPathTo};
+ghost use Rattle.fws_pf_list.specs.Blocks.{AreNodeRules, root_nats};
 ghost use Rattle.fws_pf_list.specs.Ends.{IsRoot, IsSettledAt};
 ghost use Rattle.fws_pf_list.specs.Paths.{number_of};
-ghost use Rattle.fws_pf_list.specs.Writings.{nats_of, IsPrintedPath, AreEndPaths, EndHasRoom};
+ghost use Rattle.fws_pf_list.specs.Writings.{IsPrintedPath, EndHasRoom};
 ghost use Rattle.fws_pf_list.specs.declared.ends.Ends.{Ends};
 ghost use Rattle.fws_pf_list.specs.declared.path.Path.{Path};
+ghost use Rattle.fws_print.specs.Appended.{Appends};
+ghost use Rattle.fws_pf_list.specs.Sheets.{scene_of, IsSettledNode, PutsEnd};
 
 use crate::ends::Ends;
 use crate::path::Path;
@@ -60,7 +63,7 @@ fn put_end(
     tag: u32,
 ) -> Result<(), Memory>
     requires { (site : Site) × IsPrintedPath site path }
-    ensures ok { OnOk result ((paths : List Path) × (rules.new ≡ rules.old ++ nats_of paths end tag) × ((site : Site) → IsPrintedPath site path → AreEndPaths site outward end path paths)) }
+    ensures ok { OnOk result (PutsEnd rules.old rules.new outward path end tag) }
     ensures room { EndHasRoom end }
 {
     let paths = end_paths(alloc, outward, path, end)?;
@@ -78,12 +81,12 @@ fn put_one(
     path: Path,
     falls: bool,
 ) -> Result<(), Memory>
-    requires planned { IsPlanned (scene sheet.now.site.now sheet.now.tree.now.0 sheet.now.tree.now.1 sheet.now.leaves.now sheet.now.nodes.now sheet.now.states.now sheet.now.outward sheet.now.ends.now sheet.now.start) }
+    requires planned { IsPlanned (scene_of sheet.now) }
     requires inside { at < length sheet.now.nodes.now }
-    requires good { IsPathTo (scene sheet.now.site.now sheet.now.tree.now.0 sheet.now.tree.now.1 sheet.now.leaves.now sheet.now.nodes.now sheet.now.states.now sheet.now.outward sheet.now.ends.now sheet.now.start) at path }
-    requires settled { (f : ℕ) (kids : List Kid) (e : Ends) → slice_get sheet.now.nodes.now at ≡ Some (Node.Cut f kids) → slice_get sheet.now.ends.now at ≡ Some e → IsSettledAt sheet.now.outward f e }
+    requires good { IsPathTo (scene_of sheet.now) at path }
+    requires settled { IsSettledNode (scene_of sheet.now) at }
     requires there { slice_get sheet.now.ends.now at ≡ Some (Ends.One one) }
-    ensures { OnOk result ((block : List PfNat) × (rules.new ≡ rules.old ++ block) × AreNodeRules (scene sheet.now.site.now sheet.now.tree.now.0 sheet.now.tree.now.1 sheet.now.leaves.now sheet.now.nodes.now sheet.now.states.now sheet.now.outward sheet.now.ends.now sheet.now.start) at path falls block) }
+    ensures { OnOk result (Appends rules.old rules.new (AreNodeRules (scene_of sheet.now) at path falls)) }
 {
     cut_nodes_part_values::<Outcome>();
     leaf_nodes_are_leaves::<Outcome>();
@@ -104,11 +107,11 @@ fn put_settled(
     path: Path,
     falls: bool,
 ) -> Result<(), Memory>
-    requires planned { IsPlanned (scene sheet.now.site.now sheet.now.tree.now.0 sheet.now.tree.now.1 sheet.now.leaves.now sheet.now.nodes.now sheet.now.states.now sheet.now.outward sheet.now.ends.now sheet.now.start) }
+    requires planned { IsPlanned (scene_of sheet.now) }
     requires inside { at < length sheet.now.nodes.now }
-    requires good { IsPathTo (scene sheet.now.site.now sheet.now.tree.now.0 sheet.now.tree.now.1 sheet.now.leaves.now sheet.now.nodes.now sheet.now.states.now sheet.now.outward sheet.now.ends.now sheet.now.start) at path }
-    requires settled { (f : ℕ) (kids : List Kid) (e : Ends) → slice_get sheet.now.nodes.now at ≡ Some (Node.Cut f kids) → slice_get sheet.now.ends.now at ≡ Some e → IsSettledAt sheet.now.outward f e }
-    ensures { OnOk result ((block : List PfNat) × (rules.new ≡ rules.old ++ block) × AreNodeRules (scene sheet.now.site.now sheet.now.tree.now.0 sheet.now.tree.now.1 sheet.now.leaves.now sheet.now.nodes.now sheet.now.states.now sheet.now.outward sheet.now.ends.now sheet.now.start) at path falls block) }
+    requires good { IsPathTo (scene_of sheet.now) at path }
+    requires settled { IsSettledNode (scene_of sheet.now) at }
+    ensures { OnOk result (Appends rules.old rules.new (AreNodeRules (scene_of sheet.now) at path falls)) }
 {
     cut_nodes_part_values::<Outcome>();
     leaf_nodes_are_leaves::<Outcome>();
@@ -130,7 +133,7 @@ fn put_root(
     path: Path,
     falls: bool,
 ) -> Result<(), Memory>
-    requires planned { IsPlanned (scene sheet.now.site.now sheet.now.tree.now.0 sheet.now.tree.now.1 sheet.now.leaves.now sheet.now.nodes.now sheet.now.states.now sheet.now.outward sheet.now.ends.now sheet.now.start) }
+    requires planned { IsPlanned (scene_of sheet.now) }
     requires good { IsPrintedPath sheet.now.site.now path }
     ensures { OnOk result (rules.new ≡ rules.old ++ root_nats path falls (slice_index sheet.now.states.now sheet.now.start)) }
 {
@@ -151,12 +154,12 @@ pub(crate) fn put_node(
     path: Path,
     falls: bool,
 ) -> Result<(), Memory>
-    requires planned { IsPlanned (scene sheet.now.site.now sheet.now.tree.now.0 sheet.now.tree.now.1 sheet.now.leaves.now sheet.now.nodes.now sheet.now.states.now sheet.now.outward sheet.now.ends.now sheet.now.start) }
+    requires planned { IsPlanned (scene_of sheet.now) }
     requires few { length sheet.now.site.now.faces ≤ 62 }
     requires inside { at < length sheet.now.nodes.now }
-    requires good { IsPathTo (scene sheet.now.site.now sheet.now.tree.now.0 sheet.now.tree.now.1 sheet.now.leaves.now sheet.now.nodes.now sheet.now.states.now sheet.now.outward sheet.now.ends.now sheet.now.start) at path }
-    requires inward { sheet.now.outward ≡ true → CutsFrom (scene sheet.now.site.now sheet.now.tree.now.0 sheet.now.tree.now.1 sheet.now.leaves.now sheet.now.nodes.now sheet.now.states.now sheet.now.outward sheet.now.ends.now sheet.now.start) at 1 }
-    ensures { OnOk result ((block : List PfNat) × (rules.new ≡ rules.old ++ block) × AreNodeRules (scene sheet.now.site.now sheet.now.tree.now.0 sheet.now.tree.now.1 sheet.now.leaves.now sheet.now.nodes.now sheet.now.states.now sheet.now.outward sheet.now.ends.now sheet.now.start) at path falls block) }
+    requires good { IsPathTo (scene_of sheet.now) at path }
+    requires inward { sheet.now.outward ≡ true → CutsFrom (scene_of sheet.now) at 1 }
+    ensures { OnOk result (Appends rules.old rules.new (AreNodeRules (scene_of sheet.now) at path falls)) }
 {
     cut_nodes_part_values::<Outcome>();
     match &sheet.nodes[at] {

@@ -1,6 +1,6 @@
 //! A decision tree as a list of translations.
 
-ghost use Rattle.std.specs.Prelude.{◌≡◌, ◌≤◌, ◌++◌, List, length, IfSome, OnOk, ℕ, true, false, Some, None, slice_get, ◌<◌, ◌≢◌};
+ghost use Rattle.std.specs.Prelude.{◌≡◌, length, IfSome, OnOk, true, false, Some, None, ◌<◌, ◌≢◌};
 ghost use Rattle.std.specs.List.{list_any};
 ghost use Rattle.fws_iv.specs.Ivs.{has};
 ghost use Rattle.fws_tree.specs.declared.node.Kid.{Kid};
@@ -10,9 +10,11 @@ ghost use Rattle.fws_pf.specs.declared.config.PfNat.{PfNat};
 ghost use Rattle.fws_sight.specs.Shown.{IsTold};
 ghost use Rattle.fws_sight.specs.declared.seen.Seen.{Seen};
 ghost use Rattle.fws_tree.specs.Shared.{IsShared};
-ghost use Rattle.fws_pf_list.specs.Blocks.{scene, IsPlanned};
+ghost use Rattle.fws_pf_list.specs.Scenes.{IsPlanned};
 ghost use Rattle.fws_pf_list.specs.Starts.{IsHostKid, IsStart};
-ghost use Rattle.fws_pf_list.specs.Translations.{IsTranslations, KeepsPortsOutward, WritesOneEnd, WritesPortsOfProtocols};
+ghost use Rattle.fws_pf_list.specs.Translations.{KeepsPortsOutward, WritesOneEnd, WritesPortsOfProtocols};
+ghost use Rattle.fws_print.specs.Appended.{Appends};
+ghost use Rattle.fws_pf_list.specs.Sheets.{scene_of, IsListOf, IsPlannedList};
 
 use crate::ends::ends_of;
 use crate::nodes::put_node;
@@ -72,8 +74,8 @@ fn start_of(nodes: &[Node], outward: bool) -> usize
 // Appends the translations of all packets that meet the list.
 fn put_all(alloc: Global, rules: &mut Items<PfNat>, sheet: &Sheet<'_>) -> Result<(), Memory>
     requires sound { IsSound sheet.now.site.now }
-    requires planned { IsPlanned (scene sheet.now.site.now sheet.now.tree.now.0 sheet.now.tree.now.1 sheet.now.leaves.now sheet.now.nodes.now sheet.now.states.now sheet.now.outward sheet.now.ends.now sheet.now.start) }
-    ensures { OnOk result ((block : List PfNat) × (rules.new ≡ rules.old ++ block) × IsTranslations sheet.now.site.now sheet.now.tree.now.0 sheet.now.tree.now.1 sheet.now.leaves.now sheet.now.nodes.now sheet.now.states.now sheet.now.outward block) }
+    requires planned { IsPlanned (scene_of sheet.now) }
+    ensures { OnOk result (Appends rules.old rules.new (IsListOf sheet.now)) }
 {
     let path = whole_path();
     put_node(alloc, rules, sheet, sheet.start, path, true)?;
@@ -93,7 +95,7 @@ pub fn put_list(alloc: Global, rules: &mut Items<PfNat>, plan: &Plan<'_>) -> Res
     requires ports { WritesPortsOfProtocols plan.now.tree.now.0 plan.now.tree.now.1 }
     requires one { WritesOneEnd plan.now.outward plan.now.tree.now.0 plan.now.tree.now.1 }
     requires bare { KeepsPortsOutward plan.now.outward plan.now.tree.now.0 plan.now.tree.now.1 }
-    ensures { OnOk result ((block : List PfNat) × (rules.new ≡ rules.old ++ block) × IsTranslations plan.now.site.now plan.now.tree.now.0 plan.now.tree.now.1 plan.now.leaves.now plan.now.nodes.now plan.now.states.now plan.now.outward block) }
+    ensures { OnOk result (Appends rules.old rules.new (IsPlannedList plan.now)) }
 {
     cut_nodes_part_values::<Outcome>();
     leaf_nodes_are_leaves::<Outcome>();

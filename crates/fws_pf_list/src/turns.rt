@@ -1,12 +1,15 @@
 //! The turns of a cut.
 
-ghost use Rattle.std.specs.Prelude.{◌≡◌, ◌≤◌, ◌<◌, ◌++◌, ℕ, true, suc, Some, List, length, slice_get, slice_index, All, IfOk, OnOk};
-ghost use Rattle.fws_pf_list.specs.Blocks.{last_turns, scene, turns_to, AreKidTests, AreTests, AreTurns, IsPlanned};
+ghost use Rattle.std.specs.Prelude.{◌≡◌, ◌≤◌, ◌<◌, ◌++◌, ℕ, true, Some, length, slice_get, slice_index, All, IfOk, OnOk};
+ghost use Rattle.fws_pf_list.specs.Scenes.{IsPlanned};
+ghost use Rattle.fws_pf_list.specs.Turns.{last_turns, turns_to, AreKidTests, AreTests, AreTurns};
 ghost use Rattle.fws_pf_list.specs.Paths.{number_of, IsGoodPath};
 ghost use Rattle.fws_pf_list.specs.declared.turn.Turn.{Turn};
 ghost use Rattle.fws_iv.specs.Ivs.{has};
 ghost use Rattle.fws_sight.specs.Cuts.{IsCutNode};
 ghost use Rattle.fws_tree.specs.declared.node.Node.{Node};
+ghost use Rattle.fws_print.specs.Appended.{Appends};
+ghost use Rattle.fws_pf_list.specs.Sheets.{scene_of};
 
 use crate::default::{is_left, last_of, passes};
 use crate::narrowing::set_paths;
@@ -45,13 +48,13 @@ fn put_kid(
     path: Path,
     last: Last,
 ) -> Result<(), Memory>
-    requires planned { IsPlanned (scene sheet.now.site.now sheet.now.tree.now.0 sheet.now.tree.now.1 sheet.now.leaves.now sheet.now.nodes.now sheet.now.states.now sheet.now.outward sheet.now.ends.now sheet.now.start) }
+    requires planned { IsPlanned (scene_of sheet.now) }
     requires few { length sheet.now.site.now.faces ≤ 62 }
     requires good { IsGoodPath sheet.now.site.now sheet.now.outward (number_of side) path }
     requires inward { sheet.now.outward ≡ true → 1 ≤ number_of side }
     requires within { (v : ℕ) → has kid.now.set v ≡ true → v ≤ slice_index sheet.now.tree.now.0 (number_of side) }
     requires known { kid.now.node < length sheet.now.ends.now }
-    ensures { OnOk result ((block : List Turn) × (turns.new ≡ turns.old ++ block) × AreKidTests (scene sheet.now.site.now sheet.now.tree.now.0 sheet.now.tree.now.1 sheet.now.leaves.now sheet.now.nodes.now sheet.now.states.now sheet.now.outward sheet.now.ends.now sheet.now.start) side kid.now path last block) }
+    ensures { OnOk result (Appends turns.old turns.new (AreKidTests (scene_of sheet.now) side kid.now path last)) }
 {
     if is_left(sheet, last, kid.node) {
         return Ok(());
@@ -71,13 +74,13 @@ fn put_kids(
     path: Path,
     last: Last,
 ) -> Result<(), Memory>
-    requires planned { IsPlanned (scene sheet.now.site.now sheet.now.tree.now.0 sheet.now.tree.now.1 sheet.now.leaves.now sheet.now.nodes.now sheet.now.states.now sheet.now.outward sheet.now.ends.now sheet.now.start) }
+    requires planned { IsPlanned (scene_of sheet.now) }
     requires few { length sheet.now.site.now.faces ≤ 62 }
     requires good { IsGoodPath sheet.now.site.now sheet.now.outward (number_of side) path }
     requires inward { sheet.now.outward ≡ true → 1 ≤ number_of side }
     requires within { All (λ kid. (v : ℕ) → has kid.set v ≡ true → v ≤ slice_index sheet.now.tree.now.0 (number_of side)) kids.now }
     requires known { All (λ kid. kid.node < length sheet.now.ends.now) kids.now }
-    ensures { OnOk result ((block : List Turn) × (turns.new ≡ turns.old ++ block) × AreTests (scene sheet.now.site.now sheet.now.tree.now.0 sheet.now.tree.now.1 sheet.now.leaves.now sheet.now.nodes.now sheet.now.states.now sheet.now.outward sheet.now.ends.now sheet.now.start) side kids.now path last (length kids.now) block) }
+    ensures { OnOk result (Appends turns.old turns.new (AreTests (scene_of sheet.now) side kids.now path last (length kids.now))) }
 {
     for kid in kids {
         put_kid(alloc, turns, sheet, side, kid, path, last)?;
@@ -108,14 +111,14 @@ pub(crate) fn cut_turns(
     path: Path,
     falls: bool,
 ) -> Result<Items<Turn>, Memory>
-    requires planned { IsPlanned (scene sheet.now.site.now sheet.now.tree.now.0 sheet.now.tree.now.1 sheet.now.leaves.now sheet.now.nodes.now sheet.now.states.now sheet.now.outward sheet.now.ends.now sheet.now.start) }
+    requires planned { IsPlanned (scene_of sheet.now) }
     requires few { length sheet.now.site.now.faces ≤ 62 }
     requires inside { at < length sheet.now.nodes.now }
     requires cut { slice_get sheet.now.nodes.now at ≡ Some (Node.Cut (number_of side) kids.now) }
     requires node { IsCutNode sheet.now.tree.now.0 sheet.now.leaves.now sheet.now.nodes.now at (number_of side) kids.now }
     requires good { IsGoodPath sheet.now.site.now sheet.now.outward (number_of side) path }
     requires inward { sheet.now.outward ≡ true → 1 ≤ number_of side }
-    ensures { IfOk result (λ turns. AreTurns (scene sheet.now.site.now sheet.now.tree.now.0 sheet.now.tree.now.1 sheet.now.leaves.now sheet.now.nodes.now sheet.now.states.now sheet.now.outward sheet.now.ends.now sheet.now.start) at path falls turns) }
+    ensures { IfOk result (λ turns. AreTurns (scene_of sheet.now) at path falls turns) }
 {
     leaf_nodes_are_leaves::<Outcome>();
     cut_nodes_part_values::<Outcome>();

@@ -1,18 +1,17 @@
 //! Configurations whose tags are the numbers of states.
 
-ghost use Rattle.std.specs.Prelude.{◌≡◌, ◌++◌, true, false, length, List, IfOk, OnOk};
+ghost use Rattle.std.specs.Prelude.{true, false, IfOk, OnOk};
 ghost use Rattle.fws_net.specs.Points.{tops_of};
 ghost use Rattle.fws_net.specs.Routes.{IsSound};
 ghost use Rattle.fws_net.specs.declared.packet.Lang.TheVariants as langs;
 ghost use Rattle.fws_pf.specs.declared.config.PfNat.{PfNat};
 ghost use Rattle.fws_pf.specs.declared.config.PfRule.{PfRule};
-ghost use Rattle.fws_pf_list.specs.Translations.{IsTranslations};
 ghost use Rattle.fws_pf_tree.specs.Filters.{IsFilter};
 ghost use Rattle.fws_place.specs.Fits.{Fits};
 ghost use Rattle.fws_tree.specs.Regular.{AreRegular};
-ghost use Rattle.fws_pf_put.specs.Drafted.{IsDrafted, IsFitting};
-ghost use Rattle.fws_pf_put.specs.Gathered.{TellSources, rewrite_at};
-ghost use Rattle.fws_pf_put.specs.Sources.{AreSources};
+ghost use Rattle.fws_pf_put.specs.Drafted.{IsDrafted};
+ghost use Rattle.fws_print.specs.Appended.{Appends};
+ghost use Rattle.fws_pf_put.specs.Grounds.{AreOutward, ArePass, IsKnown};
 
 use crate::ends::Sources;
 use crate::gathered::sources_of;
@@ -52,8 +51,8 @@ fn put_pass(
     ground: &Ground<'_>,
     outward: bool,
 ) -> Result<(), Memory>
-    requires { IsFitting ground.now.site.now ground.now.tables.now ground.now.leaves.now ground.now.nodes.now ground.now.states.now }
-    ensures { OnOk result ((block : List PfNat) × (nats.new ≡ nats.old ++ block) × IsTranslations ground.now.site.now (tops_of ground.now.site.now) ground.now.tables.now.fresh.1 ground.now.leaves.now ground.now.nodes.now ground.now.states.now outward block) }
+    requires { IsKnown ground.now }
+    ensures { OnOk result (Appends nats.old nats.new (ArePass ground.now outward)) }
 {
     views_are_told();
     points_are_of_pairs();
@@ -79,8 +78,8 @@ fn outward_nats(
     ground: &Ground<'_>,
     sources: &Sources,
 ) -> Result<Items<PfNat>, Memory>
-    requires { IsFitting ground.now.site.now ground.now.tables.now ground.now.leaves.now ground.now.nodes.now ground.now.states.now }
-    ensures { IfOk result (λ nats. (first : List PfNat) × (host : List PfNat) × (nats ≡ first ++ host) × AreSources (rewrite_at ground.now.leaves.now ground.now.nodes.now ground.now.states.now) sources.now.ends.keys sources.now.sets.items (length ground.now.nodes.now) first × IsTranslations ground.now.site.now (tops_of ground.now.site.now) ground.now.tables.now.fresh.1 ground.now.leaves.now ground.now.nodes.now ground.now.states.now true host) }
+    requires { IsKnown ground.now }
+    ensures { IfOk result (AreOutward ground.now sources.now) }
 {
     let mut nats = Items::new(alloc);
     put_sources(
@@ -97,8 +96,8 @@ fn outward_nats(
 
 /// The translations of packets that come in. An error is want of memory.
 fn inward_nats(alloc: Global, ground: &Ground<'_>) -> Result<Items<PfNat>, Memory>
-    requires { IsFitting ground.now.site.now ground.now.tables.now ground.now.leaves.now ground.now.nodes.now ground.now.states.now }
-    ensures { IfOk result (IsTranslations ground.now.site.now (tops_of ground.now.site.now) ground.now.tables.now.fresh.1 ground.now.leaves.now ground.now.nodes.now ground.now.states.now false) }
+    requires { IsKnown ground.now }
+    ensures { IfOk result (ArePass ground.now false) }
 {
     let mut nats = Items::new(alloc);
     put_pass(alloc, &mut nats, ground, false)?;
@@ -107,7 +106,7 @@ fn inward_nats(alloc: Global, ground: &Ground<'_>) -> Result<Items<PfNat>, Memor
 
 /// The filter rules. An error is want of memory.
 fn filter_rules(alloc: Global, ground: &Ground<'_>) -> Result<Items<PfRule>, Memory>
-    requires { IsFitting ground.now.site.now ground.now.tables.now ground.now.leaves.now ground.now.nodes.now ground.now.states.now }
+    requires { IsKnown ground.now }
     ensures { IfOk result (IsFilter ground.now.site.now (tops_of ground.now.site.now) ground.now.leaves.now ground.now.nodes.now ground.now.states.now) }
 {
     views_are_told();
@@ -125,7 +124,7 @@ fn filter_rules(alloc: Global, ground: &Ground<'_>) -> Result<Items<PfRule>, Mem
 
 /// The configuration of tables that fit, for the states of the nodes. An error is want of memory.
 fn draft_of(alloc: Global, ground: &Ground<'_>) -> Result<PfConfig, Memory>
-    requires { IsFitting ground.now.site.now ground.now.tables.now ground.now.leaves.now ground.now.nodes.now ground.now.states.now }
+    requires { IsKnown ground.now }
     ensures { IfOk result (IsDrafted ground.now.site.now ground.now.tables.now) }
 {
     views_are_told();

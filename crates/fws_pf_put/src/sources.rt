@@ -1,9 +1,10 @@
 //! The translations that write sources as packets go out, by the tags of the states to which they have come.
 
-ghost use Rattle.std.specs.Prelude.{◌≡◌, ◌+◌, ◌-◌, ◌^◌, ◌≤◌, ◌<◌, ◌∷◌, [], ◌++◌, Some, List, map, All, IfOk, OnOk};
+ghost use Rattle.std.specs.Prelude.{◌≡◌, ◌+◌, ◌-◌, ◌^◌, ◌<◌, [], ◌++◌, Some, map, All, IfOk, OnOk};
 ghost use Rattle.fws_iv.specs.Prefixes.{IsBlock};
 ghost use Rattle.fws_pf.specs.declared.config.PfNat.{PfNat};
 ghost use Rattle.fws_pf_put.specs.Sources.{IsSourceBlock, addresses, asked, block_rule, whole_rule};
+ghost use Rattle.fws_print.specs.Appended.{Appends};
 
 use crate::blocks::blocks_of;
 use crate::ends::{Sources, set_of};
@@ -87,7 +88,7 @@ fn put_network(
     sources: &Sources,
 ) -> Result<(), Memory>
     requires { end.len < 32 }
-    ensures { OnOk result ((block : List PfNat) × (nats.new ≡ nats.old ++ block) × IsSourceBlock sources.now.ends.keys sources.now.sets.items tag (Some end) block) }
+    ensures { OnOk result (Appends nats.old nats.new (IsSourceBlock sources.now.ends.keys sources.now.sets.items tag (Some end))) }
 {
     let Some(set) = set_of(sources, end) else {
         return Ok(());
@@ -106,7 +107,7 @@ fn put_end(
     end: End,
     sources: &Sources,
 ) -> Result<(), Memory>
-    ensures { OnOk result ((block : List PfNat) × (nats.new ≡ nats.old ++ block) × IsSourceBlock sources.now.ends.keys sources.now.sets.items tag (Some end) block) }
+    ensures { OnOk result (Appends nats.old nats.new (IsSourceBlock sources.now.ends.keys sources.now.sets.items tag (Some end))) }
 {
     if end.port.is_some() {
         return Ok(());
@@ -127,7 +128,7 @@ pub(crate) fn put_source(
     src: Option<End>,
     sources: &Sources,
 ) -> Result<(), Memory>
-    ensures { OnOk result ((block : List PfNat) × (nats.new ≡ nats.old ++ block) × IsSourceBlock sources.now.ends.keys sources.now.sets.items tag src block) }
+    ensures { OnOk result (Appends nats.old nats.new (IsSourceBlock sources.now.ends.keys sources.now.sets.items tag src)) }
 {
     match src {
         None => {

@@ -1,10 +1,11 @@
 //! The translations of sources for all states.
 
-ghost use Rattle.std.specs.Prelude.{◌≡◌, ◌++◌, [], false, nat_eq, slice_get, length, List, OnOk, MatchOption};
+ghost use Rattle.std.specs.Prelude.{◌≡◌, [], false, nat_eq, slice_get, OnOk};
 ghost use Rattle.std.specs.Option.{option_map_or};
 ghost use Rattle.fws_pf.specs.declared.config.PfNat.{PfNat};
 ghost use Rattle.fws_pf_put.specs.Gathered.{leaf_rewrite, rewrite_at, rewrite_of};
-ghost use Rattle.fws_pf_put.specs.Sources.{AreSources, IsSourceBlock};
+ghost use Rattle.fws_print.specs.Appended.{Appends};
+ghost use Rattle.fws_pf_put.specs.Grounds.{AreStateSources, IsSourceOf};
 
 use crate::ends::Sources;
 use crate::sources::put_source;
@@ -69,7 +70,7 @@ fn put_state(
     rewrite: Option<Rewrite>,
     sources: &Sources,
 ) -> Result<(), Memory>
-    ensures { OnOk result ((block : List PfNat) × (nats.new ≡ nats.old ++ block) × MatchOption rewrite (block ≡ []) (λ w. IsSourceBlock sources.now.ends.keys sources.now.sets.items tag w.src block)) }
+    ensures { OnOk result (Appends nats.old nats.new (IsSourceOf sources.now tag rewrite)) }
 {
     match rewrite {
         None => Ok(()),
@@ -87,7 +88,7 @@ pub(crate) fn put_sources(
     states: &[u32],
     sources: &Sources,
 ) -> Result<(), Memory>
-    ensures { OnOk result ((block : List PfNat) × (nats.new ≡ nats.old ++ block) × AreSources (rewrite_at leaves.now nodes.now states.now) sources.now.ends.keys sources.now.sets.items (length nodes.now) block) }
+    ensures { OnOk result (Appends nats.old nats.new (AreStateSources leaves.now nodes.now states.now sources.now)) }
 {
     if nodes.len() > 4_000_000_000 {
         return Err(Memory);

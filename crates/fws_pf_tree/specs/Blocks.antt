@@ -46,7 +46,8 @@ pub record LeadsTo (leaves : List Outcome) (nodes : List Node) (n : ℕ) (p : Pa
 -- the block lets transits with other tags by
 abbrev pub LetsBy : Site → ℕ → List PfRule → Type 0
 LetsBy site n block =
-    (outward : Bool) (k : ℕ) (t : Transit) (rest : List PfRule) → n ≢ k → rules_walk site outward (block ++ rest) (under k false t) ≡ rules_walk site outward rest (under k false t)
+    (outward : Bool) (k : ℕ) (t : Transit) (rest : List PfRule) → n ≢ k
+    → rules_walk site outward (block ++ rest) (under k false t) ≡ rules_walk site outward rest (under k false t)
 
 -- the block moves a transit from the node to the state of a node to which its packet is led. It may leave it where packets are dropped there
 pub record IsMoved (site : Site) (leaves : List Outcome) (nodes : List Node) (states : List ℕ) (n : ℕ) (outward : Bool) (t : Transit) (block : List PfRule) : Type 0 where
@@ -79,7 +80,8 @@ IsDone leaves nodes m n = (n < m) ⊎ ((w : Outcome) × IsLeafNode leaves nodes 
 pub record Decide (site : Site) (tops : List ℕ) (leaves : List Outcome) (nodes : List Node) (states : List ℕ) (m : ℕ) (rules : List PfRule) : Type 0 where
   pub done : (outward : Bool) (n : ℕ) (t : Transit) → n < length nodes → state_at states n ≡ n → IsDone leaves nodes m n → IsFine tops nodes n outward t.packet
       → (w : Outcome) × ReachesBelow leaves nodes n t.packet w × Ends leaves nodes states w t (rules_walk site outward rules (under n false t))
-  pub late : (outward : Bool) (n f : ℕ) (kids : List Kid) (t : Transit) → m ≤ n → slice_get nodes n ≡ Some (Cut f kids) → rules_walk site outward rules (under n false t) ≡ None
+  pub late : (outward : Bool) (n f : ℕ) (kids : List Kid) (t : Transit) → m ≤ n → slice_get nodes n ≡ Some (Cut f kids)
+      → rules_walk site outward rules (under n false t) ≡ None
 
 -- the rules of the nodes from a number on: ahead of rules that decide below it they decide for all
 pub record AreMoves (site : Site) (tops : List ℕ) (leaves : List Outcome) (nodes : List Node) (states : List ℕ) (m : ℕ) (block : List PfRule) : Type 0 where

@@ -27,7 +27,8 @@ use Rattle.fws_box.specs.Fields.{value_of}
 
 -- where the node cuts the entry, the packet comes in by an interface
 abbrev pub ComesIn : List ℕ → List Node → ℕ → Bool → Packet → Type 0
-ComesIn tops nodes n outward p = (kids : List Kid) → slice_get nodes n ≡ Some (Cut 0 kids) → (outward ≡ false) × (1 ≤ p.entry) × (p.entry ≤ value_of tops fields.Entry)
+ComesIn tops nodes n outward p = (kids : List Kid) → slice_get nodes n ≡ Some (Cut 0 kids)
+    → (outward ≡ false) × (1 ≤ p.entry) × (p.entry ≤ value_of tops fields.Entry)
 
 -- what the packet reaches below the node at its entry
 abbrev pub ReachesBelow : List Outcome → List Node → ℕ → Packet → Outcome → Type 0

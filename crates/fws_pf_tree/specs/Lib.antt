@@ -4,6 +4,7 @@ pub mod Filters
 pub mod Literals
 pub mod Pieces
 pub mod Planned
+pub mod Plans
 pub mod Rules
 pub mod States
 pub mod Stating

@@ -1,16 +1,16 @@
 //! The rules of nodes.
 
-ghost use Rattle.std.specs.Prelude.{◌≡◌, ◌≢◌, ℕ, ◌+◌, ◌<◌, ◌≤◌, true, ◌∷◌, [], ◌++◌, List, Some, length, vec_len, slice_get, All, IfOk, OnOk};
-ghost use Rattle.fws_iv.specs.declared.iv.Iv.{Iv};
+ghost use Rattle.std.specs.Prelude.{◌≡◌, ℕ, ◌+◌, ◌<◌, true, [], ◌++◌, Some, length, vec_len, slice_get, All, IfOk, OnOk};
 ghost use Rattle.fws_pf.specs.declared.config.PfRule.{PfRule};
 ghost use Rattle.fws_pf.specs.declared.config.Way.{Way};
 ghost use Rattle.fws_net.specs.declared.outcome.Outcome.{Outcome};
 ghost use Rattle.fws_tree.specs.declared.node.Node.{Node};
-ghost use Rattle.fws_pf_tree.specs.Blocks.{IsCutBlock, IsNodeBlock};
-ghost use Rattle.fws_pf_tree.specs.Conds.{way_of, IsTestable};
+ghost use Rattle.fws_pf_tree.specs.Conds.{IsTestable};
 ghost use Rattle.fws_pf_tree.specs.Planned.{IsPlanned};
-ghost use Rattle.fws_pf_tree.specs.Rules.{moved, moves, AreKidRules, AreAllKidRules, AreTestedRules, AreUntestedRules, IsLastRule};
-ghost use Rattle.fws_pf_tree.specs.States.{state_at, IsLeafNode};
+ghost use Rattle.fws_pf_tree.specs.Rules.{moved, moves, AreKidRules, AreAllKidRules};
+ghost use Rattle.fws_pf_tree.specs.States.{IsLeafNode};
+ghost use Rattle.fws_print.specs.Appended.{Appends};
+ghost use Rattle.fws_pf_tree.specs.Plans.{AreTestedOf, AreUntestedOf, IsCutOf, IsLastOf, IsNodeOf};
 
 use crate::conds::conditions;
 use crate::default::default_kid;
@@ -72,7 +72,7 @@ fn put_kid(
     set: &Ivs,
 ) -> Result<(), Memory>
     requires { IsTestable tested set.now }
-    ensures { OnOk result ((block : List PfRule) × (rules.new ≡ rules.old ++ block) × AreKidRules tested from default state set.now block) }
+    ensures { OnOk result (Appends rules.old rules.new (AreKidRules tested from default state set.now)) }
 {
     if state == default {
         return Ok(());
@@ -94,7 +94,7 @@ fn put_kids(
 ) -> Result<(), Memory>
     requires testable { All (λ kid. IsTestable tested kid.set) kids.now }
     requires known { All (λ kid. kid.node < length states.now) kids.now }
-    ensures { OnOk result ((block : List PfRule) × (rules.new ≡ rules.old ++ block) × AreAllKidRules tested states.now from default kids.now block) }
+    ensures { OnOk result (Appends rules.old rules.new (AreAllKidRules tested states.now from default kids.now)) }
 {
     for kid in kids {
         let state = states[kid.node as usize];
@@ -137,7 +137,7 @@ fn put_last(
 ) -> Result<(), Memory>
     requires inside { default < length plan.now.nodes.now }
     requires named { (k n : ℕ) → slice_get plan.now.nodes.now k ≡ Some (Node.Leaf n) → n < length plan.now.leaves.now }
-    ensures { OnOk result ((block : List PfRule) × (rules.new ≡ rules.old ++ block) × IsLastRule plan.now.leaves.now plan.now.nodes.now way from default block) }
+    ensures { OnOk result (Appends rules.old rules.new (IsLastOf plan.now way from default)) }
 {
     if drops(plan.leaves, plan.nodes, default) {
         return Ok(());
@@ -161,7 +161,7 @@ fn put_tested(
     requires known { All (λ kid. kid.node < length plan.now.nodes.now) kids.now }
     requires planned { IsPlanned plan.now.site.now plan.now.tree.now.0 plan.now.tree.now.1 plan.now.leaves.now plan.now.nodes.now plan.now.states.now }
     requires size { vec_len sums.old ≡ length plan.now.nodes.now }
-    ensures rules { OnOk result ((block : List PfRule) × (rules.new ≡ rules.old ++ block) × AreTestedRules plan.now.leaves.now plan.now.nodes.now plan.now.states.now tested from kids.now block) }
+    ensures rules { OnOk result (Appends rules.old rules.new (AreTestedOf plan.now tested from kids.now)) }
     ensures size { vec_len sums.new ≡ vec_len sums.old }
 {
     let at = default_kid(alloc, tested, kids, plan.states, sums)?;
@@ -182,7 +182,7 @@ fn put_untested(
     requires some { 0 < length kids.now }
     requires known { All (λ kid. kid.node < length plan.now.nodes.now) kids.now }
     requires planned { IsPlanned plan.now.site.now plan.now.tree.now.0 plan.now.tree.now.1 plan.now.leaves.now plan.now.nodes.now plan.now.states.now }
-    ensures { OnOk result ((block : List PfRule) × (rules.new ≡ rules.old ++ block) × AreUntestedRules plan.now.leaves.now plan.now.nodes.now plan.now.states.now from kids.now block) }
+    ensures { OnOk result (Appends rules.old rules.new (AreUntestedOf plan.now from kids.now)) }
 {
     let default = plan.states[kids[0].node as usize];
     put_last(alloc, rules, plan, Way::Both, from, default)?;
@@ -202,7 +202,7 @@ fn put_cut(
     requires planned { IsPlanned plan.now.site.now plan.now.tree.now.0 plan.now.tree.now.1 plan.now.leaves.now plan.now.nodes.now plan.now.states.now }
     requires cut { slice_get plan.now.nodes.now n ≡ Some (Node.Cut f kids.now) }
     requires size { vec_len sums.old ≡ length plan.now.nodes.now }
-    ensures rules { OnOk result ((block : List PfRule) × (rules.new ≡ rules.old ++ block) × IsCutBlock plan.now.site.now plan.now.tree.now.0 plan.now.leaves.now plan.now.nodes.now plan.now.states.now n block) }
+    ensures rules { OnOk result (Appends rules.old rules.new (IsCutOf plan.now n)) }
     ensures size { vec_len sums.new ≡ vec_len sums.old }
 {
     cut_nodes_part_values::<Outcome>();
@@ -228,7 +228,7 @@ pub(crate) fn put_node(
     requires planned { IsPlanned plan.now.site.now plan.now.tree.now.0 plan.now.tree.now.1 plan.now.leaves.now plan.now.nodes.now plan.now.states.now }
     requires inside { k < length plan.now.nodes.now }
     requires size { vec_len sums.old ≡ length plan.now.nodes.now }
-    ensures rules { OnOk result ((block : List PfRule) × (rules.new ≡ rules.old ++ block) × IsNodeBlock plan.now.site.now plan.now.tree.now.0 plan.now.leaves.now plan.now.nodes.now plan.now.states.now k block) }
+    ensures rules { OnOk result (Appends rules.old rules.new (IsNodeOf plan.now k)) }
     ensures size { vec_len sums.new ≡ vec_len sums.old }
 {
     let n = plan.states[k];

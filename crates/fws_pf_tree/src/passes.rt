@@ -1,13 +1,13 @@
 //! The rules that pass packets of accepting states.
 
-ghost use Rattle.std.specs.Prelude.{◌≡◌, ℕ, ◌<◌, ◌∷◌, [], ◌++◌, true, false, Some, List, length, slice_get, IfOk, OnOk};
+ghost use Rattle.std.specs.Prelude.{◌≡◌, ℕ, ◌<◌, [], true, false, length, IfOk, OnOk};
 ghost use Rattle.fws_net.specs.declared.outcome.Outcome.{Outcome};
-ghost use Rattle.fws_net.specs.declared.outcome.Rewrite.{Rewrite};
 ghost use Rattle.fws_pf.specs.declared.config.PfRule.{PfRule};
 ghost use Rattle.fws_tree.specs.declared.node.Node.{Node};
-ghost use Rattle.fws_pf_tree.specs.Blocks.{ArePasses, IsPassOf};
 ghost use Rattle.fws_pf_tree.specs.Planned.{IsPlanned};
 ghost use Rattle.fws_pf_tree.specs.Rules.{accepts_leaf, accepts, passing};
+ghost use Rattle.fws_print.specs.Appended.{Appends};
+ghost use Rattle.fws_pf_tree.specs.Plans.{AreAllPasses, IsPassFor};
 
 use crate::plan::Plan;
 use fws_net::{Cond, Lit, Outcome, Test};
@@ -65,7 +65,7 @@ fn put_pass(
 ) -> Result<(), Memory>
     requires planned { IsPlanned plan.now.site.now plan.now.tree.now.0 plan.now.tree.now.1 plan.now.leaves.now plan.now.nodes.now plan.now.states.now }
     requires inside { k < length plan.now.nodes.now }
-    ensures { OnOk result ((block : List PfRule) × (rules.new ≡ rules.old ++ block) × IsPassOf plan.now.leaves.now plan.now.nodes.now plan.now.states.now k block) }
+    ensures { OnOk result (Appends rules.old rules.new (IsPassFor plan.now k)) }
 {
     let n = plan.states[k];
     if n as usize != k {
@@ -84,7 +84,7 @@ pub(crate) fn put_passes(
     plan: &Plan<'_>,
 ) -> Result<(), Memory>
     requires { IsPlanned plan.now.site.now plan.now.tree.now.0 plan.now.tree.now.1 plan.now.leaves.now plan.now.nodes.now plan.now.states.now }
-    ensures { OnOk result ((block : List PfRule) × (rules.new ≡ rules.old ++ block) × ArePasses plan.now.site.now plan.now.leaves.now plan.now.nodes.now plan.now.states.now (length plan.now.nodes.now) block) }
+    ensures { OnOk result (Appends rules.old rules.new (AreAllPasses plan.now)) }
 {
     for k in 0..plan.nodes.len() {
         put_pass(alloc, rules, plan, k)?;

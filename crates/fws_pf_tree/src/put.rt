@@ -1,11 +1,11 @@
 //! The filter rules of a tree.
 
-ghost use Rattle.std.specs.Prelude.{◌≡◌, ◌++◌, List, length, IfOk, OnOk};
+ghost use Rattle.std.specs.Prelude.{◌≡◌, length, IfOk, OnOk};
 ghost use Rattle.fws_pf.specs.declared.config.PfRule.{PfRule};
-ghost use Rattle.fws_pf_tree.specs.Blocks.{AreMoves};
-ghost use Rattle.fws_pf_tree.specs.Filters.{IsFilter};
 ghost use Rattle.fws_pf_tree.specs.Planned.{IsPlanned};
 ghost use Rattle.fws_pf_tree.specs.Rules.{block_all};
+ghost use Rattle.fws_print.specs.Appended.{Appends};
+ghost use Rattle.fws_pf_tree.specs.Plans.{AreAllMoves, IsFilterOf};
 
 use crate::nodes::put_node;
 use crate::passes::put_passes;
@@ -46,7 +46,7 @@ fn zeros(alloc: Global, n: usize) -> Result<Vec<usize>, Memory>
 // For each node, from the last one to the first, appends its rules.
 fn put_moves(alloc: Global, rules: &mut Items<PfRule>, plan: &Plan<'_>) -> Result<(), Memory>
     requires { IsPlanned plan.now.site.now plan.now.tree.now.0 plan.now.tree.now.1 plan.now.leaves.now plan.now.nodes.now plan.now.states.now }
-    ensures { OnOk result ((block : List PfRule) × (rules.new ≡ rules.old ++ block) × AreMoves plan.now.site.now plan.now.tree.now.0 plan.now.leaves.now plan.now.nodes.now plan.now.states.now 0 block) }
+    ensures { OnOk result (Appends rules.old rules.new (AreAllMoves plan.now)) }
 {
     cut_nodes_part_values::<Outcome>();
     leaf_nodes_are_leaves::<Outcome>();
@@ -65,7 +65,7 @@ fn put_moves(alloc: Global, rules: &mut Items<PfRule>, plan: &Plan<'_>) -> Resul
 /// node's state. An error is want of memory; rules may then stand behind the others.
 pub fn put_filter(alloc: Global, rules: &mut Items<PfRule>, plan: &Plan<'_>) -> Result<(), Memory>
     requires { IsPlanned plan.now.site.now plan.now.tree.now.0 plan.now.tree.now.1 plan.now.leaves.now plan.now.nodes.now plan.now.states.now }
-    ensures { OnOk result ((block : List PfRule) × (rules.new ≡ rules.old ++ block) × IsFilter plan.now.site.now plan.now.tree.now.0 plan.now.leaves.now plan.now.nodes.now plan.now.states.now block) }
+    ensures { OnOk result (Appends rules.old rules.new (IsFilterOf plan.now)) }
 {
     cut_nodes_part_values::<Outcome>();
     leaf_nodes_are_leaves::<Outcome>();

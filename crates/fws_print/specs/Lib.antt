@@ -1,3 +1,4 @@
+pub mod Appended
 pub mod Labels
 pub mod Sets
 pub mod Words

@@ -1,7 +1,6 @@
 use Rattle.std.proofs.Common.{ℕ, Bool, ◌&&◌, ◌||◌, not, List, ap, ◌∙◌}
 use Rattle.std.proofs.lemmas.Result.{IfOk-weaker}
-use Rattle.fws_ios_put.specs.Choices.{framed, is_stray, is_tcp, truth}
-use Rattle.fws_ios_put.proofs.MadeTrees.{HasTruth}
+use Rattle.fws_ios_put.specs.Choices.{framed, is_stray, is_tcp, truth, HasTruth}
 use Rattle.fws_ios_put.proofs.making.acked_fresh.Goals as goal
 
 pub returns-clause-value : goal.returns-clause-value

@@ -3,11 +3,13 @@ use Rattle.std.proofs.lemmas.Result.{IfOk-weaker}
 use Rattle.fws_pf_list.specs.declared.path.Path.{Path}
 use Rattle.fws_pf_list.specs.declared.side.Side.{Side}
 use Rattle.fws_pf_list.specs.declared.side.Side.TheVariants.{Entry, Proto}
-use Rattle.fws_pf_list.specs.Blocks.{scene, ArePaths, Scene}
+use Rattle.fws_pf_list.specs.Scenes.{Scene}
+use Rattle.fws_pf_list.specs.Turns.{ArePaths}
 use Rattle.fws_pf_list.specs.Narrowing.{protocol_paths, range_paths, AreNumberPaths, AreNumbers}
 use Rattle.fws_pf_list.specs.Paths.{number_of}
 use Rattle.fws_pf_list.proofs.Narrowed.{entry_inward, number_paths_done, ranges_done, IsMade}
 use Rattle.fws_pf_list.proofs.narrowing.set_paths.Goals as goal
+use Rattle.fws_pf_list.specs.Sheets.{scene_of}
 
 pub number_paths-requires-clause-number : goal.number_paths-requires-clause-number
 number_paths-requires-clause-number c =
@@ -25,7 +27,7 @@ pub returns-in-Entry : goal.returns-in-Entry
 returns-in-Entry c =
     let sheet = c.args.sheet.now in
     let side = c.args.side in
-    let s : Scene = (scene sheet.site.now sheet.tree.now.0 sheet.tree.now.1 sheet.leaves.now sheet.nodes.now sheet.states.now sheet.outward sheet.ends.now sheet.start) in
+    let s : Scene = (scene_of sheet) in
     let numbers : AreNumbers sheet.site.now sheet.outward Entry 1 (c.len.result + 1) = (refl, ap (λ n. n + 1) c.len.ensures, entry_inward sheet.outward c.args.side c.in-Entry.is c.requires.inward) in
     let own : AreNumbers s.site s.outward side 1 (c.len.result + 1) = subst (λ k. AreNumbers sheet.site.now sheet.outward k 1 (c.len.result + 1)) (sym c.in-Entry.is) numbers in
     let P : List Path → Type 0 = λ paths. AreNumberPaths side c.args.set.now c.args.path 1 (c.len.result + 1 + 1) paths in
@@ -36,7 +38,7 @@ pub returns-in-Proto : goal.returns-in-Proto
 returns-in-Proto c =
     let sheet = c.args.sheet.now in
     let side = c.args.side in
-    let s : Scene = (scene sheet.site.now sheet.tree.now.0 sheet.tree.now.1 sheet.leaves.now sheet.nodes.now sheet.states.now sheet.outward sheet.ends.now sheet.start) in
+    let s : Scene = (scene_of sheet) in
     let numbers : AreNumbers sheet.site.now sheet.outward Proto 0 255 = (refl, refl) in
     let own : AreNumbers s.site s.outward side 0 255 = subst (λ k. AreNumbers sheet.site.now sheet.outward k 0 255) (sym c.in-Proto.is) numbers in
     let P : List Path → Type 0 = λ paths. AreNumberPaths side c.args.set.now c.args.path 0 (255 + 1) paths in
@@ -48,7 +50,7 @@ returns-in-Dst c =
     let sheet = c.args.sheet.now in
     let side = c.args.side in
     let parts = c.parts.result.now in
-    let s : Scene = (scene sheet.site.now sheet.tree.now.0 sheet.tree.now.1 sheet.leaves.now sheet.nodes.now sheet.states.now sheet.outward sheet.ends.now sheet.start) in
+    let s : Scene = (scene_of sheet) in
     let P : List Path → Type 0 = λ paths. paths ≡ range_paths side parts c.args.path in
     let Q : List Path → Type 0 = λ paths. ArePaths s side c.args.set.now c.args.path (suc (number_of side)) paths in
     IfOk-weaker c.address_paths.result P Q
@@ -60,7 +62,7 @@ returns-in-Src c =
     let sheet = c.args.sheet.now in
     let side = c.args.side in
     let parts = c.parts-in-Src.result.now in
-    let s : Scene = (scene sheet.site.now sheet.tree.now.0 sheet.tree.now.1 sheet.leaves.now sheet.nodes.now sheet.states.now sheet.outward sheet.ends.now sheet.start) in
+    let s : Scene = (scene_of sheet) in
     let P : List Path → Type 0 = λ paths. paths ≡ range_paths side parts c.args.path in
     let Q : List Path → Type 0 = λ paths. ArePaths s side c.args.set.now c.args.path (suc (number_of side)) paths in
     IfOk-weaker c.address_paths-in-Src.result P Q
@@ -72,7 +74,7 @@ returns-in-Dport c =
     let sheet = c.args.sheet.now in
     let side = c.args.side in
     let parts = c.parts-in-Dport.result.now in
-    let s : Scene = (scene sheet.site.now sheet.tree.now.0 sheet.tree.now.1 sheet.leaves.now sheet.nodes.now sheet.states.now sheet.outward sheet.ends.now sheet.start) in
+    let s : Scene = (scene_of sheet) in
     let P : List Path → Type 0 = λ paths. paths ≡ protocol_paths 6 side parts c.args.path ++ protocol_paths 17 side parts c.args.path in
     let Q : List Path → Type 0 = λ paths. ArePaths s side c.args.set.now c.args.path (suc (number_of side)) paths in
     IfOk-weaker c.port_paths.result P Q
@@ -84,7 +86,7 @@ returns-in-Sport c =
     let sheet = c.args.sheet.now in
     let side = c.args.side in
     let parts = c.parts-in-Sport.result.now in
-    let s : Scene = (scene sheet.site.now sheet.tree.now.0 sheet.tree.now.1 sheet.leaves.now sheet.nodes.now sheet.states.now sheet.outward sheet.ends.now sheet.start) in
+    let s : Scene = (scene_of sheet) in
     let P : List Path → Type 0 = λ paths. paths ≡ protocol_paths 6 side parts c.args.path ++ protocol_paths 17 side parts c.args.path in
     let Q : List Path → Type 0 = λ paths. ArePaths s side c.args.set.now c.args.path (suc (number_of side)) paths in
     IfOk-weaker c.port_paths-in-Sport.result P Q

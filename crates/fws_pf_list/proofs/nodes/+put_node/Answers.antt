@@ -3,11 +3,13 @@ use Rattle.std.proofs.lemmas.Option.{slice_get-get_or}
 use Rattle.fws_tree.specs.declared.node.Kid.{Kid}
 use Rattle.fws_tree.specs.declared.node.Node.TheVariants.{Cut}
 use Rattle.fws_sight.specs.Cuts.{IsCutNode}
-use Rattle.fws_pf_list.specs.Blocks.{scene, AreTurnRules, AreTurns, IsGoodTurn, IsRootNode, Scene}
+use Rattle.fws_pf_list.specs.Scenes.{IsRootNode, Scene}
+use Rattle.fws_pf_list.specs.Turns.{AreTurnRules, AreTurns, IsGoodTurn}
 use Rattle.fws_pf_list.specs.Paths.{no_parts, number_of}
 use Rattle.fws_pf_list.specs.declared.turn.Turn.{Turn}
 use Rattle.fws_pf_list.proofs.Listing.{cut_rules, drop_whole, good_later, no_turn_rules, turn_rules_more}
 use Rattle.fws_pf_list.proofs.nodes.+put_node.Goals as goal
+use Rattle.fws_pf_list.specs.Sheets.{scene_of}
 
 abbrev none : Turn
 none = record { path = no_parts; node = 0; falls = false }
@@ -25,7 +27,7 @@ cut_turns-requires-clause-node t c =
 pub cut_turns-requires-clause-good : goal.cut_turns-requires-clause-good
 cut_turns-requires-clause-good t c =
     let sheet = c.args.sheet.now in
-    let s : Scene = (scene sheet.site.now sheet.tree.now.0 sheet.tree.now.1 sheet.leaves.now sheet.nodes.now sheet.states.now sheet.outward sheet.ends.now sheet.start) in
+    let s : Scene = (scene_of sheet) in
     let nodes = sheet.nodes.now in
     let good = c.requires.good in
     let there : slice_get nodes c.args.at ≡ Some (Cut c.in-Cut.f c.in-Cut.kids) = slice_get-get_or nodes c.args.at c.index-sheet-at.result c.requires.inside ∙ ap Some c.in-Cut.is in
@@ -44,12 +46,12 @@ cut_turns-requires-clause-inward t c = λ out.
 pub loop-turn-init : goal.loop-turn-init
 loop-turn-init t c =
     let sheet = c.args.sheet.now in
-    ([], sym (append-nil c.args.rules.now), no_turn_rules (scene sheet.site.now sheet.tree.now.0 sheet.tree.now.1 sheet.leaves.now sheet.nodes.now sheet.states.now sheet.outward sheet.ends.now sheet.start) c.args.falls c.as_slice-turn-items.result.now)
+    ([], sym (append-nil c.args.rules.now), no_turn_rules (scene_of sheet) c.args.falls c.as_slice-turn-items.result.now)
 
 pub put_node-requires : goal.put_node-requires
 put_node-requires t c =
     let sheet = c.args.sheet.now in
-    let s : Scene = (scene sheet.site.now sheet.tree.now.0 sheet.tree.now.1 sheet.leaves.now sheet.nodes.now sheet.states.now sheet.outward sheet.ends.now sheet.start) in
+    let s : Scene = (scene_of sheet) in
     let items = c.as_slice-turn-items.result.now in
     let made : AreTurns s c.args.at c.args.path c.args.falls items =
     subst (λ (l : List Turn). AreTurns s c.args.at c.args.path c.args.falls l) (sym c.as_slice-turn-items.ensures) c.in_ok-turns-in-Some.ensures in
@@ -66,13 +68,13 @@ loop-turn-preserved t c =
     let put = c.in_ok-put_node-in-Some.ensures in (
       inv.0 ++ put.0,
       put.1 ∙ ap (λ l. l ++ put.0) inv.1 ∙ append_assoc c.args.rules.now inv.0 put.0,
-      turn_rules_more (scene sheet.site.now sheet.tree.now.0 sheet.tree.now.1 sheet.leaves.now sheet.nodes.now sheet.states.now sheet.outward sheet.ends.now sheet.start) c.args.falls c.as_slice-turn-items.result.now c.loop-turn.turn-index none inv.0 put.0 c.loop-turn-test.true inv.2 put.2,
+      turn_rules_more (scene_of sheet) c.args.falls c.as_slice-turn-items.result.now c.loop-turn.turn-index none inv.0 put.0 c.loop-turn-test.true inv.2 put.2,
     )
 
 pub returns-after-loop-turn : goal.returns-after-loop-turn
 returns-after-loop-turn t c =
     let sheet = c.args.sheet.now in
-    let s : Scene = (scene sheet.site.now sheet.tree.now.0 sheet.tree.now.1 sheet.leaves.now sheet.nodes.now sheet.states.now sheet.outward sheet.ends.now sheet.start) in
+    let s : Scene = (scene_of sheet) in
     let items = c.as_slice-turn-items.result.now in
     let inv = c.loop-turn.invariant in
     let inside = c.requires.inside in

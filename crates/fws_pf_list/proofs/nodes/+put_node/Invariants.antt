@@ -1,6 +1,7 @@
 use Rattle.std.proofs.Common.{◌≡◌, ◌++◌, List}
 use Rattle.fws_pf.specs.declared.config.PfNat.{PfNat}
-use Rattle.fws_pf_list.specs.Blocks.{scene, AreTurnRules}
+use Rattle.fws_pf_list.specs.Scenes.{scene}
+use Rattle.fws_pf_list.specs.Turns.{AreTurnRules}
 use Rattle.fws_pf_list.proofs.nodes.+put_node.Given as goal
 
 abbrev pub decreases-put_node : goal.decreases-put_node

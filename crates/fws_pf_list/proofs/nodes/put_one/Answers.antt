@@ -1,11 +1,13 @@
 use Rattle.std.proofs.Common.{◌≡◌, ℕ, Some, None, slice_get, ◌∙◌, ap}
 use Rattle.std.specs.Prelude.{slice_index}
 use Rattle.fws_pf_list.specs.declared.ends.Ends.TheVariants.{One}
-use Rattle.fws_pf_list.specs.Blocks.{root_nats, scene, Scene}
+use Rattle.fws_pf_list.specs.Scenes.{Scene}
+use Rattle.fws_pf_list.specs.Blocks.{root_nats}
 use Rattle.fws_pf_list.specs.Writings.{nats_of}
 use Rattle.fws_pf_list.proofs.Laws.{NodeLaws}
 use Rattle.fws_pf_list.proofs.Listing.{end_late, end_low, end_rules, root_none, root_rules}
 use Rattle.fws_pf_list.proofs.nodes.put_one.Goals as goal
+use Rattle.fws_pf_list.specs.Sheets.{scene_of}
 
 pub put_end-requires : goal.put_end-requires
 put_end-requires c = (c.args.sheet.now.site.now, c.requires.good.1.printed)
@@ -13,7 +15,7 @@ put_end-requires c = (c.args.sheet.now.site.now, c.requires.good.1.printed)
 pub returns-in_ok-put_end-in-Some : goal.returns-in_ok-put_end-in-Some
 returns-in_ok-put_end-in-Some c =
     let sheet = c.args.sheet.now in
-    let s : Scene = (scene sheet.site.now sheet.tree.now.0 sheet.tree.now.1 sheet.leaves.now sheet.nodes.now sheet.states.now sheet.outward sheet.ends.now sheet.start) in
+    let s : Scene = (scene_of sheet) in
     let laws : NodeLaws = record { leaf = c.leaf_nodes_are_leaves.ensures; cut = c.cut_nodes_part_values.ensures } in
     let at : ℕ = c.args.at in
     let end = c.in-Some.end in
@@ -29,7 +31,7 @@ returns-in_ok-put_end-in-Some c =
 pub returns-in_ok-put_root-in-None : goal.returns-in_ok-put_root-in-None
 returns-in_ok-put_root-in-None c =
     let sheet = c.args.sheet.now in
-    let s : Scene = (scene sheet.site.now sheet.tree.now.0 sheet.tree.now.1 sheet.leaves.now sheet.nodes.now sheet.states.now sheet.outward sheet.ends.now sheet.start) in
+    let s : Scene = (scene_of sheet) in
     let laws : NodeLaws = record { leaf = c.leaf_nodes_are_leaves.ensures; cut = c.cut_nodes_part_values.ensures } in
     let at : ℕ = c.args.at in
     let is : slice_get s.ends at ≡ Some (One None) = c.requires.there ∙ ap (λ o. Some (One o)) c.in-None.is in (

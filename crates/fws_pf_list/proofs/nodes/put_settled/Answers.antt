@@ -2,10 +2,12 @@ use Rattle.std.proofs.Common.{◌≡◌, ℕ, Some, slice_get, ◌∙◌, ap, ar
 use Rattle.std.proofs.lemmas.Option.{slice_get-get_or}
 use Rattle.std.specs.Prelude.{slice_index}
 use Rattle.fws_pf_list.specs.declared.ends.Ends.TheVariants.{Nothing, Many}
-use Rattle.fws_pf_list.specs.Blocks.{root_nats, scene, Scene}
+use Rattle.fws_pf_list.specs.Scenes.{Scene}
+use Rattle.fws_pf_list.specs.Blocks.{root_nats}
 use Rattle.fws_pf_list.proofs.Laws.{NodeLaws}
 use Rattle.fws_pf_list.proofs.Listing.{many_none, root_none, root_rules}
 use Rattle.fws_pf_list.proofs.nodes.put_settled.Goals as goal
+use Rattle.fws_pf_list.specs.Sheets.{scene_of}
 
 pub put_one-requires-clause-there : goal.put_one-requires-clause-there
 put_one-requires-clause-there c =
@@ -17,7 +19,7 @@ put_one-requires-clause-there c =
 pub returns-in_ok-put_root-in-Nothing : goal.returns-in_ok-put_root-in-Nothing
 returns-in_ok-put_root-in-Nothing c =
     let sheet = c.args.sheet.now in
-    let s : Scene = (scene sheet.site.now sheet.tree.now.0 sheet.tree.now.1 sheet.leaves.now sheet.nodes.now sheet.states.now sheet.outward sheet.ends.now sheet.start) in
+    let s : Scene = (scene_of sheet) in
     let laws : NodeLaws = record { leaf = c.leaf_nodes_are_leaves.ensures; cut = c.cut_nodes_part_values.ensures } in
     let at : ℕ = c.args.at in
     let inside = c.requires.inside in
@@ -32,7 +34,7 @@ returns-in_ok-put_root-in-Nothing c =
 pub returns-in_ok-put_root-in-Many : goal.returns-in_ok-put_root-in-Many
 returns-in_ok-put_root-in-Many c =
     let sheet = c.args.sheet.now in
-    let s : Scene = (scene sheet.site.now sheet.tree.now.0 sheet.tree.now.1 sheet.leaves.now sheet.nodes.now sheet.states.now sheet.outward sheet.ends.now sheet.start) in
+    let s : Scene = (scene_of sheet) in
     let laws : NodeLaws = record { leaf = c.leaf_nodes_are_leaves.ensures; cut = c.cut_nodes_part_values.ensures } in
     let at : ℕ = c.args.at in
     let inside = c.requires.inside in

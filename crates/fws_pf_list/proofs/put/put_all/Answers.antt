@@ -4,16 +4,19 @@ use Rattle.fws_iv.specs.declared.iv.Iv.{Iv}
 use Rattle.fws_pf.specs.declared.config.PfNat.{PfNat}
 use Rattle.fws_pf_list.specs.declared.path.Path.{Path}
 use Rattle.fws_pf_list.specs.declared.side.Side.{Side}
-use Rattle.fws_pf_list.specs.Blocks.{scene, AreNodeRules, IsPathTo, Scene}
+use Rattle.fws_pf_list.specs.Scenes.{Scene}
+use Rattle.fws_pf_list.specs.Turns.{IsPathTo}
+use Rattle.fws_pf_list.specs.Blocks.{AreNodeRules}
 use Rattle.fws_pf_list.specs.Paths.{nat_of, no_parts, part_of}
 use Rattle.fws_pf_list.proofs.Ending.{no_parts_ordered, whole_path_good}
 use Rattle.fws_pf_list.proofs.Listing.{whole_list}
 use Rattle.fws_pf_list.proofs.put.put_all.Goals as goal
+use Rattle.fws_pf_list.specs.Sheets.{scene_of}
 
 pub put_node-requires-clause-good : goal.put_node-requires-clause-good
 put_node-requires-clause-good c =
     let sheet = c.args.sheet.now in
-    let s : Scene = (scene sheet.site.now sheet.tree.now.0 sheet.tree.now.1 sheet.leaves.now sheet.nodes.now sheet.states.now sheet.outward sheet.ends.now sheet.start) in
+    let s : Scene = (scene_of sheet) in
     subst (λ (p : Path). IsPathTo s s.start p) (sym c.whole_path-path.ensures) (whole_path_good s)
 
 pub put_rule-requires : goal.put_rule-requires
@@ -23,7 +26,7 @@ put_rule-requires c =
 pub returns : goal.returns
 returns c =
     let sheet = c.args.sheet.now in
-    let s : Scene = (scene sheet.site.now sheet.tree.now.0 sheet.tree.now.1 sheet.leaves.now sheet.nodes.now sheet.states.now sheet.outward sheet.ends.now sheet.start) in
+    let s : Scene = (scene_of sheet) in
     let put = c.in_ok-put_node.ensures in
     let nat : PfNat = nat_of no_parts None (slice_index s.states s.start) in
     let rules : AreNodeRules s s.start no_parts true put.0 = subst (λ (p : Path). AreNodeRules s s.start p true put.0) c.whole_path-path.ensures put.2 in (

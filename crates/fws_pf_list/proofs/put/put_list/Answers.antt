@@ -1,6 +1,6 @@
 use Rattle.std.proofs.Common.{List, sym, subst}
 use Rattle.fws_pf_list.specs.declared.ends.Ends.{Ends}
-use Rattle.fws_pf_list.specs.Blocks.{scene, Scene}
+use Rattle.fws_pf_list.specs.Scenes.{scene, Scene}
 use Rattle.fws_pf_list.specs.Ends.{AreEnds}
 use Rattle.fws_pf_list.proofs.Ending.{plan_made}
 use Rattle.fws_pf_list.proofs.put.put_list.Goals as goal

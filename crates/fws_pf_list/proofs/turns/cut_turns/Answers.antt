@@ -1,25 +1,27 @@
 use Rattle.std.proofs.Common.{◌≡◌, ◌++◌, List, sym, ◌∙◌, ap, subst}
-use Rattle.fws_pf_list.specs.Blocks.{last_turns, scene, AreTurns, Scene}
+use Rattle.fws_pf_list.specs.Scenes.{Scene}
+use Rattle.fws_pf_list.specs.Turns.{last_turns, AreTurns}
 use Rattle.fws_pf_list.specs.Paths.{number_of}
 use Rattle.fws_pf_list.specs.declared.turn.Turn.{Turn}
 use Rattle.fws_pf_list.proofs.Kids.{kids_known, kids_within}
 use Rattle.fws_pf_list.proofs.Turning.{cut_made}
 use Rattle.fws_pf_list.proofs.turns.cut_turns.Goals as goal
+use Rattle.fws_pf_list.specs.Sheets.{scene_of}
 
 pub put_kids-requires-clause-within : goal.put_kids-requires-clause-within
 put_kids-requires-clause-within c =
     let sheet = c.args.sheet.now in
-    kids_within (scene sheet.site.now sheet.tree.now.0 sheet.tree.now.1 sheet.leaves.now sheet.nodes.now sheet.states.now sheet.outward sheet.ends.now sheet.start) c.args.at (number_of c.args.side) c.args.kids.now c.requires.node
+    kids_within (scene_of sheet) c.args.at (number_of c.args.side) c.args.kids.now c.requires.node
 
 pub put_kids-requires-clause-known : goal.put_kids-requires-clause-known
 put_kids-requires-clause-known c =
     let sheet = c.args.sheet.now in
-    kids_known (scene sheet.site.now sheet.tree.now.0 sheet.tree.now.1 sheet.leaves.now sheet.nodes.now sheet.states.now sheet.outward sheet.ends.now sheet.start) c.args.at (number_of c.args.side) c.args.kids.now c.requires.planned c.requires.inside c.requires.node
+    kids_known (scene_of sheet) c.args.at (number_of c.args.side) c.args.kids.now c.requires.planned c.requires.inside c.requires.node
 
 pub returns : goal.returns
 returns c =
     let sheet = c.args.sheet.now in
-    let s : Scene = (scene sheet.site.now sheet.tree.now.0 sheet.tree.now.1 sheet.leaves.now sheet.nodes.now sheet.states.now sheet.outward sheet.ends.now sheet.start) in
+    let s : Scene = (scene_of sheet) in
     let put = c.in_ok-put_kids.ensures in
     let all : c.put_last.new.turns ≡ put.0 ++ last_turns c.last_of-last.result c.args.path c.args.falls =
     c.in_ok-put_last.ensures ∙ ap (λ l. l ++ last_turns c.last_of-last.result c.args.path c.args.falls) (put.1 ∙ ap (λ l. l ++ put.0) c.new-turns.ensures) in

@@ -1,7 +1,8 @@
 use Rattle.std.proofs.Common.{◌++◌, ◌∙◌, ap}
-use Rattle.fws_pf_list.specs.Blocks.{passes_root, scene, turns_to}
+use Rattle.fws_pf_list.specs.Turns.{passes_root, turns_to}
 use Rattle.fws_pf_list.proofs.Turning.{kid_tests}
 use Rattle.fws_pf_list.proofs.turns.put_kid.Goals as goal
+use Rattle.fws_pf_list.specs.Sheets.{scene_of}
 
 pub returns : goal.returns
 returns c =
@@ -10,5 +11,5 @@ returns c =
     let paths = c.in_ok-paths.paths in (
       turns_to kid.node (passes_root c.args.last) paths,
       c.in_ok-put_paths.ensures ∙ ap (λ b. c.args.turns.now ++ turns_to kid.node b paths) c.passes.ensures,
-      kid_tests (scene sheet.site.now sheet.tree.now.0 sheet.tree.now.1 sheet.leaves.now sheet.nodes.now sheet.states.now sheet.outward sheet.ends.now sheet.start) c.args.side kid c.args.path c.args.last paths c.in_ok-paths.ensures,
+      kid_tests (scene_of sheet) c.args.side kid c.args.path c.args.last paths c.in_ok-paths.ensures,
     )

@@ -2,10 +2,11 @@ use Rattle.std.proofs.Common.{◌≡◌, ℕ, ◌<◌, ◌≤◌, ◌++◌, [], 
 use Rattle.std.proofs.lemmas.Option.{slice_get-get_or}
 use Rattle.fws_iv.specs.Ivs.{has}
 use Rattle.fws_tree.specs.declared.node.Kid.{Kid}
-use Rattle.fws_pf_list.specs.Blocks.{scene, AreTests}
+use Rattle.fws_pf_list.specs.Turns.{AreTests}
 use Rattle.fws_pf_list.specs.Paths.{number_of}
 use Rattle.fws_pf_list.proofs.Turning.{no_tests, tests_more}
 use Rattle.fws_pf_list.proofs.turns.put_kids.Goals as goal
+use Rattle.fws_pf_list.specs.Sheets.{scene_of}
 
 pub put_kid-requires-clause-within : goal.put_kid-requires-clause-within
 put_kid-requires-clause-within c =
@@ -19,7 +20,7 @@ put_kid-requires-clause-known c =
 pub loop-kid-init : goal.loop-kid-init
 loop-kid-init c =
     let sheet = c.args.sheet.now in
-    ([], sym (append-nil c.args.turns.now), no_tests (scene sheet.site.now sheet.tree.now.0 sheet.tree.now.1 sheet.leaves.now sheet.nodes.now sheet.states.now sheet.outward sheet.ends.now sheet.start) c.args.side c.args.kids.now c.args.path c.args.last)
+    ([], sym (append-nil c.args.turns.now), no_tests (scene_of sheet) c.args.side c.args.kids.now c.args.path c.args.last)
 
 pub loop-kid-preserved : goal.loop-kid-preserved
 loop-kid-preserved c =
@@ -31,7 +32,7 @@ loop-kid-preserved c =
     let there : slice_get kids c.loop-kid.kid-index ≡ Some kid = slice_get-get_or kids c.loop-kid.kid-index kid c.loop-kid-test.true ∙ ap Some (sym c.kid-item.is) in (
       inv.0 ++ put.0,
       put.1 ∙ ap (λ l. l ++ put.0) inv.1 ∙ append_assoc c.args.turns.now inv.0 put.0,
-      tests_more (scene sheet.site.now sheet.tree.now.0 sheet.tree.now.1 sheet.leaves.now sheet.nodes.now sheet.states.now sheet.outward sheet.ends.now sheet.start) c.args.side kids c.args.path c.args.last c.loop-kid.kid-index kid inv.0 put.0 there inv.2 put.2,
+      tests_more (scene_of sheet) c.args.side kids c.args.path c.args.last c.loop-kid.kid-index kid inv.0 put.0 there inv.2 put.2,
     )
 
 pub returns : goal.returns
@@ -39,4 +40,4 @@ returns c =
     let sheet = c.args.sheet.now in
     let inv = c.loop-kid.invariant in
     let end : c.loop-kid.kid-index ≡ length c.args.kids.now = omega arith in
-    (inv.0, inv.1, subst (λ n. AreTests (scene sheet.site.now sheet.tree.now.0 sheet.tree.now.1 sheet.leaves.now sheet.nodes.now sheet.states.now sheet.outward sheet.ends.now sheet.start) c.args.side c.args.kids.now c.args.path c.args.last n inv.0) end inv.2)
+    (inv.0, inv.1, subst (λ n. AreTests (scene_of sheet) c.args.side c.args.kids.now c.args.path c.args.last n inv.0) end inv.2)

@@ -1,6 +1,7 @@
 use Rattle.std.proofs.Common.{◌≡◌, ◌++◌, List}
 use Rattle.fws_pf_list.specs.declared.turn.Turn.{Turn}
-use Rattle.fws_pf_list.specs.Blocks.{scene, AreTests}
+use Rattle.fws_pf_list.specs.Scenes.{scene}
+use Rattle.fws_pf_list.specs.Turns.{AreTests}
 use Rattle.fws_pf_list.proofs.turns.put_kids.Given as goal
 
 abbrev pub invariant-loop-kid : goal.invariant-loop-kid

@@ -1,5 +1,5 @@
 use Rattle.std.proofs.Common.{◌≡◌, ◌++◌}
-use Rattle.fws_pf_list.specs.Blocks.{turns_to}
+use Rattle.fws_pf_list.specs.Turns.{turns_to}
 use Rattle.fws_pf_list.proofs.turns.put_paths.Given as goal
 
 abbrev pub invariant-loop-path : goal.invariant-loop-path
