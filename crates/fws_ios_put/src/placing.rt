@@ -16,9 +16,9 @@ use fws_ios::IosConfig;
 use fws_net::{Lang, Site};
 use fws_num::Memory;
 use fws_place::{
-    Breach, FitAnswer, PlaceAnswer, check, ios_accepted_go_on, ios_ack_ahead,
-    ios_established_by_ack, ios_host_passes, ios_keeps_new_packets, ios_new_by_ack,
-    ios_pairs_are_told, lost_pairs_are_dropped,
+    Breach, PlaceAnswer, check, ios_accepted_go_on, ios_ack_ahead, ios_established_by_ack,
+    ios_host_passes, ios_keeps_new_packets, ios_new_by_ack, ios_pairs_are_told,
+    lost_pairs_are_dropped,
 };
 use fws_rule::orderly_sites_are_named;
 use fws_tree::{Tables, Tree};
@@ -90,13 +90,7 @@ pub fn place(alloc: Global, t: &Tables, site: &Site) -> Result<IosConfig, PlaceA
     ensures placed { IfOk result (IsPlaced site.now t.now) }
     ensures breach { (b : Breach) → result ≡ Err (PlaceAnswer.Unfit b) → IsBreach langs.Ios site.now t.now b }
 {
-    match check(alloc, Lang::Ios, t, site) {
-        Err(FitAnswer::Unfit(breach)) => return Err(PlaceAnswer::Unfit(breach)),
-        Err(FitAnswer::Memory) => return Err(PlaceAnswer::Memory),
-        Ok(()) => {}
-    }
-    match put_tables(alloc, site, t) {
-        Ok(config) => Ok(config),
-        Err(_) => Err(PlaceAnswer::Memory),
-    }
+    check(alloc, Lang::Ios, t, site)?;
+    let config = put_tables(alloc, site, t)?;
+    Ok(config)
 }

@@ -9,5 +9,7 @@ mod laying;
 mod placing;
 mod rules;
 mod sections;
+mod tracking;
 
-pub use placing::{place, tracks};
+pub use placing::place;
+pub use tracking::tracks;

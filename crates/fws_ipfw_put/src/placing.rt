@@ -1,7 +1,6 @@
 //! Tables placed.
 
-ghost use Rattle.std.specs.Prelude.{◌≡◌, ◌≤◌, ◌||◌, not, length, Err, IfOk, OnOk};
-ghost use Rattle.fws_ipfw.specs.RuleText.{allows};
+ghost use Rattle.std.specs.Prelude.{◌≡◌, ◌≤◌, length, Err, IfOk, OnOk};
 ghost use Rattle.fws_net.specs.Points.{tops_of};
 ghost use Rattle.fws_net.specs.Routes.{IsSound};
 ghost use Rattle.fws_net.specs.declared.packet.Lang.TheVariants as langs;
@@ -11,19 +10,18 @@ ghost use Rattle.fws_place.specs.Seen.{IsAcceptedAlike, IsAcceptedSomewhere, Tel
 ghost use Rattle.fws_tree.specs.Regular.{AreRegular};
 ghost use Rattle.fws_ipfw_put.specs.Known.{Known};
 ghost use Rattle.fws_ipfw_put.specs.Laid.{AreEnds, AreRulesBy};
-ghost use Rattle.fws_ipfw_put.specs.Placed.{IsPlaced, tracks};
+ghost use Rattle.fws_ipfw_put.specs.Placed.{IsPlaced};
 ghost use Rattle.fws_ipfw_put.specs.Redirects.{AreRedirects};
 
 use crate::ends::{destinations_of, sources_of};
 use crate::guard::met;
 use crate::laying::{nats_of, rules_of};
-use fws_ipfw::{IpfwAct, IpfwConfig, IpfwRule};
+use fws_ipfw::{IpfwConfig, IpfwRule};
 use fws_net::{End, Lang, Site};
 use fws_num::{Items, Memory};
 use fws_place::{
-    Breach, FitAnswer, PlaceAnswer, Redirect, Views, check, ipfw_drops_new_arrivals,
-    ipfw_drops_new_host, ipfw_pairs_are_told, lost_pairs_are_dropped, points_are_seen, redirects,
-    seen, views_are_told,
+    Breach, PlaceAnswer, Redirect, Views, check, ipfw_drops_new_arrivals, ipfw_drops_new_host,
+    ipfw_pairs_are_told, lost_pairs_are_dropped, points_are_seen, redirects, seen, views_are_told,
 };
 use fws_tree::Tables;
 use indexmap::IndexSet;
@@ -141,35 +139,9 @@ pub fn place(alloc: Global, t: &Tables, site: &Site) -> Result<IpfwConfig, Place
     ensures placed { IfOk result (IsPlaced site.now t.now) }
     ensures breach { (b : Breach) → result ≡ Err (PlaceAnswer.Unfit b) → IsBreach langs.Ipfw site.now t.now b }
 {
-    match check(alloc, Lang::Ipfw, t, site) {
-        Err(FitAnswer::Unfit(breach)) => return Err(PlaceAnswer::Unfit(breach)),
-        Err(FitAnswer::Memory) => return Err(PlaceAnswer::Memory),
-        Ok(()) => {}
-    }
-    let Ok(views) = seen(alloc, site, t) else {
-        return Err(PlaceAnswer::Memory);
-    };
+    check(alloc, Lang::Ipfw, t, site)?;
+    let views = seen(alloc, site, t)?;
     known(site, t, &views);
-    match put_tables(alloc, site, t, &views) {
-        Ok(config) => Ok(config),
-        Err(_) => Err(PlaceAnswer::Memory),
-    }
-}
-
-/// Whether the rule keeps state, if it allows packets.
-fn keeps_state(rule: &IpfwRule) -> bool
-    ensures { result ≡ (not (allows rule.now.act) || rule.now.keep) }
-{
-    match rule.act {
-        IpfwAct::Allow => rule.keep,
-        IpfwAct::Deny | IpfwAct::Count | IpfwAct::Skip(_) | IpfwAct::Check | IpfwAct::Nat(_) =>
-            true,
-    }
-}
-
-/// Whether the configuration keeps state: each rule that allows packets does.
-pub fn tracks(c: &IpfwConfig, _site: &Site) -> bool
-    ensures { result ≡ tracks _site.now c.now }
-{
-    c.rules.as_slice().iter().all(|rule| keeps_state(rule))
+    let config = put_tables(alloc, site, t, &views)?;
+    Ok(config)
 }

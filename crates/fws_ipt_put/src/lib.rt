@@ -13,5 +13,7 @@ mod nat;
 mod placing;
 mod roots;
 mod rules;
+mod tracking;
 
-pub use placing::{place, tracks};
+pub use placing::place;
+pub use tracking::tracks;

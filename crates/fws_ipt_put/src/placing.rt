@@ -1,6 +1,6 @@
 //! Tables placed.
 
-ghost use Rattle.std.specs.Prelude.{◌≡◌, ◌<◌, ◌+◌, ◌^◌, ◌≤◌, length, map, Err, IfOk, OnOk, All};
+ghost use Rattle.std.specs.Prelude.{◌≡◌, ◌<◌, Err, IfOk, OnOk};
 ghost use Rattle.fws_net.specs.Points.{tops_of};
 ghost use Rattle.fws_net.specs.Routes.{IsSound};
 ghost use Rattle.fws_net.specs.declared.packet.Lang.TheVariants as langs;
@@ -9,7 +9,7 @@ ghost use Rattle.fws_place.specs.Seen.{IsAcceptedAlike, IsAcceptedSomewhere, Tel
 ghost use Rattle.fws_tree.specs.Regular.{AreRegular};
 ghost use Rattle.fws_sight.specs.SightLaws.{HasImages};
 ghost use Rattle.fws_ipt_put.specs.Marks.{AreMarks, passing, verdict_of};
-ghost use Rattle.fws_ipt_put.specs.Placed.{IsPlaced, tracks};
+ghost use Rattle.fws_ipt_put.specs.Placed.{IsPlaced};
 
 use crate::draft::drafted;
 use crate::labels::{Decisions, labelled};
@@ -20,7 +20,7 @@ use fws_ipt_tree::Verdict;
 use fws_net::{Lang, Outcome, Site};
 use fws_num::Memory;
 use fws_place::{
-    Breach, FitAnswer, PlaceAnswer, Views, check, fitting_pairs_are_told, lost_pairs_are_dropped,
+    Breach, PlaceAnswer, Views, check, fitting_pairs_are_told, lost_pairs_are_dropped,
     points_are_seen, seen, views_are_told,
 };
 use fws_sight::relabelled_trees_are_told;
@@ -121,23 +121,8 @@ pub fn place(alloc: Global, t: &Tables, site: &Site) -> Result<IptConfig, PlaceA
     ensures placed { IfOk result (IsPlaced site.now t.now) }
     ensures breach { (b : Breach) → result ≡ Err (PlaceAnswer.Unfit b) → IsBreach langs.Iptables site.now t.now b }
 {
-    match check(alloc, Lang::Iptables, t, site) {
-        Err(FitAnswer::Unfit(breach)) => return Err(PlaceAnswer::Unfit(breach)),
-        Err(FitAnswer::Memory) => return Err(PlaceAnswer::Memory),
-        Ok(()) => {}
-    }
-    let Ok(views) = seen(alloc, site, t) else {
-        return Err(PlaceAnswer::Memory);
-    };
-    match put_tables(alloc, site, t, &views) {
-        Ok(config) => Ok(config),
-        Err(_) => Err(PlaceAnswer::Memory),
-    }
-}
-
-/// Whether the configuration keeps state. Every configuration of iptables does.
-pub fn tracks(_c: &IptConfig, _site: &Site) -> bool
-    ensures { result ≡ tracks _site.now _c.now }
-{
-    true
+    check(alloc, Lang::Iptables, t, site)?;
+    let views = seen(alloc, site, t)?;
+    let config = put_tables(alloc, site, t, &views)?;
+    Ok(config)
 }

@@ -11,5 +11,7 @@ mod renaming;
 mod renumbering;
 mod sources;
 mod states;
+mod tracking;
 
-pub use placing::{place, tracks};
+pub use placing::place;
+pub use tracking::tracks;

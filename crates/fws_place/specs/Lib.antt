@@ -1,5 +1,4 @@
 pub mod AheadOfLookup
-pub mod Answers
 pub mod Apart
 pub mod Asked
 pub mod ByAck

@@ -1,8 +1,5 @@
 //! Why a system can't hold a policy.
 
-ghost use Rattle.std.specs.Prelude.{◌≡◌};
-ghost use Rattle.fws_place.specs.Answers.{placing};
-
 use crate::clause::Clause;
 use fws_net::{Packet, Rec};
 use fws_num::Memory;
@@ -28,28 +25,7 @@ pub struct Breach {
     pub second: Option<Pair>,
 }
 
-/// Why tables weren't found to fit.
-#[derive(Clone, Copy, Debug, PartialEq, Eq, Error)]
-pub enum FitAnswer {
-    /// A clause isn't met.
-    #[error("the tables don't fit: {0:?}")]
-    Unfit(Breach),
-    /// Memory was wanting.
-    #[error("out of memory")]
-    Memory,
-}
-
-impl From<Memory> for FitAnswer {
-    ghost use Rattle.fws_place.specs.declared.breach.FitAnswer.TheVariants as answers;
-
-    ghost from_gives = { λ _ e. e ≡ answers.Memory };
-
-    fn from(_e: Memory) -> FitAnswer {
-        FitAnswer::Memory
-    }
-}
-
-/// Why tables weren't placed.
+/// Why tables weren't found to fit, and so weren't placed.
 #[derive(Clone, Copy, Debug, PartialEq, Eq, Error)]
 pub enum PlaceAnswer {
     /// A clause isn't met.
@@ -67,16 +43,5 @@ impl From<Memory> for PlaceAnswer {
 
     fn from(_e: Memory) -> PlaceAnswer {
         PlaceAnswer::Memory
-    }
-}
-
-impl From<FitAnswer> for PlaceAnswer {
-    ghost from_gives = { λ fit e. e ≡ placing fit };
-
-    fn from(fit: FitAnswer) -> PlaceAnswer {
-        match fit {
-            FitAnswer::Unfit(breach) => PlaceAnswer::Unfit(breach),
-            FitAnswer::Memory => PlaceAnswer::Memory,
-        }
     }
 }

@@ -6,7 +6,7 @@ ghost use Rattle.fws_place.specs.Fits.{Fits, IsBreach};
 ghost use Rattle.fws_place.specs.Found.{IsSought};
 ghost use Rattle.fws_tree.specs.Regular.{AreRegular};
 
-use crate::breach::{Breach, FitAnswer, Pair};
+use crate::breach::{Breach, Pair, PlaceAnswer};
 use crate::clause::{Clause, clauses_of};
 use crate::drops_ahead_of_lookup::drops_ahead_of_lookup;
 use crate::drops_always::drops_always;
@@ -64,15 +64,15 @@ fn broken(
 
 /// Whether the system can hold the tables: `Ok` exactly where they meet each of its clauses, and else the first
 /// clause that they don't meet, with packets that show so.
-pub fn check(alloc: Global, target: Lang, tables: &Tables, site: &Site) -> Result<(), FitAnswer>
+pub fn check(alloc: Global, target: Lang, tables: &Tables, site: &Site) -> Result<(), PlaceAnswer>
     requires sound { IsSound site.now }
     requires regular { AreRegular site.now tables.now }
     ensures fits { OnOk result (Fits target site.now tables.now) }
-    ensures breach { (b : Breach) → result ≡ Err (FitAnswer.Unfit b) → IsBreach target site.now tables.now b }
+    ensures breach { (b : Breach) → result ≡ Err (PlaceAnswer.Unfit b) → IsBreach target site.now tables.now b }
 {
     for clause in clauses_of(target) {
         if let Some((first, second)) = broken(alloc, *clause, site, tables)? {
-            return Err(FitAnswer::Unfit(Breach {
+            return Err(PlaceAnswer::Unfit(Breach {
                 clause: *clause,
                 first,
                 second,

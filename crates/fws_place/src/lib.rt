@@ -47,7 +47,7 @@ mod writes_inside_out;
 mod writes_whole_addresses;
 mod written_into;
 
-pub use breach::{Breach, FitAnswer, Pair, PlaceAnswer};
+pub use breach::{Breach, Pair, PlaceAnswer};
 pub use checking::check;
 pub use clause::{Clause, clauses_of};
 pub use few_redirects::redirects;
