@@ -1,4 +1,22 @@
 //! Entries that cover a set of packets within another.
+//!
+//! The idea: between a set that has to be matched and a wider one that may be, entries are free. A list that permits packets of
+//! connections, say, needs to deny those that are never accepted, and does no harm where it denies more of what is dropped
+//! anyway. So the entries are found from the rows of the needed set, each made as wide as the other set lets it be.
+//!
+//! One row at a time (`parts`): a row is a box, one set for each field. Entries ask for ports under TCP or UDP alone, and for
+//! types under ICMP alone, so the box is cut by classes of protocols (`class`): with ports, with types, without either; or TCP
+//! alone where ACK or RST is asked. Of each part the fields are dropped one after another, each where the part without it still
+//! lies in the wider set (`widening`): ports and types first, then the protocol, then the addresses, the other way round from
+//! what an entry costs least to ask for. What is left is written as paths, a prefix or a range for each piece (`asking`), and a
+//! path that was met before isn't kept again (`kept`).
+//!
+//! What holds: each path lies in the wider set, as each part does after each step, which is tested and not argued: a restriction
+//! of the wider set's tree to the part, that has to be true everywhere. And each row's packets are on the row's paths, since
+//! parts only grow.
+//!
+//! The cost: rows times classes times the pieces of a part, and at most six tests of inclusion for each part, of which each
+//! restricts the wider set's tree once.
 
 ghost use Rattle.std.specs.Prelude.{◌≡◌, ◌++◌, ℕ, List, Some, true, IfOk, OnOk};
 ghost use Rattle.fws_box.specs.Sides.{IsWithin};

@@ -1,4 +1,20 @@
 //! The entries of nodes.
+//!
+//! The idea: of an access list the first entry that matches decides, and behind the last one packets are denied. The tree of
+//! truth values is unfolded along its paths: an entry for each path, which permits where the leaf is true and denies where it
+//! is false.
+//!
+//! What saves entries is what a path may fall to. `falls` is the value that packets get from what stands behind if no entry of
+//! the node matches them. At the root it is false, since lists deny at their end; at a cut one kid is left to the end, and where
+//! that kid is a leaf, the turns before it fall to its value (`turns`). A leaf with the value to which its packets fall needs no
+//! entry. Which kid is left to the end is chosen by how many entries that saves, by the sizes of nodes, which are counted in one
+//! pass from the first node to the last (`sizes`); they are a hint, and nothing has to be known of them.
+//!
+//! What holds: the entries of a node on a path match no packet that isn't on the path. A packet on it, seen at a point where the
+//! node's tree has a value, is given that value by the first entry that matches; or it passes all entries, if it falls to it.
+//!
+//! The cost: an entry for each path to a leaf that isn't fallen to, times the pieces of the sets on it (prefixes, ranges of
+//! ports, single types).
 
 ghost use Rattle.std.specs.Prelude.{◌≡◌, ◌<◌, ◌++◌, ◌∷◌, [], length, OnOk};
 ghost use Rattle.fws_ios.specs.declared.config.IosEntry.{IosEntry};

@@ -1,4 +1,19 @@
 //! What a list permits and denies, told by as few fields as can be.
+//!
+//! A translation list is given two sets: packets that it has to permit, since its source is written over them, and packets that
+//! it has to deny, since a later source is, or none. Packets in neither may go either way: they don't cross, or an earlier list
+//! has taken them. So the two sets are made wider as long as they stay apart, and the wider they are, the fewer fields the list
+//! has to ask for.
+//!
+//! A field goes by projecting it away in both sets (`exists`): then neither tells packets apart by it. If both are still apart,
+//! the wider sets take the place of the old ones; if not, the old ones stay. Fields go one after another, those first that cost
+//! entries most: the type, the ports, the protocol with all of these, and last the addresses. The order decides only how short
+//! a list becomes, never what it does.
+//!
+//! What holds at each step: the permitted set has at least what had to be permitted, the denied one at least what had to be
+//! denied, and no packet is in both.
+//!
+//! The cost: six times two projections and one meeting of the trees, for each source.
 
 ghost use Rattle.std.specs.Prelude.{◌≡◌, true, Some, None, if◌then◌else◌, IfOk, IfSome};
 ghost use Rattle.std.specs.List.{list_any};

@@ -1,4 +1,23 @@
 //! A decision tree as a list of rules.
+//!
+//! The idea: rules of ipfw stand in one list of which the first that holds decides, and all rules of a list here have one
+//! number, so that none can be skipped to. So the tree is unfolded: each path from the root to a leaf becomes a rule whose
+//! condition is what the path asks, and whose act is the leaf's choice.
+//!
+//! The order is what saves rules. At a cut the kids are taken one after the other, each as a turn with the literal of its set
+//! (`turns`), and the last turn has no literal: behind the others it takes what none of them took. That is the kid whose tests
+//! would be the most (`default`). So a kid with many pieces costs nothing, and neither does a chain of cuts that goes to it.
+//! A set of addresses or ports that is longer than one list may hold is divided into groups (`groups`).
+//!
+//! What holds: the rules of a node under a condition decide on each packet for which the condition holds, and in favour of a
+//! choice that the packet reaches in the node's tree; other packets pass them. A condition grows by one literal at each cut,
+//! and never by two of one field, since no path cuts a field twice.
+//!
+//! A cut of the entry at the root is special: packets of the section's origin are asked for their interface, or for having none
+//! (`root`).
+//!
+//! The cost: a rule for each path, that is the product of the pieces along it, but for the kids without a test. A tree that
+//! shares much is written many times; the chains of iptables don't have this.
 
 ghost use Rattle.std.specs.Prelude.{◌≡◌, ◌<◌, ◌≤◌, ◌-◌, ◌∷◌, [], Some, length, slice_get, OnOk};
 ghost use Rattle.fws_ipfw.specs.declared.config.IpfwRule.{IpfwRule};

@@ -1,4 +1,27 @@
 //! A decision tree as chains.
+//!
+//! The idea: a cut of the tree becomes one chain, whose rules test the cut's field and go to the chains of the kids, and a leaf
+//! becomes an act. A tree shares its nodes, and chains are shared in the same way: a node to which many cuts lead is one chain,
+//! so that there are as many chains as cuts, however many paths the tree has.
+//!
+//! The order: kids stand before the cuts that lead to them, so one pass over the nodes from the first to the last is enough
+//! (`nodes`). When a cut is met, the acts of all its kids are known.
+//!
+//! One kid of a cut needs no test. The sets of the kids part the values of the field, so a last rule without a test takes what
+//! no rule before took (`default`). It goes to the kid whose tests would be the most, unless there is a value that no rule can
+//! test alone (protocol 0, ICMP type 255): then to the kid that has it.
+//!
+//! What holds: the act of a node leads a packet to the value which the node's tree has at each point as which the packet is
+//! seen, whatever chains stand behind. Fields that rules don't see have one rule, since by what is known of the tree all their
+//! kids lead to the same values. A test of ports is read only under TCP or UDP, so each node is told which of them come to it
+//! (`coming`): a pass from the last node to the first, which lets both flow from a cut to its kids as far as the sets between
+//! let them through.
+//!
+//! A root that cuts the entry isn't a chain. The caller gets a branch for each of its kids, since built-in chains test
+//! interfaces.
+//!
+//! The cost: a rule for each piece of each kid's set but one (a prefix or a range, a list of at most fifteen ports, a cube of
+//! flags), so that rules grow with the nodes times their pieces.
 
 ghost use Rattle.std.specs.Prelude.{◌≡◌, ◌≢◌, ◌≤◌, ◌<◌, ◌+◌, ◌-◌, ◌∷◌, [], true, length, map, slice_get, Some, All, IfOk, OnOk};
 ghost use Rattle.fws_ipt.specs.declared.config.IptTable.{IptTable};

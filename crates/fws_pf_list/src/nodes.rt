@@ -1,4 +1,27 @@
 //! The translations of nodes.
+//!
+//! The idea: of a list of translations the first that matches decides, and it doesn't go on to another list. So the tree is
+//! unfolded along its paths, as it is for ipfw. What differs is what has to be told apart: on the in pass only the destinations
+//! that are written, and on the out pass only the sources. Each node therefore has its ends (`ends`): none, one (or that none is
+//! written), or many, found in one pass from the first node to the last.
+//!
+//! Where the ends of a node are settled, the path needs no further test: all packets on it that are accepted get this end, and
+//! one that is dropped may be translated, too, since the filter drops it whatever is written. So a tree of thousands of nodes
+//! that writes one end is one translation. Where there are many, the node is unfolded: at each turn a kid's set narrows the path
+//! (`narrowing`), and the kid that would take most translations comes last without a test (`default`).
+//!
+//! Packets that get no end need a translation only where a later one could match them: a `no` translation ends their search.
+//! `falls` says that they may fall to what stands behind: it is true at the root, and for the last turn of a cut, and false for
+//! the turns before it.
+//!
+//! What holds: the translations of a node on a path match no packet that isn't on the path. A packet on it that comes to the
+//! node is led by the first that matches: to its end and to the tag of the node's state, from which the filter goes on; or it
+//! passes them all, if it gets no end and may fall.
+//!
+//! An end that keeps a part of the address is written once for each block of addresses that the path meets, and a port under TCP
+//! and UDP alone (`writings`).
+//!
+//! The cost: a translation for each path down to where ends are settled, times the pieces of the sets on it.
 
 ghost use Rattle.std.specs.Prelude.{◌≡◌, ◌≤◌, ◌<◌, ◌++◌, [], true, Some, length, OnOk, slice_get, slice_index, MatchOption, IsTrue};
 ghost use Rattle.fws_net.specs.declared.site.Site.{Site};

@@ -1,4 +1,25 @@
 //! The filter rules of a tree.
+//!
+//! The idea: rules of pf are walked through to the end, and the last one that matches decides. A packet can carry tags. So the
+//! walk down the tree is done by tags: a packet that has come to a node has the node's tag, and the rules of the node test its
+//! field and put the tag of a kid. The first rule of all blocks, and the last ones pass packets that have the tag of an
+//! accepting leaf.
+//!
+//! The order: a kid stands before its cut among the nodes, so the rules of the last node come first, and one pass through the
+//! rules takes each packet down to its leaf. Each rule tests one field and one tag, so that no condition is long, and there are
+//! as many blocks of rules as nodes, however many paths the tree has.
+//!
+//! States: nodes that decide alike need one tag (`states`). Leaves that drop have one, leaves that accept with the same source
+//! have one, since the filter doesn't write destinations, and a cut whose kids all have one state has it too, and no rules.
+//!
+//! One state of a cut needs no test: its last rule asks for the tag alone, and puts that of the state whose kids together would
+//! take most tests (`default`). If packets are dropped there, not even that rule is needed: they keep the tag of the cut, which
+//! no rule passes.
+//!
+//! What holds, from the end: rules from those of a node on decide for packets with the tags of the nodes before it, by what is
+//! reached below these; a node's block moves its own tag to a node below which nothing else is reached, and lets other tags by.
+//!
+//! The cost: a rule for each piece of each kid's set but those of one state.
 
 ghost use Rattle.std.specs.Prelude.{◌≡◌, length, IfOk, OnOk};
 ghost use Rattle.fws_pf.specs.declared.config.PfRule.{PfRule};

@@ -1,4 +1,15 @@
 //! Points that agree in all fields but some and have different leaves.
+//!
+//! The question is whether what a tree gives depends on fields on which it must not depend, as the destination of a packet on
+//! its flags. A walk over pairs of points would meet their product. Projecting the fields away answers it for a tree of truth
+//! values (`true_near`): somewhere near a point the tree is true, so let both trees be true together and project one of them.
+//!
+//! For leaves of any kind: give each leaf a number. If two leaves differ, their numbers differ in some binary digit. So for each
+//! digit make two trees of truth values, one of the leaves with the digit set and one of those without, and ask whether there
+//! are near points of which the one has the first and the other the second. A leaf that doesn't count is in neither.
+//!
+//! The cost: as many digits as the number of leaves has, and a few changes of the tree for each. Nothing walks over pairs of
+//! nodes or leaves.
 
 ghost use Rattle.std.specs.Prelude.{◌≡◌, ◌<◌, IfOk, All, Contains};
 ghost use Rattle.fws_place.specs.Apart.{has_bit, is_marked, place_in, HasValuesAmong, AreFoundApart};
