@@ -7,9 +7,8 @@
 //! One row at a time (`parts`): a row is a box, one set for each field. Entries ask for ports under TCP or UDP alone, and for
 //! types under ICMP alone, so the box is cut by classes of protocols (`class`): with ports, with types, without either; or TCP
 //! alone where ACK or RST is asked. Of each part the fields are dropped one after another, each where the part without it still
-//! lies in the wider set (`widening`): ports and types first, then the protocol, then the addresses, the other way round from
-//! what an entry costs least to ask for. What is left is written as paths, a prefix or a range for each piece (`asking`), and a
-//! path that was met before isn't kept again (`kept`).
+//! lies in the wider set (`widening`): ports and types first, then the protocol, then the addresses. What is left is written as
+//! paths, a prefix or a range for each piece (`asking`), and a path that was met before isn't kept again (`kept`).
 //!
 //! What holds: each path lies in the wider set, as each part does after each step, which is tested and not argued: a restriction
 //! of the wider set's tree to the part, that has to be true everywhere. And each row's packets are on the row's paths, since
