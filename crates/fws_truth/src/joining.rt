@@ -21,9 +21,9 @@ impl Relabelling<bool, bool> for Not {
 }
 
 /// Whether both truth values are true.
-struct Both;
+struct And;
 
-impl Relabelling<(bool, bool), bool> for Both {
+impl Relabelling<(bool, bool), bool> for And {
     ghost use Rattle.std.specs.Prelude.{◌&&◌};
 
     ghost gives = { λ s leaf. leaf.0 && leaf.1 };
@@ -34,9 +34,9 @@ impl Relabelling<(bool, bool), bool> for Both {
 }
 
 /// Whether one of two truth values is true.
-struct Either;
+struct Or;
 
-impl Relabelling<(bool, bool), bool> for Either {
+impl Relabelling<(bool, bool), bool> for Or {
     ghost use Rattle.std.specs.Prelude.{◌||◌};
 
     ghost gives = { λ s leaf. leaf.0 || leaf.1 };
@@ -47,9 +47,9 @@ impl Relabelling<(bool, bool), bool> for Either {
 }
 
 /// Whether the first truth value is true and the second one isn't.
-struct Without;
+struct AndNot;
 
-impl Relabelling<(bool, bool), bool> for Without {
+impl Relabelling<(bool, bool), bool> for AndNot {
     ghost use Rattle.std.specs.Prelude.{◌&&◌, not};
 
     ghost gives = { λ s leaf. leaf.0 && not leaf.1 };
@@ -74,7 +74,7 @@ pub fn both(alloc: Global, first: &Tree<bool>, second: &Tree<bool>) -> Result<Tr
     ensures value { IfOk result (λ t. AreJoined (λ a b. a && b) first.now.0 first.now.1 second.now.1 t.1) }
 {
     let pairs = first.pair(alloc, second)?;
-    pairs.relabel(alloc, &Both)
+    pairs.relabel(alloc, &And)
 }
 
 /// The tree that is true where one of both is.
@@ -84,7 +84,7 @@ pub fn either(alloc: Global, first: &Tree<bool>, second: &Tree<bool>) -> Result<
     ensures value { IfOk result (λ t. AreJoined (λ a b. a || b) first.now.0 first.now.1 second.now.1 t.1) }
 {
     let pairs = first.pair(alloc, second)?;
-    pairs.relabel(alloc, &Either)
+    pairs.relabel(alloc, &Or)
 }
 
 /// The tree that is true where the first one is and the second one isn't.
@@ -94,5 +94,5 @@ pub fn without(alloc: Global, first: &Tree<bool>, second: &Tree<bool>) -> Result
     ensures value { IfOk result (λ t. AreJoined (λ a b. a && not b) first.now.0 first.now.1 second.now.1 t.1) }
 {
     let pairs = first.pair(alloc, second)?;
-    pairs.relabel(alloc, &Without)
+    pairs.relabel(alloc, &AndNot)
 }
