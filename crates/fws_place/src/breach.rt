@@ -1,5 +1,7 @@
 //! Why a system can't hold a policy.
 
+ghost use Rattle.std.specs.Prelude.{◌≡◌};
+
 use crate::clause::Clause;
 use fws_net::{Packet, Rec};
 use fws_num::Memory;
