@@ -1,5 +1,5 @@
 -- For which packets a list of translations is made, and where they come in its tree.
-use Rattle.std.specs.Prelude.{◌≡◌, ◌⊎◌, ℕ, ◌≤◌, ◌<◌, Bool, true, false, Some, None, List, [], length, slice_get}
+use Rattle.std.specs.Prelude.{◌≡◌, ◌⊎◌, ℕ, ◌≤◌, ◌<◌, Bool, true, false, Some, None, List, length, slice_get}
 use Rattle.fws_box.specs.Sides.{IsWithin}
 use Rattle.fws_box.specs.declared.field.Field.TheVariants as fields
 use Rattle.fws_net.specs.declared.outcome.Outcome.{Outcome}

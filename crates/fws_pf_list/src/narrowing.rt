@@ -8,7 +8,6 @@ ghost use Rattle.fws_pf_list.specs.Scenes.{IsPlanned};
 ghost use Rattle.fws_pf_list.specs.Turns.{ArePaths};
 ghost use Rattle.fws_pf_list.specs.Narrowing.{protocol_paths, range_paths, takes_protocol, AreNumberPaths, AreNumbers};
 ghost use Rattle.fws_pf_list.specs.Paths.{number_of, part_of, IsGoodPath};
-ghost use Rattle.fws_print.specs.Appended.{Appends};
 ghost use Rattle.fws_pf_list.specs.Sheets.{scene_of};
 
 use crate::path::{Path, narrowed, only};
