@@ -13,7 +13,7 @@ use Rattle.fws_ios_cover.proofs.parts.class_paths.Goals as goal
 pub returns-then-is_empty : goal.returns-then-is_empty
 returns-then-is_empty c =
     let new = c.in_ok-part.part in
-    let set = c.index-part-1.result in
+    let set = c.index-part.result in
     let twelve : length new ≡ 12 = c.in_ok-part.ensures.before.twelve in
     let empty : part new 1 ≡ [] = sym (get_or_default new 1 set [] (omega (arith, twelve))) ∙ c.is_empty.ensures.0 c.if-is_empty.true in
     none_of_class c.args.site.now c.tops-tops.result c.args.class c.args.within.now.1 c.args.sides.now new c.new.result c.tops-tops.ensures c.requires.filled c.in_ok-part.ensures empty c.new.ensures
