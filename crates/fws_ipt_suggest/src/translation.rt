@@ -1,6 +1,7 @@
 //! What is dropped ahead of translations, and how destinations and sources are translated.
 
 use crate::chains::{Ahead, Redirected, Sent};
+use fws_flat::Flat;
 use fws_net::{Outcome, Site};
 use fws_num::Memory;
 use fws_suggest::{
@@ -51,6 +52,15 @@ fn ahead_task(alloc: Global, diagram: Diagram, colours: &[u32]) -> Result<Task, 
     task_for(alloc, diagram, plain, &[ACCEPT])
 }
 
+/// The list that is found for a task, if there is one.
+fn found_list(policy: &mut Policy, style: &mut Style, task: &Task) -> Result<Option<List>, Stop> {
+    match solved(policy, style, task) {
+        Ok(list) => Ok(Some(list)),
+        Err(Stop::Memory) => Err(Stop::Memory),
+        Err(Stop::Late) => Ok(None),
+    }
+}
+
 /// The list of what is dropped ahead of translations, by rules that drop alone: none where there is none that isn't ugly.
 fn dropping_list(
     policy: &mut Policy,
@@ -58,16 +68,13 @@ fn dropping_list(
     diagram: Diagram,
 ) -> Result<Option<List>, Stop> {
     let task = ahead_task(policy.alloc, diagram, &[DROP])?;
-    match solved(policy, style, &task) {
-        Ok(list) => {
-            if is_ugly(policy, style, &list.rules)? {
-                Ok(None)
-            } else {
-                Ok(Some(list))
-            }
-        }
-        Err(Stop::Memory) => Err(Stop::Memory),
-        Err(Stop::Late) => Ok(None),
+    let Some(list) = found_list(policy, style, &task)? else {
+        return Ok(None);
+    };
+    if is_ugly(policy, style, &list.rules)? {
+        Ok(None)
+    } else {
+        Ok(Some(list))
     }
 }
 
@@ -78,15 +85,48 @@ fn mixed_list(
     diagram: Diagram,
 ) -> Result<Option<List>, Stop> {
     let task = ahead_task(policy.alloc, diagram, &[DROP, ACCEPT])?;
-    match solved(policy, style, &task) {
-        Ok(list) => Ok(Some(list)),
-        Err(Stop::Memory) => Err(Stop::Memory),
-        Err(Stop::Late) => Ok(None),
+    found_list(policy, style, &task)
+}
+
+/// The most paths on which something is dropped, so that the source's own rules aren't asked.
+const FEW_PATHS: u32 = 150;
+
+/// Whether something is dropped ahead of translations on many paths.
+fn drops_much(policy: &mut Policy, diagram: Diagram) -> Result<bool, Stop> {
+    let everything = policy.everything();
+    let paths = policy.space.paths(diagram, ACCEPT, &everything, FEW_PATHS)?;
+    Ok(paths > FEW_PATHS)
+}
+
+/// The list of what is dropped ahead of translations that begins with the source's own rules for what arrives: none where there is
+/// none, or where it would be sought for few paths.
+fn hinted_list(
+    policy: &mut Policy,
+    style: &mut Style,
+    diagram: Diagram,
+    source: &Flat,
+) -> Result<Option<List>, Stop> {
+    if !drops_much(policy, diagram)? {
+        return Ok(None);
     }
+    let mut task = ahead_task(policy.alloc, diagram, &[DROP, ACCEPT])?;
+    policy.put_hints(&mut task.hints, source, source.arrive.as_slice(), false)?;
+    if task.hints.is_empty() {
+        return Ok(None);
+    }
+    found_list(policy, style, &task)
 }
 
 /// The list of what is dropped ahead of translations, written in this way.
-fn ahead_list_by(policy: &mut Policy, style: &mut Style, diagram: Diagram) -> Result<List, Stop> {
+fn ahead_list_by(
+    policy: &mut Policy,
+    style: &mut Style,
+    diagram: Diagram,
+    source: &Flat,
+) -> Result<List, Stop> {
+    if let Some(list) = hinted_list(policy, style, diagram, source)? {
+        return Ok(list);
+    }
     let dropping = dropping_list(policy, style, diagram)?;
     let mixed = mixed_list(policy, style, diagram)?;
     match (dropping, mixed) {
@@ -101,11 +141,12 @@ fn ahead_list_by(policy: &mut Policy, style: &mut Style, diagram: Diagram) -> Re
     }
 }
 
-/// The list of what is dropped ahead of translations: by rules that drop alone, or with rules that accept where that is shorter.
-fn ahead_list(policy: &mut Policy, diagram: Diagram) -> Result<List, Stop> {
+/// The list of what is dropped ahead of translations: by the source's own rules where that is much, and else by rules that drop
+/// alone, or with rules that accept where that is shorter.
+fn ahead_list(policy: &mut Policy, diagram: Diagram, source: &Flat) -> Result<List, Stop> {
     let everywhere = policy.space.full(DST);
     let mut style = policy.style(Settings::iptables(), everywhere)?;
-    ahead_list_by(policy, &mut style, diagram)
+    ahead_list_by(policy, &mut style, diagram, source)
 }
 
 /// Of which new packets that are dropped it is asked that they are so ahead of translations.
@@ -194,9 +235,10 @@ pub(crate) fn ahead(
     established: Option<Diagram>,
     clashes: Option<Diagram>,
     early: Early,
+    source: &Flat,
 ) -> Result<Ahead, Stop> {
     let diagram = droppable(policy, original, established, clashes, early)?;
-    let list = ahead_list(policy, diagram)?;
+    let list = ahead_list(policy, diagram, source)?;
     leave_out(policy, original, &list.rules)?;
     Ok(Ahead { rules: list.rules })
 }
@@ -282,13 +324,21 @@ fn dropped_ahead(
     policy: &mut Policy,
     original: Diagram,
     established: Option<Diagram>,
+    source: &Flat,
 ) -> Result<Option<Ahead>, Stop> {
     let found = both_lists(policy, Reach::Near)?;
     let Some(tagged) = behind(policy, &found, true)? else {
         return Ok(None);
     };
     let clashes = policy.clashes(tagged)?;
-    match ahead(policy, original, established, Some(clashes), Early::May) {
+    match ahead(
+        policy,
+        original,
+        established,
+        Some(clashes),
+        Early::May,
+        source,
+    ) {
         Ok(ahead) => Ok(Some(ahead)),
         Err(Stop::Late) => Ok(None),
         Err(Stop::Memory) => Err(Stop::Memory),
@@ -301,9 +351,10 @@ fn redirected_behind(
     original: Diagram,
     established: Option<Diagram>,
     before: &mut Ahead,
+    source: &Flat,
 ) -> Result<Option<Redirected>, Stop> {
     let fresh = policy.fresh;
-    let Some(ahead) = dropped_ahead(policy, original, established)? else {
+    let Some(ahead) = dropped_ahead(policy, original, established, source)? else {
         return Ok(None);
     };
     let found = redirected_by(policy, Reach::Near, false)?;
@@ -321,6 +372,7 @@ pub(crate) fn redirected(
     original: Diagram,
     established: Option<Diagram>,
     before: &mut Ahead,
+    source: &Flat,
 ) -> Result<Redirected, Stop> {
     if policy.destinations.len() == 1 {
         let behind = policy.direct()?;
@@ -336,7 +388,7 @@ pub(crate) fn redirected(
             return Ok(found);
         }
     }
-    if let Some(found) = redirected_behind(policy, original, established, before)? {
+    if let Some(found) = redirected_behind(policy, original, established, before, source)? {
         return Ok(found);
     }
     if let Some(found) = redirected_by(policy, Reach::Near, true)? {

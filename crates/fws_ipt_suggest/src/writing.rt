@@ -22,9 +22,10 @@ fn before_translations(
     original: Diagram,
     established: Option<Diagram>,
     early: Early,
+    source: &Flat,
 ) -> Result<Ahead, Stop> {
     if established.is_some() {
-        return ahead(policy, original, established, None, early);
+        return ahead(policy, original, established, None, early, source);
     }
     Ok(Ahead {
         rules: Vec::new(policy.alloc),
@@ -37,10 +38,11 @@ fn translations_of(
     site: &Site,
     established: Option<Diagram>,
     early: Early,
+    source: &Flat,
 ) -> Result<Translations, Stop> {
     let original = policy.fresh;
-    let mut before = before_translations(policy, original, established, early)?;
-    let redirected = redirected(policy, original, established, &mut before)?;
+    let mut before = before_translations(policy, original, established, early, source)?;
+    let redirected = redirected(policy, original, established, &mut before, source)?;
     let sent = sent(policy, site, redirected.behind)?;
     Ok(Translations {
         before,
@@ -224,7 +226,7 @@ fn found(
     hints: &Flat,
     early: Early,
 ) -> Result<Suggestion, Stop> {
-    let translations = translations_of(policy, site, established.ahead, early)?;
+    let translations = translations_of(policy, site, established.ahead, early, hints)?;
     let behind = translations.redirected.behind;
     let versions = versions_of(policy, behind, established.behind, hints)?;
     let writer = Writer {
@@ -290,6 +292,22 @@ fn put_whole(
     Ok(())
 }
 
+/// The most rules of a text beside which another one is sought, where established packets are dropped in one place.
+const MOST_RULES: usize = 300;
+
+/// Whether there is a text, and those with fewest rules are long.
+fn is_long(all: &[Suggestion]) -> bool {
+    match all.first() {
+        Some(first) => first.count > MOST_RULES,
+        None => false,
+    }
+}
+
+/// Whether some established packets are dropped as they arrive, and others behind the translation of destinations.
+fn is_split(established: Established) -> bool {
+    established.ahead.is_some() && established.behind.is_some()
+}
+
 /// The texts that are found of tables, those with fewest rules first.
 fn all_found(
     alloc: Global,
@@ -307,6 +325,9 @@ fn all_found(
     let plain = found(&mut policy, established, site, hints, Early::May);
     policy.let_go(before);
     put_found(&mut all, plain)?;
+    if is_long(&all) && !is_split(established) {
+        return Ok(all);
+    }
     policy.fresh = original;
     match put_whole(&mut all, &mut policy, tables, site, hints) {
         Ok(()) | Err(Stop::Late) => Ok(all),
