@@ -130,10 +130,10 @@ impl Errand<'_, '_> {
         ensures { result ≤ place }
     {
         let mut start = place;
-        while start > first
-            && is_run_past(self.code, start, start)
-            && is_run_past(self.code, start - 1, start)
-        {
+        if !is_run_past(self.code, place, place) {
+            return start;
+        }
+        while start > first && is_run_past(self.code, start - 1, start) {
             start -= 1;
         }
         start
