@@ -10,8 +10,8 @@ use Rattle.fws_net.specs.declared.site.Site.{Site}
 use Rattle.fws_net.specs.Points.{tops_of}
 use Rattle.fws_num.specs.Numbers.{split_once}
 use Rattle.fws_box.specs.Sides.{sides_have}
-use Rattle.fws_top.specs.declared.ask.Subject.{Subject}
 use Rattle.fws_top.specs.Asks.{items_of, number_of, item_has, set_has, HasValues, AreNarrowed}
+use Rattle.fws_top.specs.declared.ask.Subject.{Subject}
 use Rattle.fws_top.proofs.Asking.{items_of-more, items_of-last}
 use Rattle.fws_top.proofs.Points.{within_at, within-length}
 

@@ -5,11 +5,9 @@ use Rattle.fws_ios.specs.FileText.{spelled as ios_spelled}
 use Rattle.fws_ipfw.specs.FileText.{spelled as ipfw_spelled}
 use Rattle.fws_ipt.specs.FileText.{spelled as ipt_spelled}
 use Rattle.fws_net.specs.declared.cause.Cause.{Cause}
-use Rattle.fws_net.specs.declared.connection.Kind.{Kind}
 use Rattle.fws_net.specs.declared.connection.Kind.TheVariants as kinds
 use Rattle.fws_net.specs.declared.outcome.Outcome.{Outcome}
 use Rattle.fws_net.specs.declared.outcome.Outcome.TheVariants.{Drop}
-use Rattle.fws_net.specs.declared.packet.Packet.{Packet}
 use Rattle.fws_net.specs.declared.site.Site.{Site}
 use Rattle.fws_net.specs.Connections.{fate_in}
 use Rattle.fws_net.specs.Reading.{Refusal}
@@ -20,11 +18,11 @@ use Rattle.fws_top.specs.declared.lang.TargetLang.TheVariants.{Iptables, Ipfw, P
 use Rattle.fws_top.specs.Judged.{Policy, ios_meant, ipfw_meant, ipt_meant, pf_meant}
 use Rattle.fws_top.specs.KeepStep.{KeepsStep, SpellsInStep, SpellsInStepBy}
 use Rattle.fws_top.specs.Translations.{Emits, EmitsBy, GivesFates}
-use Rattle.fws_top.specs.Walked.{AreTablesOf}
+use Rattle.fws_top.specs.Walked.{AreTablesOf, Walk}
 use Rattle.fws_tree.specs.declared.tables.Tables.{Tables}
 
 -- a walk and one that gives the fates of its tables give the same fates
-same_fates : (site : Site) (tables : Tables) (walk other : Packet → Kind → Outcome) → AreTablesOf site walk tables → GivesFates site tables other → GiveSameFatesAt site walk other
+same_fates : (site : Site) (tables : Tables) (walk other : Walk) → AreTablesOf site walk tables → GivesFates site tables other → GiveSameFatesAt site walk other
 same_fates site tables walk other made given p kinds.New within =
     ap (λ (o : Option Outcome). fate_in (unwrap_or o Drop) p kinds.New) (sym (made.fresh_walked (point_of p no_ends) within)) ∙ sym (given.new p within)
 same_fates site tables walk other made given p (kinds.Est r) within =

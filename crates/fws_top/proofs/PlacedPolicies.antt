@@ -9,15 +9,15 @@ use Rattle.fws_ifcl.specs.Walk.{means as diagram_means}
 use Rattle.fws_net.specs.declared.cause.Cause.{Cause}
 use Rattle.fws_net.specs.declared.connection.Conn.{Conn}
 use Rattle.fws_net.specs.declared.connection.Kind.{Kind}
-use Rattle.fws_net.specs.declared.outcome.Outcome.{Outcome}
 use Rattle.fws_net.specs.declared.packet.Packet.{Packet}
 use Rattle.fws_net.specs.declared.site.Site.{Site}
 use Rattle.fws_net.specs.Reading.{Refusal}
 use Rattle.fws_top.specs.declared.placed.Placed.{Placed}
 use Rattle.fws_top.specs.declared.placed.PlacedCode.{PlacedCode}
 use Rattle.fws_top.specs.Judged.{ChainRefusal, IsPacketOf, Judged, Policy, diagram_refusal, judged_by, judged_chains}
+use Rattle.fws_top.specs.PlacedCodes.{IsPlaced, IsPlacedCode, IsToldBy, IsUnfoldedOf}
 use Rattle.fws_top.specs.Plan.{judged}
-use Rattle.fws_top.specs.Stops.{IsPlaced, IsPlacedCode, IsToldBy, IsUnfoldedOf}
+use Rattle.fws_top.specs.Walked.{Uses, Walk}
 use Rattle.fws_why.specs.Walked.{IsWalkOf}
 use Rattle.fws_why.specs.WhyText.{why_text}
 
@@ -65,7 +65,7 @@ told_code name site text placed code is made =
 -- what is said by the code, whose lists are lent, is said by the policy
 pub explained_by : (site : Site) (policy : Policy) (code : PlacedCode) (from : List (Option Place)) (spots : List Spot) (labels : List (List ℕ)) (conns : List Conn) (packets : List Packet) (text : List ℕ)
     → IsToldBy policy site code → from ≡ code.from.items → spots ≡ code.spots.items → labels ≡ code.labels.items
-    → ((walk : Packet → Kind → Outcome) (used : Packet → Kind → List ℕ) → IsWalkOf site code.flat from spots walk used → text ≡ why_text walk used labels conns packets)
+    → ((walk : Walk) (used : Uses) → IsWalkOf site code.flat from spots walk used → text ≡ why_text walk used labels conns packets)
     → text ≡ why_text policy.walk policy.used policy.labels conns packets
 explained_by site policy code from spots labels conns packets text told same_from same_spots same_labels said =
     let walk : IsWalkOf site code.flat from spots policy.walk policy.used =

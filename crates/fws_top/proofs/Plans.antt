@@ -1,12 +1,12 @@
 -- What follows from an answer that goes along a plan.
 use Rattle.std.proofs.Common.{◌≡◌, ◌⊎◌, ℕ, Option, Some, List, inl, inr, refl, sym, subst}
 use Rattle.fws_net.specs.declared.site.Site.{Site}
+use Rattle.fws_top.specs.Answered.{Answered, FaultSaid}
 use Rattle.fws_top.specs.declared.lang.TargetLang.{TargetLang}
 use Rattle.fws_top.specs.declared.status.Status.{Status}
 use Rattle.fws_top.specs.declared.status.Status.TheVariants as status
-use Rattle.fws_top.specs.Due.{Due, IsReadInTurn, IsTold, CanEnd, IsReadFault, IsDue, IsAnswered, IsFaultless}
+use Rattle.fws_top.specs.Due.{CanEnd, Contents, Due, Faults, IsAnswered, IsDue, IsFaultless, IsReadFault, IsReadInTurn, IsTold}
 use Rattle.fws_top.specs.Plan.{Plan, says, shows, reads}
-use Rattle.fws_top.specs.Stops.{Answered, FaultSaid}
 use Rattle.fws_top.specs.Tables.{Wanted, table, asked_table, translation, comparison, unused, loaded, CanBeShown, IsWanted}
 use Rattle.fws_top.specs.Translations.{IsPlacement}
 use Rattle.fws_tree.specs.declared.tables.Tables.{Tables}
@@ -44,17 +44,17 @@ wanted_fine : (wanted : Wanted) (s : Status) (t : List ℕ) → IsWanted wanted 
 wanted_fine wanted s t w = shown_fine wanted s (wanted_ends wanted s t w)
 
 -- a fault isn't said without one
-fault_is_fault : (name : List ℕ) (old new : List ℕ → ℕ) (s : Status) (t : List ℕ) → FaultSaid name old new s t → IsFaultless s → ⊥
+fault_is_fault : (name : List ℕ) (old new : Faults) (s : Status) (t : List ℕ) → FaultSaid name old new s t → IsFaultless s → ⊥
 fault_is_fault name old new s t f fine = subst IsFaultless f.fault fine
 
-answered_quiet : (plan : Plan) (told : Option (List ℕ → List ℕ)) (old new : List ℕ → ℕ) (s : Status) (t : List ℕ)
+answered_quiet : (plan : Plan) (told : Option Contents) (old new : Faults) (s : Status) (t : List ℕ)
     → Answered plan told old new s t → IsFaultless s → new ≡ old
 answered_quiet (says u v) told old new s t a fine = a.1
 answered_quiet (shows wanted) told old new s t a fine = a.0
 answered_quiet (reads name next) told old new s t (inl f) fine = absurd (fault_is_fault name old new s t f fine)
 answered_quiet (reads name next) told old new s t (inr a) fine = answered_quiet (next a.0) told old new s t a.2 fine
 
-answered_ends : (plan : Plan) (told : Option (List ℕ → List ℕ)) (old new : List ℕ → ℕ) (s : Status) (t : List ℕ)
+answered_ends : (plan : Plan) (told : Option Contents) (old new : Faults) (s : Status) (t : List ℕ)
     → Answered plan told old new s t → IsFaultless s → CanEnd plan s
 answered_ends (says u v) told old new s t a fine = a.2
 answered_ends (shows wanted) told old new s t a fine = wanted_ends wanted s t a.1
@@ -62,7 +62,7 @@ answered_ends (reads name next) told old new s t (inl f) fine = absurd (fault_is
 answered_ends (reads name next) told old new s t (inr a) fine = (a.0, answered_ends (next a.0) told old new s t a.2 fine)
 
 -- where what each name holds is told
-told_due : (plan : Plan) (told : Option (List ℕ → List ℕ)) (held : List ℕ → List ℕ) (old new : List ℕ → ℕ) (s : Status) (t : List ℕ)
+told_due : (plan : Plan) (told : Option Contents) (held : Contents) (old new : Faults) (s : Status) (t : List ℕ)
     → told ≡ Some held → Answered plan told old new s t → IsFaultless s → Due plan held s t
 told_due (says u v) told held old new s t e a fine = (a.2, a.3)
 told_due (shows wanted) told held old new s t e a fine = a.1
@@ -70,14 +70,14 @@ told_due (reads name next) told held old new s t e (inl f) fine = absurd (fault_
 told_due (reads name next) told held old new s t e (inr a) fine =
     subst (λ bytes. Due (next bytes) held s t) (a.1 held e) (told_due (next a.0) told held old new s t e a.2 fine)
 
-answered_due : (plan : Plan) (told : Option (List ℕ → List ℕ)) (old new : List ℕ → ℕ) (s : Status) (t : List ℕ)
-    → Answered plan told old new s t → IsFaultless s → (held : List ℕ → List ℕ) → IsTold plan told held → Due plan held s t
+answered_due : (plan : Plan) (told : Option Contents) (old new : Faults) (s : Status) (t : List ℕ)
+    → Answered plan told old new s t → IsFaultless s → (held : Contents) → IsTold plan told held → Due plan held s t
 answered_due (says u v) told old new s t a fine held e = (a.2, a.3)
 answered_due (shows wanted) told old new s t a fine held e = a.1
 answered_due (reads name next) told old new s t a fine held e = told_due (reads name next) told held old new s t e a fine
 
 -- a read fault is one of a name whose turn it was
-answered_fault : (plan : Plan) (told : Option (List ℕ → List ℕ)) (old new : List ℕ → ℕ) (t : List ℕ)
+answered_fault : (plan : Plan) (told : Option Contents) (old new : Faults) (t : List ℕ)
     → Answered plan told old new status.ReadFault t → IsReadFault plan told old new t
 answered_fault (says u v) told old new t a = absurd (subst IsFaultless (sym a.2) a.0)
 answered_fault (shows wanted) told old new t a = absurd (wanted_fine wanted status.ReadFault t a.1)
@@ -99,7 +99,7 @@ answered_fault (reads name next) told old new t (inr a) =
     }
 
 -- no plan says a fault of the outside or that memory ran out
-answered_fine : (plan : Plan) (told : Option (List ℕ → List ℕ)) (old new : List ℕ → ℕ) (s : Status) (t : List ℕ)
+answered_fine : (plan : Plan) (told : Option Contents) (old new : Faults) (s : Status) (t : List ℕ)
     → Answered plan told old new s t → (s ≡ status.ReadFault → ⊥) → IsFaultless s
 answered_fine (says u v) told old new s t a other = subst IsFaultless (sym a.2) a.0
 answered_fine (shows wanted) told old new s t a other = wanted_fine wanted s t a.1
@@ -110,7 +110,7 @@ abbrev IsNoRead : Status → Type 0
 IsNoRead status.ReadFault = ⊥
 IsNoRead _ = Unit {0}
 
-is_due : (plan : Plan) (told : Option (List ℕ → List ℕ)) (old new : List ℕ → ℕ) (s : Status) (t : List ℕ)
+is_due : (plan : Plan) (told : Option Contents) (old new : Faults) (s : Status) (t : List ℕ)
     → Answered plan told old new s t → IsFaultless s → IsDue plan told old new s t
 is_due plan told old new s t a fine = record {
   quiet = answered_quiet plan told old new s t a fine;
@@ -118,7 +118,7 @@ is_due plan told old new s t a fine = record {
   due = answered_due plan told old new s t a fine;
 }
 
-pub is_answered : (plan : Plan) (told : Option (List ℕ → List ℕ)) (old new : List ℕ → ℕ) (s : Status) (t : List ℕ)
+pub is_answered : (plan : Plan) (told : Option Contents) (old new : Faults) (s : Status) (t : List ℕ)
     → Answered plan told old new s t → IsAnswered plan told old new s t
 is_answered plan told old new status.Ok t a = is_due plan told old new status.Ok t a tt
 is_answered plan told old new status.NotPlaceable t a = is_due plan told old new status.NotPlaceable t a tt

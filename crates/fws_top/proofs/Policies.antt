@@ -10,6 +10,7 @@ use Rattle.fws_net.specs.declared.packet.Packet.{Packet}
 use Rattle.fws_net.specs.declared.site.Site.{Site}
 use Rattle.fws_net.specs.Reading.{Refusal}
 use Rattle.fws_net.specs.RegularWalks.{IsRegularWalk}
+use Rattle.fws_top.specs.Codes.{IsCode, IsUnfolded}
 use Rattle.fws_top.specs.declared.answer.Answer.{Answer}
 use Rattle.fws_top.specs.declared.answer.Stop.{Stop}
 use Rattle.fws_top.specs.declared.answer.Stop.TheVariants.{Due}
@@ -19,7 +20,7 @@ use Rattle.fws_top.specs.Due.{IsFaultless}
 use Rattle.fws_top.specs.Judged.{ChainRefusal, IsPacketOf, Policy, chain_words, diagram_refusal, judged_by, judged_chains, named_refusal}
 use Rattle.fws_top.specs.Lines.{refused_line}
 use Rattle.fws_top.specs.Plan.{judged, says}
-use Rattle.fws_top.specs.Stops.{EndsIn, IsCode, IsUnfolded}
+use Rattle.fws_top.specs.Steps.{EndsIn}
 
 -- an answer that says at which chain a diagram is refused
 pub diagram_refused : (name : List ℕ) (d : Ifcl) (policy : Policy) (r : UnfoldRefusal) (a : Answer)

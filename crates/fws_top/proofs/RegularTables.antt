@@ -21,7 +21,7 @@ use Rattle.fws_trace.specs.Outcomes.{point_with, rec_of}
 use Rattle.fws_tree.specs.declared.tables.Tables.{Tables}
 use Rattle.fws_tree.specs.Plain.{value}
 use Rattle.fws_tree.specs.Regular.{AreRegular, IsFreeOf, is_port}
-use Rattle.fws_top.specs.Walked.{AreTablesOf, walked_at}
+use Rattle.fws_top.specs.Walked.{AreTablesOf, Walk, walked_at}
 
 -- Points
 
@@ -95,7 +95,7 @@ same_value o a b e d = cc
 
 -- A regular walk
 
-module _ (site : Site) (walk : Packet → Kind → Outcome) (regular : IsRegularWalk site walk) where
+module _ (site : Site) (walk : Walk) (regular : IsRegularWalk site walk) where
   fresh_ports : (f : ℕ) (p : List ℕ) → is_port f ≡ true → IsWithin (tops_of site) p → has_ports (slice_index p 1) ≡ false → IsWalkedFreeOf walk Fresh f p
   fresh_ports f p e w = at_packets site (λ p. has_ports (slice_index p 1) ≡ false → IsWalkedFreeOf walk Fresh f p) at p w
     where

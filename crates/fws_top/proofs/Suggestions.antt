@@ -7,20 +7,19 @@ use Rattle.fws_ifcl.specs.declared.diagram.Ifcl.{Ifcl}
 use Rattle.fws_ifcl.specs.Walk.{means as diagram_means}
 use Rattle.fws_net.specs.declared.connection.Kind.{Kind}
 use Rattle.fws_net.specs.declared.connection.Kind.TheVariants.{New, Est}
-use Rattle.fws_net.specs.declared.outcome.Outcome.{Outcome}
 use Rattle.fws_net.specs.declared.outcome.Outcome.TheVariants.{Drop}
 use Rattle.fws_net.specs.declared.packet.Packet.{Packet}
 use Rattle.fws_net.specs.declared.site.Site.{Site}
 use Rattle.fws_net.specs.Connections.{fate_in}
+use Rattle.fws_top.specs.Codes.{Does, IsUnfolded}
 use Rattle.fws_top.specs.Judged.{ChainRefusal, IsPacketOf, diagram_refusal}
-use Rattle.fws_top.specs.Stops.{Does, IsUnfolded}
 use Rattle.fws_top.specs.Translations.{GivesFates}
-use Rattle.fws_top.specs.Walked.{AreTablesOf}
+use Rattle.fws_top.specs.Walked.{AreTablesOf, Walk}
 use Rattle.fws_trace.specs.Outcomes.{no_ends, outcome_by, point_with}
 use Rattle.fws_tree.specs.declared.tables.Tables.{Tables}
 
 -- a walk gives the fates of tables that do the same as its own
-pub alike_give_fates : (site : Site) (tables made : Tables) (walk : Packet → Kind → Outcome)
+pub alike_give_fates : (site : Site) (tables made : Tables) (walk : Walk)
     → AreTablesOf site walk made → AreSame site (outcome_by tables) (outcome_by made) → GivesFates site tables walk
 alike_give_fates site tables made walk of_walk alike = record {
   new = λ p inside. ap (λ o. fate_in (unwrap_or o Drop) p New) (sym (of_walk.fresh_walked (point_with p no_ends) inside)) ∙ sym (alike p New inside);
@@ -32,7 +31,7 @@ pub unfolded_ok : (d : Ifcl) (code : Option Flat) → IfSome code (IsUnfolded d)
 unfolded_ok d None unfolded = tt
 unfolded_ok d (Some flat) unfolded = unfolded.ok
 
-pub unfolded_does : (site : Site) (d : Ifcl) (walk : Packet → Kind → Outcome) (refusal : Option ChainRefusal) (code : Option Flat)
+pub unfolded_does : (site : Site) (d : Ifcl) (walk : Walk) (refusal : Option ChainRefusal) (code : Option Flat)
     → diagram_refusal d ≡ refusal → (refusal ≡ None → (p : Packet) (k : Kind) → IsPacketOf site p → diagram_means d site p k ≡ walk p k)
     → IfSome code (IsUnfolded d) → IfSome code (λ flat. Does flat site walk)
 unfolded_does site d walk refusal None same means unfolded = tt

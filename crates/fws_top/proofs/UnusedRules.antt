@@ -6,16 +6,20 @@ use Rattle.fws_net.specs.declared.connection.Kind.{Kind}
 use Rattle.fws_net.specs.declared.connection.Kind.TheVariants.{New, Est}
 use Rattle.fws_net.specs.declared.packet.Packet.{Packet}
 use Rattle.fws_net.specs.declared.site.Site.{Site}
+use Rattle.fws_top.specs.Answered.{Answered, Stopped}
 use Rattle.fws_top.specs.declared.answer.Stop.{Stop}
 use Rattle.fws_top.specs.declared.answer.Stop.TheVariants.{Due, Memory}
 use Rattle.fws_top.specs.declared.lang.SourceLang.{SourceLang}
 use Rattle.fws_top.specs.declared.placed.Placed.{Placed}
 use Rattle.fws_top.specs.declared.status.Status.TheVariants as status
+use Rattle.fws_top.specs.Due.{Contents, Faults}
 use Rattle.fws_top.specs.Judged.{IsPacketOf, Policy, accepted, diagram_refusal, judged_chains}
 use Rattle.fws_top.specs.Parts.{dead_part}
+use Rattle.fws_top.specs.PlacedCodes.{IsPlaced, IsTakenPlaced}
 use Rattle.fws_top.specs.Plan.{Plan, shows, judged}
-use Rattle.fws_top.specs.Stops.{Answered, EndsIn, IsPlaced, IsTakenPlaced, Stopped}
+use Rattle.fws_top.specs.Steps.{EndsIn}
 use Rattle.fws_top.specs.Tables.{IsUnusedText, unused}
+use Rattle.fws_top.specs.Walked.{Uses}
 
 -- a packet of the site of any class is one of the site
 entered : (site : Site) (p : Packet) (k : Kind) → IsOfSite site p k → IsPacketOf site p
@@ -23,9 +27,9 @@ entered site p New within = within.0
 entered site p (Est r) within = within.0
 
 -- the unused rules of a diagram that isn't refused are shown
-pub dead_shown : (lang : SourceLang) (file : List ℕ) (site : Site) (placed : Placed) (told : Option (List ℕ → List ℕ)) (old new : List ℕ → ℕ) (text : List ℕ)
+pub dead_shown : (lang : SourceLang) (file : List ℕ) (site : Site) (placed : Placed) (told : Option Contents) (old new : Faults) (text : List ℕ)
     → IsTakenPlaced lang file told site placed → new ≡ old → diagram_refusal placed.diagram ≡ None
-    → ((used : Packet → Kind → List ℕ) → UseAlike site (used_at placed.diagram site placed.spots.items) used → IsUnusedText site used placed.labels.items text)
+    → ((used : Uses) → UseAlike site (used_at placed.diagram site placed.spots.items) used → IsUnusedText site used placed.labels.items text)
     → Answered (dead_part lang site file) told old new status.Ok text
 dead_shown lang file site placed told old new text taken quiet unrefused made =
     let is : IsPlaced taken.text site placed = taken.is in
@@ -37,7 +41,7 @@ dead_shown lang file site placed told old new text taken quiet unrefused made =
     (quiet, (refl, subst (λ labels. IsUnusedText site is.policy.used labels text) is.labels (made is.policy.used alike))))
 
 -- a diagram that is refused stops the command
-pub dead_stopped : (lang : SourceLang) (file : List ℕ) (site : Site) (placed : Placed) (told : Option (List ℕ → List ℕ)) (old new : List ℕ → ℕ) (stop : Stop)
+pub dead_stopped : (lang : SourceLang) (file : List ℕ) (site : Site) (placed : Placed) (told : Option Contents) (old new : Faults) (stop : Stop)
     → IsTakenPlaced lang file told site placed → new ≡ old → ((policy : Policy) → EndsIn (judged file (judged_chains (diagram_refusal placed.diagram) policy)) stop)
     → Stopped (dead_part lang site file) told old new stop
 dead_stopped lang file site placed told old new (Due a) taken quiet ends =

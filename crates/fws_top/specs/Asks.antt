@@ -1,5 +1,6 @@
 -- The words of a query: `FIELD=SET`, each field at most once, and what they ask for.
-use Rattle.std.specs.Prelude.{◌≡◌, ◌≤◌, ℕ, ◌+◌, Bool, true, false, ◌&&◌, ◌||◌, not, nat_eq, nat_le, Option, Some, None, is_some, option_and_then, List, [], ◌∷◌, length, slice_index, codes, if◌then◌else◌}
+use Rattle.std.specs.Prelude.{◌≡◌, ◌≤◌, ℕ, ◌+◌, Bool, true, false, ◌&&◌, ◌||◌, not, nat_eq, nat_le}
+use Rattle.std.specs.Prelude.{Option, Some, None, is_some, option_and_then, List, [], ◌∷◌, length, slice_index, codes, if◌then◌else◌}
 use Rattle.std.specs.Option.{option_map_or, option_map}
 use Rattle.std.specs.Str.{bytes_eq}
 use Rattle.std.specs.List.{list_any, list_all, range_with_len}
@@ -89,7 +90,7 @@ is_set subject set = bytes_eq set (codes "*") || list_all (is_item subject) (ite
 abbrev pub verdict_asked : List ℕ → Option Bool
 verdict_asked text = if bytes_eq text (codes "accept") then Some true else if bytes_eq text (codes "drop") then Some false else None
 
--- what stands behind the `=` is spelled as its subject needs
+-- what is behind the `=` is spelled as its subject needs it
 abbrev pub is_asked : Subject → List ℕ → Bool
 is_asked Verdict text = is_some (verdict_asked text)
 is_asked subject text = is_set subject text

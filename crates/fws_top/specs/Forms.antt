@@ -48,7 +48,7 @@ lang_of word =
     else if bytes_eq word (codes "openbsd") then Some Openbsd
     else None
 
--- commands tell of the rules of this language
+-- `why` and `dead` can name the rules of this language
 abbrev pub tells_of_rules : SourceLang → Bool
 tells_of_rules Iptables = true
 tells_of_rules Ipfw = true
@@ -115,7 +115,7 @@ abbrev pub trace_command : SourceLang → List ℕ → List ℕ → List (List �
 trace_command lang site file (conns ∷ packets ∷ []) = trace lang site file conns packets
 trace_command lang site file _ = unknown
 
--- `why LANG SITE FILE CONNS PACKETS`, of a language of whose rules it tells
+-- `why LANG SITE FILE CONNS PACKETS`, in a language whose rules it can name
 abbrev pub why_command : SourceLang → List ℕ → List ℕ → List (List ℕ) → Command
 why_command lang site file (conns ∷ packets ∷ []) = if tells_of_rules lang then why lang site file conns packets else unknown
 why_command lang site file _ = unknown
@@ -130,7 +130,7 @@ abbrev pub same_command : SourceLang → List ℕ → List ℕ → List (List �
 same_command lang site file (word ∷ other ∷ []) = option_map_or (λ other_lang. same lang site file other_lang other) (lang_of word) unknown
 same_command lang site file _ = unknown
 
--- `dead LANG SITE FILE`, of such a language
+-- `dead LANG SITE FILE`, in such a language
 abbrev pub unused_command : SourceLang → List ℕ → List ℕ → Command
 unused_command lang site file = if tells_of_rules lang then dead lang site file else unknown
 
@@ -164,7 +164,7 @@ command_of _ = unknown
 
 -- Forms in code
 
--- a form as the command that it stands for
+-- the command that a form is
 abbrev pub asked : Form → Command
 asked Unknown = unknown
 asked Help = help

@@ -29,8 +29,6 @@ use Rattle.fws_ipt.specs.Walk.{walk as ipt_walk}
 use Rattle.fws_ipt_print.specs.Labels.{labels_of as ipt_labels}
 use Rattle.fws_ipt_put.specs.Placed.{tracks as ipt_tracks}
 use Rattle.fws_net.specs.declared.cause.Cause.{Cause}
-use Rattle.fws_net.specs.declared.connection.Kind.{Kind}
-use Rattle.fws_net.specs.declared.outcome.Outcome.{Outcome}
 use Rattle.fws_net.specs.declared.packet.Packet.{Packet}
 use Rattle.fws_net.specs.declared.site.Site.{Site}
 use Rattle.fws_net.specs.Reading.{Refusal}
@@ -47,6 +45,7 @@ use Rattle.fws_pfo.specs.Walk.{walk as pfo_walk}
 use Rattle.fws_top.specs.declared.lang.SourceLang.{SourceLang}
 use Rattle.fws_top.specs.declared.lang.SourceLang.TheVariants.{Iptables, Ipfw, Pf, Ios, Openbsd}
 use Rattle.fws_top.specs.Lines.{line_words, loop_words, deep_words, long_words, cause_text}
+use Rattle.fws_top.specs.Walked.{Uses, Walk}
 
 -- Refusals for the chains
 
@@ -116,13 +115,13 @@ IsPacketOf site p = p.entry ≤ length site.faces + 1
 -- accepts, so that a run lists a connection for each new packet that it accepts; the numbers of the rules that a packet's walk uses,
 -- in their order; and the labels of all its rules, of which the first has the number 0
 pub record Policy : Type 0 where
-  pub walk : Packet → Kind → Outcome
+  pub walk : Walk
   pub tracks : Bool
-  pub used : Packet → Kind → List ℕ
+  pub used : Uses
   pub labels : List (List ℕ)
 
 -- what a configuration means by its walk, whether it tracks, which rules it uses and how these are labelled
-abbrev pub meant_by : {C : Type 0} → (C → Packet → Kind → Outcome) → (C → Bool) → (C → Packet → Kind → List ℕ) → (C → List (List ℕ)) → C → Policy
+abbrev pub meant_by : {C : Type 0} → (C → Walk) → (C → Bool) → (C → Uses) → (C → List (List ℕ)) → C → Policy
 meant_by walk tracks used labels config = record { walk = walk config; tracks = tracks config; used = used config; labels = labels config }
 
 abbrev pub ipt_meant : Site → IptConfig → Policy
@@ -137,9 +136,13 @@ pf_meant site = meant_by (λ config. pf_walk config site) (pf_tracks site) (λ c
 abbrev pub ios_meant : Site → IosConfig → Policy
 ios_meant site = meant_by (λ config. ios_walk config site) (ios_tracks site) (λ config. ios_used config site) ios_labels
 
--- of its rules nothing is told, and they have no labels: no command asks for them
+-- no command asks for its rules: they have no labels, and no packet uses any
 abbrev pub pfo_meant : Site → PfoConfig → Policy
 pfo_meant site = meant_by (λ config. pfo_walk config site) (pfo_tracks site) (λ config p k. []) (λ config. [])
+
+-- what each text spells, or its first refused line
+abbrev pub Spelling : Type 0 → Type 0
+Spelling C = List ℕ → Result C (Refusal Cause)
 
 -- a text is refused with these words, or accepted with what it means
 pub data Judged : Type 0 where
@@ -156,12 +159,24 @@ abbrev pub judged_by : {C : Type 0} → (C → Option ChainRefusal) → (C → P
 judged_by refusal meant (Err r) = refused (line_words r.line (cause_text r.cause))
 judged_by refusal meant (Ok config) = judged_chains (refusal config) (meant config)
 
+-- A language by what it says of its texts and configurations
+
+-- what a configuration means at a site
+abbrev pub meant_in : {C : Type 0} → (C → Site → Walk) → (Site → C → Bool) → (C → Site → Uses) → (C → List (List ℕ)) → Site → C → Policy
+meant_in walk tracks used labels site = meant_by (λ config. walk config site) (tracks site) (λ config. used config site) labels
+
+-- what a text means at a site
+abbrev pub judged_in : {C : Type 0} → (Site → Spelling C) → (Site → C → Option ChainRefusal) → (C → Site → Walk) → (Site → C → Bool)
+    → (C → Site → Uses) → (C → List (List ℕ)) → Site → List ℕ → Judged
+judged_in spelled refusal walk tracks used labels site text =
+    judged_by (refusal site) (meant_in walk tracks used labels site) (spelled site text)
+
 -- the configuration is that of some text
-abbrev pub HasText : {C : Type 0} → (List ℕ → Result C (Refusal Cause)) → C → Type 0
+abbrev pub HasText : {C : Type 0} → Spelling C → C → Type 0
 HasText spelled config = (text : List ℕ) × (spelled text ≡ Ok config)
 
 -- the text is that of some configuration
-abbrev pub HasConfig : {C : Type 0} → (List ℕ → Result C (Refusal Cause)) → List ℕ → Type 0
+abbrev pub HasConfig : {C : Type 0} → Spelling C → List ℕ → Type 0
 HasConfig {C} spelled text = (config : C) × (spelled text ≡ Ok config)
 
 -- what a text means in a language at a site

@@ -1,20 +1,18 @@
 -- A translation keeps step with its source: what runs of both have in common.
-use Rattle.std.specs.Prelude.{◌≡◌, ℕ, true, Result, Ok, List, []}
+use Rattle.std.specs.Prelude.{◌≡◌, ℕ, true, Ok, List, []}
 use Rattle.fws_events.specs.declared.events.Event.{Event}
 use Rattle.fws_events.specs.Runs.{AreMet, answers_to, conns_behind_all, conns_behind_each}
 use Rattle.fws_events.specs.RunText.{run_text}
 use Rattle.fws_ios.specs.FileText.{spelled as ios_spelled}
 use Rattle.fws_ipfw.specs.FileText.{spelled as ipfw_spelled}
 use Rattle.fws_ipt.specs.FileText.{spelled as ipt_spelled}
-use Rattle.fws_net.specs.declared.cause.Cause.{Cause}
 use Rattle.fws_net.specs.declared.connection.Conn.{Conn}
 use Rattle.fws_net.specs.declared.site.Site.{Site}
-use Rattle.fws_net.specs.Reading.{Refusal}
 use Rattle.fws_pf.specs.FileText.{spelled as pf_spelled}
 use Rattle.fws_top.specs.declared.lang.SourceLang.{SourceLang}
 use Rattle.fws_top.specs.declared.lang.TargetLang.{TargetLang}
 use Rattle.fws_top.specs.declared.lang.TargetLang.TheVariants.{Iptables, Ipfw, Pf, Ios}
-use Rattle.fws_top.specs.Judged.{Policy, accepted, ios_meant, ipfw_meant, ipt_meant, judge, pf_meant}
+use Rattle.fws_top.specs.Judged.{Policy, Spelling, accepted, ios_meant, ipfw_meant, ipt_meant, judge, pf_meant}
 use Rattle.fws_top.specs.Translations.{Emits}
 use Rattle.fws_top.specs.Walked.{AreTablesOf}
 use Rattle.fws_tree.specs.declared.tables.Tables.{Tables}
@@ -33,7 +31,7 @@ pub record KeepsStep (site : Site) (policy other : Policy) : Type 0 where
       → run_text policy.tracks policy.walk events ≡ run_text other.tracks other.walk events
 
 -- the text spells a configuration that keeps state where it accepts, and keeps step with the policy
-pub record SpellsInStepBy {C : Type 0} (spelled : List ℕ → Result C (Refusal Cause)) (meant : C → Policy) (site : Site) (policy : Policy) (t : List ℕ) : Type 0 where
+pub record SpellsInStepBy {C : Type 0} (spelled : Spelling C) (meant : C → Policy) (site : Site) (policy : Policy) (t : List ℕ) : Type 0 where
   pub config : C
   pub spells : spelled t ≡ Ok config
   pub tracked : (meant config).tracks ≡ true

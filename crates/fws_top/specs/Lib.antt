@@ -1,4 +1,7 @@
+pub mod Answered
 pub mod Asks
+pub mod Codes
+pub mod Diagrams
 pub mod Due
 pub mod Forms
 pub mod Judged
@@ -8,9 +11,10 @@ pub mod LoadPlans
 pub mod Loads
 pub mod Pages
 pub mod Parts
+pub mod PlacedCodes
 pub mod Plan
 pub mod RegularTables
-pub mod Stops
+pub mod Steps
 pub mod Tables
 pub mod Texts
 pub mod Translations

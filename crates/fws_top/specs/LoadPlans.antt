@@ -3,17 +3,15 @@ use Rattle.std.specs.Prelude.{◌≡◌, ◌≢◌, ◌≤◌, ℕ, Some, List, 
 use Rattle.fws_ipt.specs.Walk.{walk}
 use Rattle.fws_load_laws.specs.LoadedFilters.{load_config}
 use Rattle.fws_load_laws.specs.LoadedSite.{load_site}
-use Rattle.fws_net.specs.declared.connection.Kind.{Kind}
-use Rattle.fws_net.specs.declared.outcome.Outcome.{Outcome}
-use Rattle.fws_net.specs.declared.packet.Packet.{Packet}
 use Rattle.fws_num.specs.Numbers.{dec_of}
 use Rattle.fws_top.specs.Due.{plan_for}
 use Rattle.fws_top.specs.Forms.{load}
 use Rattle.fws_top.specs.Plan.{Plan, shows, plan_of}
 use Rattle.fws_top.specs.Tables.{loaded}
+use Rattle.fws_top.specs.Walked.{Walk}
 
 -- what the generated filter with so many rules makes of the packets of each class, at the generated site
-abbrev pub load_walk : ℕ → Packet → Kind → Outcome
+abbrev pub load_walk : ℕ → Walk
 load_walk n = walk (load_config n) load_site
 
 -- the plan that shows what it comes to

@@ -1,16 +1,14 @@
 -- What `load` answers with: how many rows the tables of a policy have, and how many systems can hold it.
 use Rattle.std.specs.Prelude.{◌≡◌, ◌⊎◌, ℕ, suc, Bool, true, false, List, [], ◌∷◌, ◌++◌, length, codes}
 use Rattle.std.specs.Fmt.{decimal}
-use Rattle.fws_net.specs.declared.connection.Kind.{Kind}
 use Rattle.fws_net.specs.declared.outcome.Outcome.{Outcome}
-use Rattle.fws_net.specs.declared.packet.Packet.{Packet}
 use Rattle.fws_net.specs.declared.site.Site.{Site}
 use Rattle.fws_net.specs.Points.{tops_of}
 use Rattle.fws_place.specs.Fits.{Fits}
 use Rattle.fws_top.specs.declared.lang.TargetLang.{TargetLang}
 use Rattle.fws_top.specs.declared.lang.TargetLang.TheVariants.{Iptables, Ipfw, Pf, Ios}
 use Rattle.fws_top.specs.Translations.{system_of}
-use Rattle.fws_top.specs.Walked.{AreTablesOf}
+use Rattle.fws_top.specs.Walked.{AreTablesOf, Walk}
 use Rattle.fws_tree.specs.declared.tables.Tables.{Tables}
 use Rattle.fws_tree.specs.Plain.{Plain}
 use Rattle.fws_tree.specs.Rows.{paths_of}
@@ -45,7 +43,7 @@ load_line n fresh est placed =
     codes "load " ++ decimal n ++ codes " new " ++ decimal fresh ++ codes " est " ++ decimal est ++ codes " placed " ++ decimal placed ++ 10 ∷ []
 
 -- the line of the tables of a walk
-pub record IsLoad (n : ℕ) (site : Site) (walk : Packet → Kind → Outcome) (t : List ℕ) : Type 0 where
+pub record IsLoad (n : ℕ) (site : Site) (walk : Walk) (t : List ℕ) : Type 0 where
   pub tables : Tables
   pub made : AreTablesOf site walk tables
   pub placed : ℕ

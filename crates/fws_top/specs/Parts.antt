@@ -2,9 +2,6 @@
 use Rattle.std.specs.Prelude.{ℕ, Bool, List}
 use Rattle.fws_events.specs.RunText.{run_text}
 use Rattle.fws_net.specs.declared.connection.Conn.{Conn}
-use Rattle.fws_net.specs.declared.connection.Kind.{Kind}
-use Rattle.fws_net.specs.declared.outcome.Outcome.{Outcome}
-use Rattle.fws_net.specs.declared.packet.Packet.{Packet}
 use Rattle.fws_net.specs.declared.packet.State.{State}
 use Rattle.fws_net.specs.declared.site.Site.{Site}
 use Rattle.fws_top.specs.declared.lang.SourceLang.{SourceLang}
@@ -13,6 +10,7 @@ use Rattle.fws_top.specs.declared.status.Status.TheVariants as status
 use Rattle.fws_top.specs.Judged.{Policy}
 use Rattle.fws_top.specs.Plan.{Plan, says, shows, asks_plan, source_plan, conns_plan, packets_plan, events_plan, load_text_plan}
 use Rattle.fws_top.specs.Tables.{table, asked_table, translation, comparison, unused, loaded}
+use Rattle.fws_top.specs.Walked.{Walk}
 use Rattle.fws_trace.specs.TraceText.{trace_text}
 use Rattle.fws_why.specs.WhyText.{why_text}
 
@@ -33,11 +31,11 @@ abbrev pub load_part : ℕ → Site → Plan
 load_part n site = load_text_plan n site (λ policy. shows (loaded n site policy.walk))
 
 -- `trace` of a walk against connections
-abbrev pub packets_part : Site → (Packet → Kind → Outcome) → List Conn → List ℕ → Plan
+abbrev pub packets_part : Site → Walk → List Conn → List ℕ → Plan
 packets_part site walk tracked packets = packets_plan site packets (λ sent. says status.Ok (trace_text walk tracked sent))
 
 -- `trace` of a walk
-abbrev pub conns_part : Site → (Packet → Kind → Outcome) → List ℕ → List ℕ → Plan
+abbrev pub conns_part : Site → Walk → List ℕ → List ℕ → Plan
 conns_part site walk conns packets = conns_plan conns (λ tracked. packets_part site walk tracked packets)
 
 -- `trace` at a site
@@ -58,7 +56,7 @@ abbrev pub why_part : SourceLang → Site → List ℕ → List ℕ → List ℕ
 why_part lang site file conns packets = source_plan lang site file (λ policy. why_conns_part site policy conns packets)
 
 -- `run` of a walk, in a configuration that tracks or doesn't
-abbrev pub events_part : Site → Bool → (Packet → Kind → Outcome) → List ℕ → Plan
+abbrev pub events_part : Site → Bool → Walk → List ℕ → Plan
 events_part site tracks walk events = events_plan site events (λ given. says status.Ok (run_text tracks walk given))
 
 -- `run` at a site
@@ -66,7 +64,7 @@ abbrev pub run_part : SourceLang → Site → List ℕ → List ℕ → Plan
 run_part lang site file events = source_plan lang site file (λ policy. events_part site policy.tracks policy.walk events)
 
 -- `same` of a walk
-abbrev pub other_part : Site → (Packet → Kind → Outcome) → SourceLang → List ℕ → Plan
+abbrev pub other_part : Site → Walk → SourceLang → List ℕ → Plan
 other_part site walk lang file = source_plan lang site file (λ policy. shows (comparison site walk policy.walk))
 
 -- `same` at a site

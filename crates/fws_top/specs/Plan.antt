@@ -27,7 +27,7 @@ use Rattle.fws_trace.specs.PacketText.{packets_of}
 use Rattle.fws_trace.specs.TraceText.{trace_text}
 use Rattle.fws_why.specs.WhyText.{why_text}
 
--- a status and a text are said, or a wanted text is shown with its status, or the file of a name is read and its bytes decide
+-- a status and a text are said; or a text that is asked for is shown with its status; or the file of a name is read and its bytes decide
 pub data Plan : Type 0 where
   says : Status → List ℕ → Plan
   shows : Wanted → Plan

@@ -1,6 +1,6 @@
 -- What `translate` answers with: a text of the target that does the same, or the line that says which packets show why there is
 -- none.
-use Rattle.std.specs.Prelude.{◌≡◌, ℕ, Bool, true, Result, Ok, List, [], ◌∷◌, ◌++◌, codes}
+use Rattle.std.specs.Prelude.{◌≡◌, ℕ, Bool, true, Ok, List, [], ◌∷◌, ◌++◌, codes}
 use Rattle.std.specs.Fmt.{decimal}
 use Rattle.std.specs.List.{join_with_byte}
 use Rattle.std.specs.Option.{option_map_or}
@@ -14,17 +14,13 @@ use Rattle.fws_ipfw_put.specs.Placed.{tracks as ipfw_tracks}
 use Rattle.fws_ipt.specs.FileText.{spelled as ipt_spelled}
 use Rattle.fws_ipt.specs.Walk.{walk as ipt_walk}
 use Rattle.fws_ipt_put.specs.Placed.{tracks as ipt_tracks}
-use Rattle.fws_net.specs.declared.cause.Cause.{Cause}
-use Rattle.fws_net.specs.declared.connection.Kind.{Kind}
 use Rattle.fws_net.specs.declared.connection.Kind.TheVariants.{New, Est}
 use Rattle.fws_net.specs.declared.connection.Rec.{Rec}
-use Rattle.fws_net.specs.declared.outcome.Outcome.{Outcome}
 use Rattle.fws_net.specs.declared.packet.Lang.{Lang}
 use Rattle.fws_net.specs.declared.packet.Lang.TheVariants as langs
 use Rattle.fws_net.specs.declared.packet.Packet.{Packet}
 use Rattle.fws_net.specs.declared.site.Site.{Site}
 use Rattle.fws_net.specs.Connections.{fate_in}
-use Rattle.fws_net.specs.Reading.{Refusal}
 use Rattle.fws_pf.specs.FileText.{spelled as pf_spelled}
 use Rattle.fws_pf.specs.Walk.{walk as pf_walk}
 use Rattle.fws_pf_put.specs.Placed.{tracks as pf_tracks}
@@ -36,22 +32,27 @@ use Rattle.fws_top.specs.declared.lang.TargetLang.{TargetLang}
 use Rattle.fws_top.specs.declared.lang.TargetLang.TheVariants.{Iptables, Ipfw, Pf, Ios}
 use Rattle.fws_top.specs.declared.status.Status.{Status}
 use Rattle.fws_top.specs.declared.status.Status.TheVariants as status
-use Rattle.fws_top.specs.Walked.{AreTablesOf}
+use Rattle.fws_top.specs.Judged.{Spelling}
+use Rattle.fws_top.specs.Walked.{AreTablesOf, Walk}
 use Rattle.fws_tree.specs.declared.tables.Tables.{Tables}
 
 -- Texts of the target
 
 -- a walk gives every packet of the site, new or established, the fate that the tables give it
-pub record GivesFates (site : Site) (tables : Tables) (walk : Packet → Kind → Outcome) : Type 0 where
+pub record GivesFates (site : Site) (tables : Tables) (walk : Walk) : Type 0 where
   pub new : (p : Packet) → IsPacketOf site p → fate_in (walk p New) p New ≡ fate_in (new_of tables p) p New
   pub established : (p : Packet) (r : Rec) → IsPairOf site p r → fate_in (walk p (Est r)) p (Est r) ≡ fate_in (est_of tables p r) p (Est r)
 
 -- the text spells a configuration that keeps state where it accepts, and gives these fates
-pub record EmitsBy {C : Type 0} (spelled : List ℕ → Result C (Refusal Cause)) (tracks : C → Bool) (walk : C → Packet → Kind → Outcome) (site : Site) (tables : Tables) (t : List ℕ) : Type 0 where
+pub record EmitsBy {C : Type 0} (spelled : Spelling C) (tracks : C → Bool) (walk : C → Walk) (site : Site) (tables : Tables) (t : List ℕ) : Type 0 where
   pub config : C
   pub spells : spelled t ≡ Ok config
   pub tracked : tracks config ≡ true
   pub fates : GivesFates site tables (walk config)
+
+-- the same in a language, by what it says of its texts and configurations
+abbrev pub EmitsIn : {C : Type 0} → (Site → Spelling C) → (Site → C → Bool) → (C → Site → Walk) → Site → Tables → List ℕ → Type 0
+EmitsIn spelled tracks walk site = EmitsBy (spelled site) (tracks site) (λ config. walk config site) site
 
 -- in each target
 abbrev pub Emits : TargetLang → Site → Tables → List ℕ → Type 0
@@ -99,5 +100,5 @@ abbrev pub IsPlacement : TargetLang → Site → Tables → Status → List ℕ 
 IsPlacement target site tables s t = IsPlacementBy (system_of target) (Emits target site tables) target site tables s t
 
 -- of the tables of a walk
-abbrev pub IsTranslation : TargetLang → Site → (Packet → Kind → Outcome) → Status → List ℕ → Type 0
+abbrev pub IsTranslation : TargetLang → Site → Walk → Status → List ℕ → Type 0
 IsTranslation target site walk s t = (tables : Tables) × AreTablesOf site walk tables × IsPlacement target site tables s t

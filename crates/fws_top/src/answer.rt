@@ -15,7 +15,7 @@ pub(crate) struct Answer {
     pub(crate) text: Text,
 }
 
-/// Why a step gives no value: an answer in place of it, or out of memory.
+/// Why a step gives no value: the command ends with an answer, or memory ran out.
 #[derive(Drop)]
 pub(crate) enum Stop {
     Due(Answer),

@@ -1,10 +1,10 @@
 //! From the words of a command line to what is answered.
 
-ghost use Rattle.std.specs.Prelude.{◌≡◌, ℕ, List, Option, IfOk, IfErr};
-ghost use Rattle.fws_top.specs.Due.{IsAnswered, plan_for};
+ghost use Rattle.std.specs.Prelude.{◌≡◌, Option, IfOk, IfErr};
+ghost use Rattle.fws_top.specs.Answered.{Answered, AnswersWords, GivesAnswer, Stopped};
+ghost use Rattle.fws_top.specs.Due.{Contents, Faults};
 ghost use Rattle.fws_top.specs.Forms.{IsSpelled, asked};
 ghost use Rattle.fws_top.specs.Plan.{Plan, plan_of};
-ghost use Rattle.fws_top.specs.Stops.{Answered, Stopped};
 
 use crate::answer::{Answer, Stop, said};
 use crate::commands::{dead, load, query, run, same, second_form, synth, trace, translate, why};
@@ -18,7 +18,7 @@ use std::alloc::Global;
 
 /// The text of a command that went well, or the answer in its place.
 fn ended(text: Result<Text, Stop>) -> Result<Answer, Memory>
-    ensures { (plan : Plan) (told : Option (List ℕ → List ℕ)) (old new : List ℕ → ℕ) → IfOk text (Answered plan told old new Status.Ok)
+    ensures { (plan : Plan) (told : Option Contents) (old new : Faults) → IfOk text (Answered plan told old new Status.Ok)
         → IfErr text (Stopped plan told old new) → IfOk result (λ answer. Answered plan told old new answer.status answer.text) }
 {
     match text {
@@ -33,7 +33,7 @@ fn ended(text: Result<Text, Stop>) -> Result<Answer, Memory>
 
 /// The answer of a command that went well, or the one in its place.
 fn answered(answer: Result<Answer, Stop>) -> Result<Answer, Memory>
-    ensures { (plan : Plan) (told : Option (List ℕ → List ℕ)) (old new : List ℕ → ℕ)
+    ensures { (plan : Plan) (told : Option Contents) (old new : Faults)
         → IfOk answer (λ a. Answered plan told old new a.status a.text)
         → IfErr answer (Stopped plan told old new) → IfOk result (λ a. Answered plan told old new a.status a.text) }
 {
@@ -48,7 +48,7 @@ fn answered(answer: Result<Answer, Stop>) -> Result<Answer, Memory>
 fn follow<S: Shelf>(alloc: Global, form: &Form<'_>, shelf: &mut S) -> Result<Answer, Memory>
     requires { IsSpelled form.now }
     ensures same { S.told shelf.new ≡ S.told shelf.old }
-    ensures answered { IfOk result (λ answer. Answered (plan_of (asked form.now)) (S.told shelf.old) (S.faults shelf.old) (S.faults shelf.new) answer.status answer.text) }
+    ensures answered { GivesAnswer (plan_of (asked form.now)) S.told S.faults shelf.old shelf.new result }
 {
     match *form {
         Form::Unknown => said(alloc, Status::Usage, USAGE),
@@ -85,7 +85,7 @@ pub(crate) fn answer_to<S: Shelf>(
     shelf: &mut S,
 ) -> Result<Answer, Memory>
     ensures same { S.told shelf.new ≡ S.told shelf.old }
-    ensures answered { IfOk result (λ answer. IsAnswered (plan_for words.now) (S.told shelf.old) (S.faults shelf.old) (S.faults shelf.new) answer.status answer.text) }
+    ensures answered { AnswersWords words.now S.told S.faults shelf.old shelf.new result }
 {
     let form = read_form(words);
     let answer = follow(alloc, &form, shelf)?;

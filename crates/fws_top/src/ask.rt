@@ -1,11 +1,15 @@
 //! The words of a query.
+//!
+//! There is a function for each definition in `specs/Asks.antt`, cut as this is, so that the prover needs no help.
 
 ghost use Rattle.std.specs.Prelude.{◌≡◌, ◌≤◌, Some, None, MatchOption, IfSome};
 ghost use Rattle.std.specs.List.{list_all, list_any};
 ghost use Rattle.std.specs.Str.{bytes_eq};
 ghost use Rattle.fws_num.specs.Numbers.{dec_of};
 ghost use Rattle.fws_table.specs.TableText.{entry_name};
-ghost use Rattle.fws_top.specs.Asks.{is_entry, set_is_known, word_is_known, are_known, subject_of, number_of, field_value, items_of, ordered, range_of, is_item, is_set, verdict_asked, is_asked, ask_of, asks_about, asks_last, are_asks, is_shown, asks_shown, are_shown};
+ghost use Rattle.fws_top.specs.Asks.{is_entry, set_is_known, word_is_known, are_known, subject_of, number_of, field_value, items_of, ordered};
+ghost use Rattle.fws_top.specs.Asks.{range_of, is_item, is_set, verdict_asked, is_asked, ask_of, asks_about, asks_last, are_asks, is_shown};
+ghost use Rattle.fws_top.specs.Asks.{asks_shown, are_shown};
 
 use fws_net::{Site, State};
 use fws_num::{Text, behind_is_shorter, read_dec, read_quad, split_once, value_named};
@@ -138,7 +142,7 @@ pub(crate) fn read_range(subject: Subject, item: &[u8]) -> Option<(u32, u32)>
     }
 }
 
-/// An item of a set is a name of an entry, or a range of values.
+/// Whether an item of a set is a name of an entry, or a range of values.
 fn is_item(subject: Subject, item: &[u8]) -> bool
     ensures { result ≡ is_item subject item.now }
 {
@@ -183,7 +187,7 @@ pub(crate) fn read_verdict(text: &[u8]) -> Option<bool>
     }
 }
 
-/// What stands behind the `=` is spelled as its subject needs.
+/// Whether what is behind the `=` is spelled as its subject needs it.
 fn is_asked(subject: Subject, text: &[u8]) -> bool
     ensures { result ≡ is_asked subject text.now }
 {
@@ -230,7 +234,7 @@ fn any_asks_about(subject: Subject, words: &[Text]) -> bool
     false
 }
 
-/// A word is well spelled, and no later one asks again about its subject.
+/// Whether a word is well spelled, and no later one asks again about its subject.
 fn asks_last(word: &[u8], later: &[Text]) -> bool
     ensures { result ≡ asks_last word.now later.now }
 {

@@ -9,7 +9,8 @@ ghost use Rattle.fws_net.specs.Points.{tops_of};
 ghost use Rattle.fws_net.specs.Routes.{IsSound};
 ghost use Rattle.fws_table.specs.TableText.{entry_name};
 ghost use Rattle.fws_box.specs.Sides.{IsWithin, sides_have};
-ghost use Rattle.fws_top.specs.Asks.{items_of, range_of, ask_of, are_asks, item_has, set_has, number_of, HasValues, ask_has, word_has, asks_have, AreNarrowed, word_verdict, asked_verdict};
+ghost use Rattle.fws_top.specs.Asks.{items_of, range_of, ask_of, are_asks, item_has, set_has, number_of, HasValues, ask_has, word_has, asks_have};
+ghost use Rattle.fws_top.specs.Asks.{AreNarrowed, word_verdict, asked_verdict};
 
 use crate::ask::{Subject, is, is_named, number_of, read_range, read_verdict, read_word};
 use fws_box::whole_sides;
@@ -156,7 +157,7 @@ fn asked_verdict(words: &[Text]) -> Option<bool>
 }
 
 /// What the words ask for, of which each is well spelled: on the sides the points of the site that every word asks for,
-/// and the verdict. An error is out of memory.
+/// and the verdict. Fails if memory runs out.
 pub(crate) fn read_ask(alloc: Global, site: &Site, words: &[Text]) -> Result<Ask, Memory>
     requires sound { IsSound site.now }
     requires spelled { are_asks words.now ≡ true }

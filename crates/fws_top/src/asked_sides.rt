@@ -19,7 +19,7 @@ use std::alloc::Global;
 /// With how many intervals a side is kept at most.
 const FEW: usize = 4;
 
-/// Whether what becomes of packets may hang on the field with this number where the test is asked: one of an end sees it as it
+/// Whether what becomes of packets may depend on the field with this number where the test is asked: one of an end sees it as it
 /// entered, or as a connection sends it.
 fn looks_at(test: &Test, field: usize) -> bool {
     match test {
@@ -76,7 +76,7 @@ fn executed_side(alloc: Global, looks: bool, top: u32, set: &Ivs) -> Result<Ivs,
 }
 
 /// Sides of the points that are executed for a query that asks for the points on these sides: all of these points, and others.
-/// An error is want of memory.
+/// Fails if memory runs out.
 pub(crate) fn executed_sides(
     alloc: Global,
     site: &Site,

@@ -1,19 +1,25 @@
 //! The commands that read files.
+//!
+//! A command is a chain of short functions, of which each takes one thing from a file and hands it on, with the part of the plan that
+//! is left in its clauses. One function that owned site, code, connections and packets would let go of all of them wherever it ends
+//! early, and the prover would take minutes for that.
 
-ghost use Rattle.std.specs.Prelude.{◌≡◌, ◌≤◌, ℕ, List, Option, true, IfOk, IfErr};
+ghost use Rattle.std.specs.Prelude.{◌≡◌, ◌≤◌, Option, true, IfOk, IfErr};
 ghost use Rattle.fws_flat.specs.Soundness.{flat_ok};
-ghost use Rattle.fws_net.specs.declared.connection.Kind.{Kind};
-ghost use Rattle.fws_net.specs.declared.outcome.Outcome.{Outcome};
-ghost use Rattle.fws_net.specs.declared.packet.Packet.{Packet};
 ghost use Rattle.fws_net.specs.Routes.{IsSound};
 ghost use Rattle.fws_net.specs.SiteLaws.{IsOrderly};
+ghost use Rattle.fws_top.specs.Answered.{Answered, GivesAnswer, GivesStop, GivesText, Stopped};
 ghost use Rattle.fws_top.specs.Asks.{are_asks};
+ghost use Rattle.fws_top.specs.Codes.{Does, DoesRegularly};
 ghost use Rattle.fws_top.specs.declared.status.Status.TheVariants as status;
+ghost use Rattle.fws_top.specs.Due.{Contents, Faults};
 ghost use Rattle.fws_top.specs.Forms.{synth, query, translate, trace, why, run, same, dead, load, site2};
 ghost use Rattle.fws_top.specs.Judged.{Policy};
-ghost use Rattle.fws_top.specs.Parts.{query_part, conns_part, dead_part, events_part, load_part, other_part, packets_part, run_part, same_part, table_part, trace_part, translation_part, why_conns_part, why_packets_part, why_part};
+ghost use Rattle.fws_top.specs.Parts.{query_part, conns_part, dead_part, events_part, load_part, other_part, packets_part, run_part, same_part};
+ghost use Rattle.fws_top.specs.Parts.{table_part, trace_part, translation_part, why_conns_part, why_packets_part, why_part};
+ghost use Rattle.fws_top.specs.PlacedCodes.{IsToldBy};
 ghost use Rattle.fws_top.specs.Plan.{plan_of};
-ghost use Rattle.fws_top.specs.Stops.{Answered, Does, DoesRegularly, IsToldBy, Stopped};
+ghost use Rattle.fws_top.specs.Walked.{Walk};
 
 use crate::answer::{Answer, Stop};
 use crate::lang::{SourceLang, TargetLang};
@@ -45,8 +51,8 @@ fn synth_at<S: Shelf>(
 ) -> Result<Text, Stop>
     requires { IsSound site.now }
     ensures same { S.told shelf.new ≡ S.told shelf.old }
-    ensures answered { IfOk result (Answered (table_part lang site.now file_name.now state) (S.told shelf.old) (S.faults shelf.old) (S.faults shelf.new) status.Ok) }
-    ensures stopped { IfErr result (Stopped (table_part lang site.now file_name.now state) (S.told shelf.old) (S.faults shelf.old) (S.faults shelf.new)) }
+    ensures answered { GivesText (table_part lang site.now file_name.now state) S.told S.faults shelf.old shelf.new result }
+    ensures stopped { GivesStop (table_part lang site.now file_name.now state) S.told S.faults shelf.old shelf.new result }
 {
     let code = take_source(alloc, shelf, lang, site, file_name)?;
     let text = table(alloc, site, &code.flat, state)?;
@@ -63,8 +69,8 @@ pub(crate) fn synth<S: Shelf>(
     state: State,
 ) -> Result<Text, Stop>
     ensures same { S.told shelf.new ≡ S.told shelf.old }
-    ensures answered { IfOk result (Answered (plan_of (synth lang site_name.now file_name.now state)) (S.told shelf.old) (S.faults shelf.old) (S.faults shelf.new) status.Ok) }
-    ensures stopped { IfErr result (Stopped (plan_of (synth lang site_name.now file_name.now state)) (S.told shelf.old) (S.faults shelf.old) (S.faults shelf.new)) }
+    ensures answered { GivesText (plan_of (synth lang site_name.now file_name.now state)) S.told S.faults shelf.old shelf.new result }
+    ensures stopped { GivesStop (plan_of (synth lang site_name.now file_name.now state)) S.told S.faults shelf.old shelf.new result }
 {
     let site = take_site(alloc, shelf, site_name)?;
     synth_at(alloc, shelf, lang, &site, file_name, state)
@@ -83,8 +89,8 @@ fn query_at<S: Shelf>(
     requires sound { IsSound site.now }
     requires spelled { are_asks asks.now ≡ true }
     ensures same { S.told shelf.new ≡ S.told shelf.old }
-    ensures answered { IfOk result (Answered (query_part lang site.now file_name.now state asks.now) (S.told shelf.old) (S.faults shelf.old) (S.faults shelf.new) status.Ok) }
-    ensures stopped { IfErr result (Stopped (query_part lang site.now file_name.now state asks.now) (S.told shelf.old) (S.faults shelf.old) (S.faults shelf.new)) }
+    ensures answered { GivesText (query_part lang site.now file_name.now state asks.now) S.told S.faults shelf.old shelf.new result }
+    ensures stopped { GivesStop (query_part lang site.now file_name.now state asks.now) S.told S.faults shelf.old shelf.new result }
 {
     know_entries(alloc, site, asks)?;
     let code = take_source(alloc, shelf, lang, site, file_name)?;
@@ -104,8 +110,8 @@ pub(crate) fn query<S: Shelf>(
 ) -> Result<Text, Stop>
     requires { are_asks asks.now ≡ true }
     ensures same { S.told shelf.new ≡ S.told shelf.old }
-    ensures answered { IfOk result (Answered (plan_of (query lang site_name.now file_name.now state asks.now)) (S.told shelf.old) (S.faults shelf.old) (S.faults shelf.new) status.Ok) }
-    ensures stopped { IfErr result (Stopped (plan_of (query lang site_name.now file_name.now state asks.now)) (S.told shelf.old) (S.faults shelf.old) (S.faults shelf.new)) }
+    ensures answered { GivesText (plan_of (query lang site_name.now file_name.now state asks.now)) S.told S.faults shelf.old shelf.new result }
+    ensures stopped { GivesStop (plan_of (query lang site_name.now file_name.now state asks.now)) S.told S.faults shelf.old shelf.new result }
 {
     let site = take_site(alloc, shelf, site_name)?;
     query_at(alloc, shelf, lang, &site, file_name, state, asks)
@@ -123,8 +129,8 @@ fn translate_at<S: Shelf>(
     requires sound { IsSound site.now }
     requires orderly { IsOrderly site.now }
     ensures same { S.told shelf.new ≡ S.told shelf.old }
-    ensures answered { IfOk result (λ answer. Answered (translation_part from to site.now file_name.now) (S.told shelf.old) (S.faults shelf.old) (S.faults shelf.new) answer.status answer.text) }
-    ensures stopped { IfErr result (Stopped (translation_part from to site.now file_name.now) (S.told shelf.old) (S.faults shelf.old) (S.faults shelf.new)) }
+    ensures answered { GivesAnswer (translation_part from to site.now file_name.now) S.told S.faults shelf.old shelf.new result }
+    ensures stopped { GivesStop (translation_part from to site.now file_name.now) S.told S.faults shelf.old shelf.new result }
 {
     let (bytes, code) = take_source_text(alloc, shelf, from, site, file_name)?;
     let origin = origin_of(alloc, from, site, bytes.as_slice(), &code.flat)?;
@@ -142,8 +148,8 @@ pub(crate) fn translate<S: Shelf>(
     file_name: &[u8],
 ) -> Result<Answer, Stop>
     ensures same { S.told shelf.new ≡ S.told shelf.old }
-    ensures answered { IfOk result (λ answer. Answered (plan_of (translate from to site_name.now file_name.now)) (S.told shelf.old) (S.faults shelf.old) (S.faults shelf.new) answer.status answer.text) }
-    ensures stopped { IfErr result (Stopped (plan_of (translate from to site_name.now file_name.now)) (S.told shelf.old) (S.faults shelf.old) (S.faults shelf.new)) }
+    ensures answered { GivesAnswer (plan_of (translate from to site_name.now file_name.now)) S.told S.faults shelf.old shelf.new result }
+    ensures stopped { GivesStop (plan_of (translate from to site_name.now file_name.now)) S.told S.faults shelf.old shelf.new result }
 {
     read_sites_are_orderly();
     let site = take_site(alloc, shelf, site_name)?;
@@ -162,10 +168,9 @@ fn trace_among<S: Shelf>(
     requires sound { IsSound site.now }
     requires ok { flat_ok code.now ≡ true }
     ensures same { S.told shelf.new ≡ S.told shelf.old }
-    ensures answered { (walk : Packet → Kind → Outcome) → Does code.now site.now walk
-        → IfOk result (Answered (packets_part site.now walk conns.now packets_name.now) (S.told shelf.old) (S.faults shelf.old) (S.faults shelf.new) status.Ok) }
-    ensures stopped { (walk : Packet → Kind → Outcome)
-        → IfErr result (Stopped (packets_part site.now walk conns.now packets_name.now) (S.told shelf.old) (S.faults shelf.old) (S.faults shelf.new)) }
+    ensures answered { (walk : Walk) → Does code.now site.now walk
+        → GivesText (packets_part site.now walk conns.now packets_name.now) S.told S.faults shelf.old shelf.new result }
+    ensures stopped { (walk : Walk) → GivesStop (packets_part site.now walk conns.now packets_name.now) S.told S.faults shelf.old shelf.new result }
 {
     let packets = take_packets(alloc, shelf, site, packets_name)?;
     let text = traced(alloc, site, code, conns, packets.as_slice())?;
@@ -184,10 +189,9 @@ fn trace_by<S: Shelf>(
     requires sound { IsSound site.now }
     requires ok { flat_ok code.now ≡ true }
     ensures same { S.told shelf.new ≡ S.told shelf.old }
-    ensures answered { (walk : Packet → Kind → Outcome) → Does code.now site.now walk
-        → IfOk result (Answered (conns_part site.now walk conns_name.now packets_name.now) (S.told shelf.old) (S.faults shelf.old) (S.faults shelf.new) status.Ok) }
-    ensures stopped { (walk : Packet → Kind → Outcome)
-        → IfErr result (Stopped (conns_part site.now walk conns_name.now packets_name.now) (S.told shelf.old) (S.faults shelf.old) (S.faults shelf.new)) }
+    ensures answered { (walk : Walk) → Does code.now site.now walk
+        → GivesText (conns_part site.now walk conns_name.now packets_name.now) S.told S.faults shelf.old shelf.new result }
+    ensures stopped { (walk : Walk) → GivesStop (conns_part site.now walk conns_name.now packets_name.now) S.told S.faults shelf.old shelf.new result }
 {
     let conns = take_conns(alloc, shelf, conns_name)?;
     trace_among(alloc, shelf, site, code, conns.as_slice(), packets_name)
@@ -205,8 +209,8 @@ fn trace_at<S: Shelf>(
 ) -> Result<Text, Stop>
     requires { IsSound site.now }
     ensures same { S.told shelf.new ≡ S.told shelf.old }
-    ensures answered { IfOk result (Answered (trace_part lang site.now file_name.now conns_name.now packets_name.now) (S.told shelf.old) (S.faults shelf.old) (S.faults shelf.new) status.Ok) }
-    ensures stopped { IfErr result (Stopped (trace_part lang site.now file_name.now conns_name.now packets_name.now) (S.told shelf.old) (S.faults shelf.old) (S.faults shelf.new)) }
+    ensures answered { GivesText (trace_part lang site.now file_name.now conns_name.now packets_name.now) S.told S.faults shelf.old shelf.new result }
+    ensures stopped { GivesStop (trace_part lang site.now file_name.now conns_name.now packets_name.now) S.told S.faults shelf.old shelf.new result }
 {
     let code = take_source(alloc, shelf, lang, site, file_name)?;
     trace_by(alloc, shelf, site, &code.flat, conns_name, packets_name)
@@ -223,8 +227,8 @@ pub(crate) fn trace<S: Shelf>(
     packets_name: &[u8],
 ) -> Result<Text, Stop>
     ensures same { S.told shelf.new ≡ S.told shelf.old }
-    ensures answered { IfOk result (Answered (plan_of (trace lang site_name.now file_name.now conns_name.now packets_name.now)) (S.told shelf.old) (S.faults shelf.old) (S.faults shelf.new) status.Ok) }
-    ensures stopped { IfErr result (Stopped (plan_of (trace lang site_name.now file_name.now conns_name.now packets_name.now)) (S.told shelf.old) (S.faults shelf.old) (S.faults shelf.new)) }
+    ensures answered { GivesText (plan_of (trace lang site_name.now file_name.now conns_name.now packets_name.now)) S.told S.faults shelf.old shelf.new result }
+    ensures stopped { GivesStop (plan_of (trace lang site_name.now file_name.now conns_name.now packets_name.now)) S.told S.faults shelf.old shelf.new result }
 {
     let site = take_site(alloc, shelf, site_name)?;
     trace_at(
@@ -250,9 +254,9 @@ fn why_among<S: Shelf>(
     requires { IsSound site.now }
     ensures same { S.told shelf.new ≡ S.told shelf.old }
     ensures answered { (policy : Policy) → IsToldBy policy site.now code.now
-        → IfOk result (Answered (why_packets_part site.now policy conns.now packets_name.now) (S.told shelf.old) (S.faults shelf.old) (S.faults shelf.new) status.Ok) }
+        → GivesText (why_packets_part site.now policy conns.now packets_name.now) S.told S.faults shelf.old shelf.new result }
     ensures stopped { (policy : Policy)
-        → IfErr result (Stopped (why_packets_part site.now policy conns.now packets_name.now) (S.told shelf.old) (S.faults shelf.old) (S.faults shelf.new)) }
+        → GivesStop (why_packets_part site.now policy conns.now packets_name.now) S.told S.faults shelf.old shelf.new result }
 {
     let packets = take_packets(alloc, shelf, site, packets_name)?;
     let text = explained(alloc, site, code, conns, packets.as_slice())?;
@@ -271,9 +275,9 @@ fn why_by<S: Shelf>(
     requires { IsSound site.now }
     ensures same { S.told shelf.new ≡ S.told shelf.old }
     ensures answered { (policy : Policy) → IsToldBy policy site.now code.now
-        → IfOk result (Answered (why_conns_part site.now policy conns_name.now packets_name.now) (S.told shelf.old) (S.faults shelf.old) (S.faults shelf.new) status.Ok) }
+        → GivesText (why_conns_part site.now policy conns_name.now packets_name.now) S.told S.faults shelf.old shelf.new result }
     ensures stopped { (policy : Policy)
-        → IfErr result (Stopped (why_conns_part site.now policy conns_name.now packets_name.now) (S.told shelf.old) (S.faults shelf.old) (S.faults shelf.new)) }
+        → GivesStop (why_conns_part site.now policy conns_name.now packets_name.now) S.told S.faults shelf.old shelf.new result }
 {
     let conns = take_conns(alloc, shelf, conns_name)?;
     why_among(alloc, shelf, site, code, conns.as_slice(), packets_name)
@@ -291,8 +295,8 @@ fn why_at<S: Shelf>(
 ) -> Result<Text, Stop>
     requires { IsSound site.now }
     ensures same { S.told shelf.new ≡ S.told shelf.old }
-    ensures answered { IfOk result (Answered (why_part lang site.now file_name.now conns_name.now packets_name.now) (S.told shelf.old) (S.faults shelf.old) (S.faults shelf.new) status.Ok) }
-    ensures stopped { IfErr result (Stopped (why_part lang site.now file_name.now conns_name.now packets_name.now) (S.told shelf.old) (S.faults shelf.old) (S.faults shelf.new)) }
+    ensures answered { GivesText (why_part lang site.now file_name.now conns_name.now packets_name.now) S.told S.faults shelf.old shelf.new result }
+    ensures stopped { GivesStop (why_part lang site.now file_name.now conns_name.now packets_name.now) S.told S.faults shelf.old shelf.new result }
 {
     let code = take_placed_code(alloc, shelf, lang, site, file_name)?;
     why_by(alloc, shelf, site, &code, conns_name, packets_name)
@@ -309,8 +313,8 @@ pub(crate) fn why<S: Shelf>(
     packets_name: &[u8],
 ) -> Result<Text, Stop>
     ensures same { S.told shelf.new ≡ S.told shelf.old }
-    ensures answered { IfOk result (Answered (plan_of (why lang site_name.now file_name.now conns_name.now packets_name.now)) (S.told shelf.old) (S.faults shelf.old) (S.faults shelf.new) status.Ok) }
-    ensures stopped { IfErr result (Stopped (plan_of (why lang site_name.now file_name.now conns_name.now packets_name.now)) (S.told shelf.old) (S.faults shelf.old) (S.faults shelf.new)) }
+    ensures answered { GivesText (plan_of (why lang site_name.now file_name.now conns_name.now packets_name.now)) S.told S.faults shelf.old shelf.new result }
+    ensures stopped { GivesStop (plan_of (why lang site_name.now file_name.now conns_name.now packets_name.now)) S.told S.faults shelf.old shelf.new result }
 {
     let site = take_site(alloc, shelf, site_name)?;
     why_at(
@@ -335,10 +339,9 @@ fn run_by<S: Shelf>(
     requires sound { IsSound site.now }
     requires ok { flat_ok code.now.flat ≡ true }
     ensures same { S.told shelf.new ≡ S.told shelf.old }
-    ensures answered { (walk : Packet → Kind → Outcome) → Does code.now.flat site.now walk
-        → IfOk result (Answered (events_part site.now code.now.tracks walk events_name.now) (S.told shelf.old) (S.faults shelf.old) (S.faults shelf.new) status.Ok) }
-    ensures stopped { (walk : Packet → Kind → Outcome)
-        → IfErr result (Stopped (events_part site.now code.now.tracks walk events_name.now) (S.told shelf.old) (S.faults shelf.old) (S.faults shelf.new)) }
+    ensures answered { (walk : Walk) → Does code.now.flat site.now walk
+        → GivesText (events_part site.now code.now.tracks walk events_name.now) S.told S.faults shelf.old shelf.new result }
+    ensures stopped { (walk : Walk) → GivesStop (events_part site.now code.now.tracks walk events_name.now) S.told S.faults shelf.old shelf.new result }
 {
     let events = take_events(alloc, shelf, site, events_name)?;
     let text = replayed(alloc, site, code, events.as_slice())?;
@@ -356,8 +359,8 @@ fn run_at<S: Shelf>(
 ) -> Result<Text, Stop>
     requires { IsSound site.now }
     ensures same { S.told shelf.new ≡ S.told shelf.old }
-    ensures answered { IfOk result (Answered (run_part lang site.now file_name.now events_name.now) (S.told shelf.old) (S.faults shelf.old) (S.faults shelf.new) status.Ok) }
-    ensures stopped { IfErr result (Stopped (run_part lang site.now file_name.now events_name.now) (S.told shelf.old) (S.faults shelf.old) (S.faults shelf.new)) }
+    ensures answered { GivesText (run_part lang site.now file_name.now events_name.now) S.told S.faults shelf.old shelf.new result }
+    ensures stopped { GivesStop (run_part lang site.now file_name.now events_name.now) S.told S.faults shelf.old shelf.new result }
 {
     let code = take_source(alloc, shelf, lang, site, file_name)?;
     run_by(alloc, shelf, site, &code, events_name)
@@ -373,8 +376,8 @@ pub(crate) fn run<S: Shelf>(
     events_name: &[u8],
 ) -> Result<Text, Stop>
     ensures same { S.told shelf.new ≡ S.told shelf.old }
-    ensures answered { IfOk result (Answered (plan_of (run lang site_name.now file_name.now events_name.now)) (S.told shelf.old) (S.faults shelf.old) (S.faults shelf.new) status.Ok) }
-    ensures stopped { IfErr result (Stopped (plan_of (run lang site_name.now file_name.now events_name.now)) (S.told shelf.old) (S.faults shelf.old) (S.faults shelf.new)) }
+    ensures answered { GivesText (plan_of (run lang site_name.now file_name.now events_name.now)) S.told S.faults shelf.old shelf.new result }
+    ensures stopped { GivesStop (plan_of (run lang site_name.now file_name.now events_name.now)) S.told S.faults shelf.old shelf.new result }
 {
     let site = take_site(alloc, shelf, site_name)?;
     run_at(alloc, shelf, lang, &site, file_name, events_name)
@@ -393,10 +396,9 @@ fn same_by<S: Shelf>(
     requires ok { flat_ok code.now ≡ true }
     requires regular { DoesRegularly code.now site.now }
     ensures same { S.told shelf.new ≡ S.told shelf.old }
-    ensures answered { (walk : Packet → Kind → Outcome) → Does code.now site.now walk
-        → IfOk result (Answered (other_part site.now walk other_lang other_name.now) (S.told shelf.old) (S.faults shelf.old) (S.faults shelf.new) status.Ok) }
-    ensures stopped { (walk : Packet → Kind → Outcome)
-        → IfErr result (Stopped (other_part site.now walk other_lang other_name.now) (S.told shelf.old) (S.faults shelf.old) (S.faults shelf.new)) }
+    ensures answered { (walk : Walk) → Does code.now site.now walk
+        → GivesText (other_part site.now walk other_lang other_name.now) S.told S.faults shelf.old shelf.new result }
+    ensures stopped { (walk : Walk) → GivesStop (other_part site.now walk other_lang other_name.now) S.told S.faults shelf.old shelf.new result }
 {
     let other = take_source(alloc, shelf, other_lang, site, other_name)?;
     let text = compared(alloc, site, code, &other.flat)?;
@@ -415,8 +417,8 @@ fn same_at<S: Shelf>(
 ) -> Result<Text, Stop>
     requires { IsSound site.now }
     ensures same { S.told shelf.new ≡ S.told shelf.old }
-    ensures answered { IfOk result (Answered (same_part lang site.now file_name.now other_lang other_name.now) (S.told shelf.old) (S.faults shelf.old) (S.faults shelf.new) status.Ok) }
-    ensures stopped { IfErr result (Stopped (same_part lang site.now file_name.now other_lang other_name.now) (S.told shelf.old) (S.faults shelf.old) (S.faults shelf.new)) }
+    ensures answered { GivesText (same_part lang site.now file_name.now other_lang other_name.now) S.told S.faults shelf.old shelf.new result }
+    ensures stopped { GivesStop (same_part lang site.now file_name.now other_lang other_name.now) S.told S.faults shelf.old shelf.new result }
 {
     let code = take_source(alloc, shelf, lang, site, file_name)?;
     same_by(alloc, shelf, site, &code.flat, other_lang, other_name)
@@ -433,8 +435,8 @@ pub(crate) fn same<S: Shelf>(
     other_name: &[u8],
 ) -> Result<Text, Stop>
     ensures same { S.told shelf.new ≡ S.told shelf.old }
-    ensures answered { IfOk result (Answered (plan_of (same lang site_name.now file_name.now other_lang other_name.now)) (S.told shelf.old) (S.faults shelf.old) (S.faults shelf.new) status.Ok) }
-    ensures stopped { IfErr result (Stopped (plan_of (same lang site_name.now file_name.now other_lang other_name.now)) (S.told shelf.old) (S.faults shelf.old) (S.faults shelf.new)) }
+    ensures answered { GivesText (plan_of (same lang site_name.now file_name.now other_lang other_name.now)) S.told S.faults shelf.old shelf.new result }
+    ensures stopped { GivesStop (plan_of (same lang site_name.now file_name.now other_lang other_name.now)) S.told S.faults shelf.old shelf.new result }
 {
     let site = take_site(alloc, shelf, site_name)?;
     same_at(alloc, shelf, lang, &site, file_name, other_lang, other_name)
@@ -450,8 +452,8 @@ fn dead_at<S: Shelf>(
 ) -> Result<Text, Stop>
     requires { IsSound site.now }
     ensures same { S.told shelf.new ≡ S.told shelf.old }
-    ensures answered { IfOk result (Answered (dead_part lang site.now file_name.now) (S.told shelf.old) (S.faults shelf.old) (S.faults shelf.new) status.Ok) }
-    ensures stopped { IfErr result (Stopped (dead_part lang site.now file_name.now) (S.told shelf.old) (S.faults shelf.old) (S.faults shelf.new)) }
+    ensures answered { GivesText (dead_part lang site.now file_name.now) S.told S.faults shelf.old shelf.new result }
+    ensures stopped { GivesStop (dead_part lang site.now file_name.now) S.told S.faults shelf.old shelf.new result }
 {
     let placed = take_placed_diagram(alloc, shelf, lang, site, file_name)?;
     let text = unused(alloc, site, file_name, &placed)?;
@@ -467,8 +469,8 @@ pub(crate) fn dead<S: Shelf>(
     file_name: &[u8],
 ) -> Result<Text, Stop>
     ensures same { S.told shelf.new ≡ S.told shelf.old }
-    ensures answered { IfOk result (Answered (plan_of (dead lang site_name.now file_name.now)) (S.told shelf.old) (S.faults shelf.old) (S.faults shelf.new) status.Ok) }
-    ensures stopped { IfErr result (Stopped (plan_of (dead lang site_name.now file_name.now)) (S.told shelf.old) (S.faults shelf.old) (S.faults shelf.new)) }
+    ensures answered { GivesText (plan_of (dead lang site_name.now file_name.now)) S.told S.faults shelf.old shelf.new result }
+    ensures stopped { GivesStop (plan_of (dead lang site_name.now file_name.now)) S.told S.faults shelf.old shelf.new result }
 {
     let site = take_site(alloc, shelf, site_name)?;
     dead_at(alloc, shelf, lang, &site, file_name)
@@ -480,8 +482,8 @@ fn load_at(alloc: Global, n: u32, site: &Site) -> Result<Text, Stop>
     requires most { n ≤ 4000 }
     requires sound { IsSound site.now }
     requires orderly { IsOrderly site.now }
-    ensures answered { (told : Option (List ℕ → List ℕ)) (faults : List ℕ → ℕ) → IfOk result (Answered (load_part n site.now) told faults faults status.Ok) }
-    ensures stopped { (told : Option (List ℕ → List ℕ)) (faults : List ℕ → ℕ) → IfErr result (Stopped (load_part n site.now) told faults faults) }
+    ensures answered { (told : Option Contents) (faults : Faults) → IfOk result (Answered (load_part n site.now) told faults faults status.Ok) }
+    ensures stopped { (told : Option Contents) (faults : Faults) → IfErr result (Stopped (load_part n site.now) told faults faults) }
 {
     let code = generated_source(alloc, n, site)?;
     let text = loaded(alloc, n, site, &code.flat)?;
@@ -492,8 +494,8 @@ fn load_at(alloc: Global, n: u32, site: &Site) -> Result<Text, Stop>
 pub(crate) fn load(alloc: Global, n: u32) -> Result<Text, Stop>
     requires least { 1 ≤ n }
     requires most { n ≤ 4000 }
-    ensures answered { (told : Option (List ℕ → List ℕ)) (faults : List ℕ → ℕ) → IfOk result (Answered (plan_of (load n)) told faults faults status.Ok) }
-    ensures stopped { (told : Option (List ℕ → List ℕ)) (faults : List ℕ → ℕ) → IfErr result (Stopped (plan_of (load n)) told faults faults) }
+    ensures answered { (told : Option Contents) (faults : Faults) → IfOk result (Answered (plan_of (load n)) told faults faults status.Ok) }
+    ensures stopped { (told : Option Contents) (faults : Faults) → IfErr result (Stopped (plan_of (load n)) told faults faults) }
 {
     read_sites_are_orderly();
     let site = generated_site(alloc)?;
@@ -507,8 +509,8 @@ pub(crate) fn second_form<S: Shelf>(
     site_name: &[u8],
 ) -> Result<Text, Stop>
     ensures same { S.told shelf.new ≡ S.told shelf.old }
-    ensures answered { IfOk result (Answered (plan_of (site2 site_name.now)) (S.told shelf.old) (S.faults shelf.old) (S.faults shelf.new) status.Ok) }
-    ensures stopped { IfErr result (Stopped (plan_of (site2 site_name.now)) (S.told shelf.old) (S.faults shelf.old) (S.faults shelf.new)) }
+    ensures answered { GivesText (plan_of (site2 site_name.now)) S.told S.faults shelf.old shelf.new result }
+    ensures stopped { GivesStop (plan_of (site2 site_name.now)) S.told S.faults shelf.old shelf.new result }
 {
     let site = take_site(alloc, shelf, site_name)?;
     let text = put_site(alloc, &site)?;

@@ -2,7 +2,9 @@
 
 ghost use Rattle.std.specs.Prelude.{◌≡◌};
 ghost use Rattle.std.specs.Str.{bytes_eq};
-ghost use Rattle.fws_top.specs.Forms.{lang_of, tells_of_rules, target_of, state_of, command_of, single_command, short_command, page_command, load_command, synth_command, query_command, state_command, table_command, translate_command, trace_command, why_command, run_command, same_command, unused_command, dead_command, source_command, asked, IsSpelled};
+ghost use Rattle.fws_top.specs.Forms.{lang_of, tells_of_rules, target_of, state_of, command_of, single_command, short_command, page_command};
+ghost use Rattle.fws_top.specs.Forms.{load_command, synth_command, query_command, state_command, table_command, translate_command, trace_command};
+ghost use Rattle.fws_top.specs.Forms.{why_command, run_command, same_command, unused_command, dead_command, source_command, asked, IsSpelled};
 ghost use Rattle.fws_top.specs.Pages.{named_command};
 
 use crate::ask::{are_asks, are_shown};
@@ -11,7 +13,7 @@ use crate::lang::{SourceLang, TargetLang};
 use fws_net::State;
 use fws_num::{Text, read_dec};
 
-/// What the words of a command line ask for. Files stand by their names.
+/// What the words of a command line ask for. Files are given by their names.
 #[derive(Clone, Copy)]
 pub(crate) enum Form<'a> {
     /// Nothing: they are no form.
@@ -76,7 +78,7 @@ fn read_lang(word: &Text) -> Option<SourceLang>
     }
 }
 
-/// Whether commands tell of the rules of a language.
+/// Whether `why` and `dead` can name the rules of a language.
 fn tells_of_rules(lang: SourceLang) -> bool
     ensures { result ≡ tells_of_rules lang }
 {
@@ -300,7 +302,7 @@ fn read_trace<'a>(lang: SourceLang, site: &'a [u8], file: &'a [u8], rest: &'a [T
     }
 }
 
-/// So does `why`, which tells of rules.
+/// So does `why`, in a language whose rules it can name.
 fn read_why<'a>(lang: SourceLang, site: &'a [u8], file: &'a [u8], rest: &'a [Text]) -> Form<'a>
     ensures asked { asked result ≡ why_command lang site.now file.now rest.now }
     ensures spelled { IsSpelled result }
@@ -340,7 +342,7 @@ fn read_same<'a>(lang: SourceLang, site: &'a [u8], file: &'a [u8], rest: &'a [Te
     }
 }
 
-/// `dead` of a language of whose rules it tells.
+/// `dead`, in a language whose rules it can name.
 fn read_unused<'a>(lang: SourceLang, site: &'a [u8], file: &'a [u8]) -> Form<'a>
     ensures asked { asked result ≡ unused_command lang site.now file.now }
     ensures spelled { IsSpelled result }
@@ -352,7 +354,7 @@ fn read_unused<'a>(lang: SourceLang, site: &'a [u8], file: &'a [u8]) -> Form<'a>
     }
 }
 
-/// `dead` takes no further words, and tells of rules.
+/// `dead` takes no further words.
 fn read_dead<'a>(lang: SourceLang, site: &'a [u8], file: &'a [u8], rest: &[Text]) -> Form<'a>
     ensures asked { asked result ≡ dead_command lang site.now file.now rest.now }
     ensures spelled { IsSpelled result }

@@ -2,17 +2,14 @@
 
 ghost use Rattle.std.specs.Prelude.{◌≡◌, ◌≤◌, true, IfOk, if◌then◌else◌};
 ghost use Rattle.fws_flat.specs.Soundness.{flat_ok};
-ghost use Rattle.fws_net.specs.declared.connection.Kind.{Kind};
-ghost use Rattle.fws_net.specs.declared.outcome.Outcome.{Outcome};
-ghost use Rattle.fws_net.specs.declared.packet.Packet.{Packet};
 ghost use Rattle.fws_net.specs.Points.{tops_of};
 ghost use Rattle.fws_net.specs.Routes.{IsSound};
 ghost use Rattle.fws_net.specs.SiteLaws.{IsOrderly};
 ghost use Rattle.fws_place.specs.Fits.{Fits};
+ghost use Rattle.fws_top.specs.Codes.{Does, DoesRegularly};
 ghost use Rattle.fws_top.specs.Judged.{HasConfig};
 ghost use Rattle.fws_top.specs.Loads.{IsHeldCount, IsLoad, IsWhether, all_targets, load_line, row_count};
-ghost use Rattle.fws_top.specs.Stops.{Does, DoesRegularly};
-ghost use Rattle.fws_top.specs.Walked.{AreTablesOf};
+ghost use Rattle.fws_top.specs.Walked.{AreTablesOf, Walk};
 ghost use Rattle.fws_tree.specs.Regular.{AreRegular};
 
 use crate::ios::Ios;
@@ -121,7 +118,7 @@ fn load_of(alloc: Global, n: u32, site: &Site, tables: &Tables) -> Result<Text, 
     requires regular { AreRegular site.now tables.now }
     requires fresh_tops { tables.now.fresh.0 ≡ tops_of site.now }
     requires est_tops { tables.now.est.0 ≡ tops_of site.now }
-    ensures { (walk : Packet → Kind → Outcome) → AreTablesOf site.now walk tables.now → IfOk result (IsLoad n site.now walk) }
+    ensures { (walk : Walk) → AreTablesOf site.now walk tables.now → IfOk result (IsLoad n site.now walk) }
 {
     let fresh = row_count(alloc, site, &tables.fresh)?;
     let est = row_count(alloc, site, &tables.est)?;
@@ -136,7 +133,7 @@ pub(crate) fn loaded(alloc: Global, n: u32, site: &Site, code: &Flat) -> Result<
     requires sound { IsSound site.now }
     requires ok { flat_ok code.now ≡ true }
     requires regular { DoesRegularly code.now site.now }
-    ensures { (walk : Packet → Kind → Outcome) → Does code.now site.now walk → IfOk result (IsLoad n site.now walk) }
+    ensures { (walk : Walk) → Does code.now site.now walk → IfOk result (IsLoad n site.now walk) }
 {
     let tables = tables(alloc, site, code)?;
     load_of(alloc, n, site, &tables)

@@ -1,5 +1,5 @@
-//! Notes in the texts of translations: what their rules come from, and what of the source doesn't carry over. Nothing is promised of
-//! them: a text with notes is checked as it stands.
+//! Notes in the texts of translations: what their rules come from, and what of the source doesn't carry over. No clause speaks of
+//! them: a text with notes is checked once more, with them.
 
 ghost use Rattle.fws_net.specs.Routes.{IsSound};
 
@@ -23,7 +23,7 @@ const MOST_CODE: usize = 100_000;
 pub(crate) struct Origin {
     /// What doesn't carry over.
     pub(crate) losses: Losses,
-    /// Code that tells of its rules, where its language has that.
+    /// Code with its rules, where its language has labels for them.
     code: Option<PlacedCode>,
     /// What is said of the rules, by their numbers.
     remarks: Vec<Text>,
@@ -63,7 +63,7 @@ fn unless_refused(code: Result<PlacedCode, Stop>) -> Result<Option<PlacedCode>, 
     }
 }
 
-/// The code of a source that tells of its rules, unless it is very long.
+/// The code of a source with its rules, unless it is very long.
 fn source_code(
     alloc: Global,
     lang: SourceLang,
@@ -113,7 +113,7 @@ pub(crate) fn origin_of(
     })
 }
 
-/// What code tells of rules.
+/// Code and its rules, as notes take them.
 fn told(code: &PlacedCode) -> Told<'_> {
     Told {
         code: &code.flat,

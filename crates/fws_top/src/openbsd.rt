@@ -7,7 +7,7 @@ use fws_num::{Memory, Text};
 use fws_pfo::{PfoConfig, spelled_fits};
 use std::alloc::Global;
 
-/// pf of OpenBSD, as its pf.conf(5) writes its rules. Of these nothing is told: none has a label.
+/// pf of OpenBSD, as its pf.conf(5) writes its rules. No command asks for its rules: none has a label.
 pub struct Openbsd;
 
 impl Source for Openbsd {

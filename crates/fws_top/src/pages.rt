@@ -1,7 +1,8 @@
 //! The pages of help.
 
 ghost use Rattle.std.specs.Prelude.{◌≡◌};
-ghost use Rattle.fws_top.specs.Pages.{page_of, synth_page, query_page, translate_page, trace_page, why_page, run_page, same_page, dead_page, load_page, site2_page};
+ghost use Rattle.fws_top.specs.Pages.{page_of, synth_page, query_page, translate_page, trace_page, why_page, run_page, same_page, dead_page};
+ghost use Rattle.fws_top.specs.Pages.{load_page, site2_page};
 
 use crate::command_name::CommandName;
 

@@ -1,12 +1,13 @@
-//! From the text of a configuration to a diagram in which its rules have places, and to code that tells of them, once for all
+//! From the text of a configuration to a diagram in which its rules have places, and to code with these places, once for all
 //! languages.
 
 ghost use Rattle.std.specs.Prelude.{◌≡◌, true, IfOk, IfErr};
 ghost use Rattle.fws_ifcl.specs.Soundness.{ifcl_ok};
 ghost use Rattle.fws_net.specs.Routes.{IsSound};
-ghost use Rattle.fws_top.specs.Judged.{HasText, Policy, diagram_refusal, judged_by, judged_chains, meant_by};
+ghost use Rattle.fws_top.specs.Judged.{HasText, Policy, diagram_refusal, judged_chains, judged_in, meant_in};
+ghost use Rattle.fws_top.specs.PlacedCodes.{IsPlaced, IsUnfoldedFrom, IsUnfoldedOf};
 ghost use Rattle.fws_top.specs.Plan.{judged};
-ghost use Rattle.fws_top.specs.Stops.{EndsIn, IsPlaced, IsUnfoldedFrom, IsUnfoldedOf};
+ghost use Rattle.fws_top.specs.Steps.{EndsIn};
 
 use crate::answer::Stop;
 use crate::policy::{refused_diagram, take_config};
@@ -22,9 +23,9 @@ use std::alloc::Global;
 #[derive(Drop)]
 pub(crate) struct Placed {
     pub(crate) diagram: Ifcl,
-    /// Where in the diagram the rules stand.
+    /// Where in the diagram the rules are.
     pub(crate) spots: Vec<Spot>,
-    /// What the rules are called, by their numbers.
+    /// The labels of the rules, by their numbers.
     pub(crate) labels: Vec<Text>,
 }
 
@@ -32,11 +33,11 @@ pub(crate) struct Placed {
 #[derive(Drop)]
 pub(crate) struct PlacedCode {
     pub(crate) flat: Flat,
-    /// For which place of a diagram an instruction stands, if it does.
+    /// The place of the diagram that each instruction is for, if it has one.
     pub(crate) from: Vec<Option<Place>>,
-    /// Where in the diagram the rules stand.
+    /// Where in the diagram the rules are.
     pub(crate) spots: Vec<Spot>,
-    /// What the rules are called, by their numbers.
+    /// The labels of the rules, by their numbers.
     pub(crate) labels: Vec<Text>,
 }
 
@@ -44,7 +45,7 @@ pub(crate) struct PlacedCode {
 fn placed_in<L: Source>(alloc: Global, c: &L::Config, site: &Site) -> Result<Placed, Memory>
     requires sound { IsSound site.now }
     requires from_text { HasText (L.spelled site.now) c.now }
-    ensures { IfOk result (λ x. IsPlaced (judged_chains (L.refusal site.now c.now) (meant_by (λ config. L.walk config site.now) (L.tracks site.now) (λ config. L.used config site.now) L.labels c.now)) site.now x) }
+    ensures { IfOk result (IsPlaced (judged_chains (L.refusal site.now c.now) (meant_in L.walk L.tracks L.used L.labels site.now c.now)) site.now) }
 {
     let (diagram, spots) = L::places(alloc, c, site)?;
     let labels = L::labels(alloc, c)?;
@@ -63,15 +64,15 @@ pub(crate) fn take_placed<L: Source>(
     bytes: &[u8],
 ) -> Result<Placed, Stop>
     requires { IsSound site.now }
-    ensures placed { IfOk result (IsPlaced (judged_by (L.refusal site.now) (meant_by (λ config. L.walk config site.now) (L.tracks site.now) (λ config. L.used config site.now) L.labels) (L.spelled site.now bytes.now)) site.now) }
-    ensures refused { IfErr result (EndsIn (judged name.now (judged_by (L.refusal site.now) (meant_by (λ config. L.walk config site.now) (L.tracks site.now) (λ config. L.used config site.now) L.labels) (L.spelled site.now bytes.now)))) }
+    ensures placed { IfOk result (IsPlaced (judged_in L.spelled L.refusal L.walk L.tracks L.used L.labels site.now bytes.now) site.now) }
+    ensures refused { IfErr result (EndsIn (judged name.now (judged_in L.spelled L.refusal L.walk L.tracks L.used L.labels site.now bytes.now))) }
 {
     let config = take_config::<L>(alloc, site, name, bytes)?;
     let placed = placed_in::<L>(alloc, &config, site)?;
     Ok(placed)
 }
 
-/// The flat code of a diagram with what its instructions stand for, or the refusal of a chain.
+/// The flat code of a diagram with the places that its instructions are for, or the refusal of a chain.
 fn take_code_from(
     alloc: Global,
     name: &[u8],

@@ -4,10 +4,11 @@ ghost use Rattle.std.specs.Prelude.{◌≡◌, Ok, true, IfOk, IfErr};
 ghost use Rattle.fws_ifcl.specs.Refusals.{refusal_of};
 ghost use Rattle.fws_ifcl.specs.Soundness.{ifcl_ok};
 ghost use Rattle.fws_net.specs.Routes.{IsSound};
+ghost use Rattle.fws_top.specs.Codes.{IsCode, IsUnfolded};
 ghost use Rattle.fws_top.specs.declared.answer.Stop.TheVariants.{Due};
-ghost use Rattle.fws_top.specs.Judged.{Policy, chain_name, diagram_refusal, judged_by, judged_chains, meant_by};
+ghost use Rattle.fws_top.specs.Judged.{Policy, chain_name, diagram_refusal, judged_chains, judged_in};
 ghost use Rattle.fws_top.specs.Plan.{judged};
-ghost use Rattle.fws_top.specs.Stops.{EndsIn, IsCode, IsUnfolded};
+ghost use Rattle.fws_top.specs.Steps.{EndsIn};
 ghost use Rattle.fws_unfold.specs.Refused.{Refuses};
 
 use crate::answer::{Answer, Stop, refused_for_chain, refused_for_line};
@@ -38,7 +39,7 @@ pub(crate) fn take_config<L: Source>(
 ) -> Result<L::Config, Stop>
     requires { IsSound site.now }
     ensures given { IfOk result (λ config. L.spelled site.now bytes.now ≡ Ok config) }
-    ensures refused { IfErr result (EndsIn (judged name.now (judged_by (L.refusal site.now) (meant_by (λ config. L.walk config site.now) (L.tracks site.now) (λ config. L.used config site.now) L.labels) (L.spelled site.now bytes.now)))) }
+    ensures refused { IfErr result (EndsIn (judged name.now (judged_in L.spelled L.refusal L.walk L.tracks L.used L.labels site.now bytes.now))) }
 {
     match L::read(alloc, bytes, site) {
         Ok(config) => Ok(config),
@@ -107,8 +108,8 @@ pub(crate) fn take_policy<L: Source>(
     bytes: &[u8],
 ) -> Result<PolicyCode, Stop>
     requires { IsSound site.now }
-    ensures code { IfOk result (IsCode (judged name.now (judged_by (L.refusal site.now) (meant_by (λ config. L.walk config site.now) (L.tracks site.now) (λ config. L.used config site.now) L.labels) (L.spelled site.now bytes.now))) site.now) }
-    ensures refused { IfErr result (EndsIn (judged name.now (judged_by (L.refusal site.now) (meant_by (λ config. L.walk config site.now) (L.tracks site.now) (λ config. L.used config site.now) L.labels) (L.spelled site.now bytes.now)))) }
+    ensures code { IfOk result (IsCode (judged name.now (judged_in L.spelled L.refusal L.walk L.tracks L.used L.labels site.now bytes.now)) site.now) }
+    ensures refused { IfErr result (EndsIn (judged name.now (judged_in L.spelled L.refusal L.walk L.tracks L.used L.labels site.now bytes.now))) }
 {
     L::spelled_walks_are_regular();
     let config = take_config::<L>(alloc, site, name, bytes)?;

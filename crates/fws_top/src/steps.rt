@@ -7,9 +7,12 @@ ghost use Rattle.fws_net.specs.Routes.{IsSound};
 ghost use Rattle.fws_net.specs.SiteLaws.{IsRead};
 ghost use Rattle.fws_net.specs.SiteText.{site_of};
 ghost use Rattle.fws_top.specs.Asks.{are_known};
+ghost use Rattle.fws_top.specs.Codes.{IsCode, IsTakenCode};
 ghost use Rattle.fws_top.specs.Judged.{judge};
-ghost use Rattle.fws_top.specs.Plan.{file_plan, site_plan, source_plan, conns_plan, packets_plan, events_plan, spelled_site, judged, listed, load_site_plan, load_text_plan};
-ghost use Rattle.fws_top.specs.Stops.{AsksStopped, Chooses, EndsIn, GoesOn, IsCode, IsPlaced, IsPlacedCode, IsTakenCode, IsTakenPlaced, IsTakenPlacedCode, StopsAt};
+ghost use Rattle.fws_top.specs.PlacedCodes.{IsPlaced, IsPlacedCode, IsTakenPlaced, IsTakenPlacedCode};
+ghost use Rattle.fws_top.specs.Plan.{file_plan, site_plan, source_plan, conns_plan, packets_plan, events_plan, spelled_site, judged, listed};
+ghost use Rattle.fws_top.specs.Plan.{load_site_plan, load_text_plan};
+ghost use Rattle.fws_top.specs.Steps.{AsksStopped, Chooses, EndsIn, GoesOn, StopsAt};
 ghost use Rattle.fws_trace.specs.ConnectionText.{conns_of};
 ghost use Rattle.fws_trace.specs.PacketText.{packets_of, IsOfSite};
 
@@ -188,7 +191,7 @@ pub(crate) fn take_placed_diagram<S: Shelf>(
     Ok(placed)
 }
 
-/// The code of the configuration that the bytes spell in a language, which tells of its rules, or its refusal.
+/// The code of the configuration that the bytes spell in a language, with its rules, or its refusal.
 pub(crate) fn judge_placed_code(
     alloc: Global,
     lang: SourceLang,
@@ -204,7 +207,7 @@ pub(crate) fn judge_placed_code(
     placed_code(alloc, name, placed)
 }
 
-/// The code of the configuration of a file in a language, which tells of its rules.
+/// The code of the configuration of a file in a language, with its rules.
 pub(crate) fn take_placed_code<S: Shelf>(
     alloc: Global,
     shelf: &mut S,

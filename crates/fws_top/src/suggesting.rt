@@ -1,16 +1,16 @@
 //! Suggested texts, of which nothing is known: whether they do what the tables of a policy say.
+//!
+//! As in the commands, a function owns one configuration, code or pair of tables where it ends early, which keeps its proof short.
 
 ghost use Rattle.std.specs.Prelude.{◌≡◌, true, IfOk, IfSome};
 ghost use Rattle.fws_flat.specs.Soundness.{flat_ok};
 ghost use Rattle.fws_ifcl.specs.Soundness.{ifcl_ok};
-ghost use Rattle.fws_net.specs.declared.connection.Kind.{Kind};
-ghost use Rattle.fws_net.specs.declared.outcome.Outcome.{Outcome};
-ghost use Rattle.fws_net.specs.declared.packet.Packet.{Packet};
 ghost use Rattle.fws_net.specs.Routes.{IsSound};
 ghost use Rattle.fws_net.specs.SiteLaws.{IsOrderly};
+ghost use Rattle.fws_top.specs.Codes.{Does, DoesRegularly, IsUnfolded};
 ghost use Rattle.fws_top.specs.Judged.{HasText};
-ghost use Rattle.fws_top.specs.Stops.{Does, DoesRegularly, IsUnfolded};
-ghost use Rattle.fws_top.specs.Translations.{EmitsBy, GivesFates};
+ghost use Rattle.fws_top.specs.Translations.{EmitsIn, GivesFates};
+ghost use Rattle.fws_top.specs.Walked.{Walk};
 ghost use Rattle.fws_tree.specs.Regular.{AreRegular};
 
 use crate::lang::TargetLang;
@@ -43,7 +43,7 @@ fn is_alike(alloc: Global, site: &Site, policy: &Tables, code: &Flat) -> Result<
     requires policy { AreRegular site.now policy.now }
     requires ok { flat_ok code.now ≡ true }
     requires regular { DoesRegularly code.now site.now }
-    ensures { (walk : Packet → Kind → Outcome) → Does code.now site.now walk → IfOk result (λ yes. yes ≡ true → GivesFates site.now policy.now walk) }
+    ensures { (walk : Walk) → Does code.now site.now walk → IfOk result (λ yes. yes ≡ true → GivesFates site.now policy.now walk) }
 {
     let made = tables(alloc, site, code)?;
     let found = same(alloc, site, policy, &made)?;
@@ -129,7 +129,7 @@ fn spells_it<L: Source>(
 ) -> Result<bool, Memory>
     requires sound { IsSound site.now }
     requires policy { AreRegular site.now policy.now }
-    ensures { IfOk result (λ yes. yes ≡ true → EmitsBy (L.spelled site.now) (L.tracks site.now) (λ config. L.walk config site.now) site.now policy.now text.now) }
+    ensures { IfOk result (λ yes. yes ≡ true → EmitsIn L.spelled L.tracks L.walk site.now policy.now text.now) }
 {
     match L::read(alloc, text, site) {
         Ok(config) => is_right::<L>(alloc, site, policy, &config),
@@ -148,7 +148,7 @@ pub(crate) fn checked<L: Source>(
 ) -> Result<Option<Text>, Memory>
     requires sound { IsSound site.now }
     requires policy { AreRegular site.now policy.now }
-    ensures { IfOk result (λ found. IfSome found (EmitsBy (L.spelled site.now) (L.tracks site.now) (λ config. L.walk config site.now) site.now policy.now)) }
+    ensures { IfOk result (λ found. IfSome found (EmitsIn L.spelled L.tracks L.walk site.now policy.now)) }
 {
     let is_right = spells_it::<L>(alloc, site, policy, text.as_slice())?;
     if is_right { Ok(Some(text)) } else { Ok(None) }
@@ -166,7 +166,7 @@ pub(crate) fn suggested<L: Language>(
     requires orderly { IsOrderly site.now }
     requires sound { IsSound site.now }
     requires policy { AreRegular site.now policy.now }
-    ensures { IfOk result (λ found. IfSome found (EmitsBy (L.spelled site.now) (L.tracks site.now) (λ config. L.walk config site.now) site.now policy.now)) }
+    ensures { IfOk result (λ found. IfSome found (EmitsIn L.spelled L.tracks L.walk site.now policy.now)) }
 {
     let texts = L::suggest(alloc, policy, site, hints)?;
     if texts.is_empty() {

@@ -1,21 +1,21 @@
 //! The texts that show what code does.
+//!
+//! As in the commands, a function owns one tree or list where it ends early, which keeps its proof short.
 
 ghost use Rattle.std.specs.Prelude.{◌≡◌, ℕ, List, Some, All, true, IfOk};
 ghost use Rattle.fws_box.specs.Sides.{IsWithin, sides_have};
 ghost use Rattle.fws_events.specs.Runs.{IsEventOf};
 ghost use Rattle.fws_events.specs.RunText.{run_text};
 ghost use Rattle.fws_flat.specs.Soundness.{flat_ok};
-ghost use Rattle.fws_net.specs.declared.connection.Kind.{Kind};
-ghost use Rattle.fws_net.specs.declared.outcome.Outcome.{Outcome};
-ghost use Rattle.fws_net.specs.declared.packet.Packet.{Packet};
 ghost use Rattle.fws_net.specs.Points.{tops_of};
 ghost use Rattle.fws_net.specs.RegularWalks.{IsRegularWalk};
 ghost use Rattle.fws_net.specs.Routes.{IsSound};
 ghost use Rattle.fws_top.specs.Asks.{are_asks, asked_verdict, asks_have};
+ghost use Rattle.fws_top.specs.Codes.{Does, DoesRegularly};
 ghost use Rattle.fws_top.specs.Judged.{Policy};
-ghost use Rattle.fws_top.specs.Stops.{Does, DoesRegularly, IsToldBy};
+ghost use Rattle.fws_top.specs.PlacedCodes.{IsToldBy};
 ghost use Rattle.fws_top.specs.Tables.{IsAskedTable, IsCompared, IsTable};
-ghost use Rattle.fws_top.specs.Walked.{AreTablesOf, walked_at};
+ghost use Rattle.fws_top.specs.Walked.{AreTablesOf, Walk, walked_at};
 ghost use Rattle.fws_trace.specs.PacketText.{IsOfSite};
 ghost use Rattle.fws_trace.specs.TraceText.{trace_text};
 ghost use Rattle.fws_tree.specs.Plain.{IsReduced, value};
@@ -45,7 +45,7 @@ fn tree_of(alloc: Global, site: &Site, code: &Flat, state: State) -> Result<Tree
     requires ok { flat_ok code.now ≡ true }
     ensures tops { IfOk result (λ t. t.0 ≡ tops_of site.now) }
     ensures reduced { IfOk result (λ t. IsReduced (tops_of site.now) t.1) }
-    ensures walked { (walk : Packet → Kind → Outcome) → Does code.now site.now walk
+    ensures walked { (walk : Walk) → Does code.now site.now walk
         → IfOk result (λ t. (p : List ℕ) → IsWithin (tops_of site.now) p → value t.1 p ≡ Some (walked_at walk state p)) }
 {
     let tree = execute_tree(alloc, code, site, state)?;
@@ -56,14 +56,14 @@ fn tree_of(alloc: Global, site: &Site, code: &Flat, state: State) -> Result<Tree
 pub(crate) fn table(alloc: Global, site: &Site, code: &Flat, state: State) -> Result<Text, Memory>
     requires sound { IsSound site.now }
     requires ok { flat_ok code.now ≡ true }
-    ensures { (walk : Packet → Kind → Outcome) → Does code.now site.now walk → IfOk result (IsTable site.now state walk) }
+    ensures { (walk : Walk) → Does code.now site.now walk → IfOk result (IsTable site.now state walk) }
 {
     let tree = tree_of(alloc, site, code, state)?;
     let text = put_table(alloc, site, state, &tree)?;
     Ok(text)
 }
 
-/// A tree of what code makes of the packets of a state that are asked for; what it has for others tells nothing. Most others are left
+/// A tree of what code makes of the packets of a state that are asked for; what it has for others means nothing. Most others are left
 /// out before the code is executed, so that the work is that of what is asked for.
 fn asked_tree(
     alloc: Global,
@@ -75,7 +75,7 @@ fn asked_tree(
     requires sound { IsSound site.now }
     requires ok { flat_ok code.now ≡ true }
     ensures tops { IfOk result (λ t. t.0 ≡ tops_of site.now) }
-    ensures walked { (walk : Packet → Kind → Outcome) → Does code.now site.now walk
+    ensures walked { (walk : Walk) → Does code.now site.now walk
         → IfOk result (λ t. (p : List ℕ) → IsWithin (tops_of site.now) p → sides_have ask.now.sides p ≡ true → value t.1 p ≡ Some (walked_at walk state p)) }
 {
     let sides = executed_sides(alloc, site, code.code.as_slice(), &ask.sides)?;
@@ -93,7 +93,7 @@ fn asked_text(
 ) -> Result<Text, Memory>
     requires sound { IsSound site.now }
     requires ok { flat_ok code.now ≡ true }
-    ensures { (asks : List (List ℕ)) (walk : Packet → Kind → Outcome)
+    ensures { (asks : List (List ℕ)) (walk : Walk)
         → ((p : List ℕ) → IsWithin (tops_of site.now) p → sides_have ask.now.sides p ≡ asks_have site.now asks p)
         → ask.now.verdict ≡ asked_verdict asks
         → Does code.now site.now walk
@@ -115,7 +115,7 @@ pub(crate) fn asked_table(
     requires sound { IsSound site.now }
     requires ok { flat_ok code.now ≡ true }
     requires spelled { are_asks asks.now ≡ true }
-    ensures { (walk : Packet → Kind → Outcome) → Does code.now site.now walk → IfOk result (IsAskedTable site.now state asks.now walk) }
+    ensures { (walk : Walk) → Does code.now site.now walk → IfOk result (IsAskedTable site.now state asks.now walk) }
 {
     let ask = read_ask(alloc, site, asks)?;
     asked_text(alloc, site, code, state, &ask)
@@ -127,8 +127,8 @@ pub(crate) fn tables(alloc: Global, site: &Site, code: &Flat) -> Result<Tables, 
     requires ok { flat_ok code.now ≡ true }
     ensures fresh_tops { IfOk result (λ t. t.fresh.0 ≡ tops_of site.now) }
     ensures est_tops { IfOk result (λ t. t.est.0 ≡ tops_of site.now) }
-    ensures walked { (walk : Packet → Kind → Outcome) → Does code.now site.now walk → IfOk result (AreTablesOf site.now walk) }
-    ensures regular { (walk : Packet → Kind → Outcome) → Does code.now site.now walk → IsRegularWalk site.now walk → IfOk result (AreRegular site.now) }
+    ensures walked { (walk : Walk) → Does code.now site.now walk → IfOk result (AreTablesOf site.now walk) }
+    ensures regular { (walk : Walk) → Does code.now site.now walk → IsRegularWalk site.now walk → IfOk result (AreRegular site.now) }
 {
     regular_walks_make_regular_tables();
     let fresh = tree_of(alloc, site, code, State::Fresh)?;
@@ -147,7 +147,7 @@ pub(crate) fn traced(
     requires sound { IsSound site.now }
     requires ok { flat_ok code.now ≡ true }
     requires of_site { All (IsOfSite site.now) packets.now }
-    ensures { (walk : Packet → Kind → Outcome) → Does code.now site.now walk → IfOk result (λ text. text ≡ trace_text walk conns.now packets.now) }
+    ensures { (walk : Walk) → Does code.now site.now walk → IfOk result (λ text. text ≡ trace_text walk conns.now packets.now) }
 {
     let tables = tables(alloc, site, code)?;
     let text = trace(alloc, site, &tables, conns, packets)?;
@@ -190,7 +190,7 @@ pub(crate) fn replayed(
     requires sound { IsSound site.now }
     requires ok { flat_ok code.now.flat ≡ true }
     requires of_site { All (IsEventOf site.now) events.now }
-    ensures { (walk : Packet → Kind → Outcome) → Does code.now.flat site.now walk → IfOk result (λ text. text ≡ run_text code.now.tracks walk events.now) }
+    ensures { (walk : Walk) → Does code.now.flat site.now walk → IfOk result (λ text. text ≡ run_text code.now.tracks walk events.now) }
 {
     let tables = tables(alloc, site, &code.flat)?;
     let text = put_run(alloc, site, events, &tables, code.tracks)?;
@@ -209,7 +209,7 @@ pub(crate) fn compared(
     requires other_ok { flat_ok other.now ≡ true }
     requires regular { DoesRegularly code.now site.now }
     requires other_regular { DoesRegularly other.now site.now }
-    ensures { (walk second : Packet → Kind → Outcome) → Does code.now site.now walk → Does other.now site.now second → IfOk result (IsCompared site.now walk second) }
+    ensures { (walk second : Walk) → Does code.now site.now walk → Does other.now site.now second → IfOk result (IsCompared site.now walk second) }
 {
     let one = tables(alloc, site, code)?;
     let two = tables(alloc, site, other)?;

@@ -2,13 +2,11 @@
 
 ghost use Rattle.std.specs.Prelude.{◌≡◌, true, IfOk};
 ghost use Rattle.fws_flat.specs.Soundness.{flat_ok};
-ghost use Rattle.fws_net.specs.declared.connection.Kind.{Kind};
-ghost use Rattle.fws_net.specs.declared.outcome.Outcome.{Outcome};
-ghost use Rattle.fws_net.specs.declared.packet.Packet.{Packet};
 ghost use Rattle.fws_net.specs.Routes.{IsSound};
 ghost use Rattle.fws_net.specs.SiteLaws.{IsOrderly};
-ghost use Rattle.fws_top.specs.Stops.{Does, DoesRegularly};
-ghost use Rattle.fws_top.specs.Translations.{EmitsBy, GivesFates, IsPlacement, IsPlacementBy, IsTranslation};
+ghost use Rattle.fws_top.specs.Codes.{Does, DoesRegularly};
+ghost use Rattle.fws_top.specs.Translations.{EmitsIn, GivesFates, IsPlacement, IsPlacementBy, IsTranslation};
+ghost use Rattle.fws_top.specs.Walked.{Walk};
 ghost use Rattle.fws_tree.specs.Regular.{AreRegular};
 
 use crate::answer::Answer;
@@ -45,8 +43,8 @@ fn with_losses<L: Language>(
 ) -> Result<Text, Memory>
     requires sound { IsSound site.now }
     requires regular { AreRegular site.now tables.now }
-    requires right { EmitsBy (L.spelled site.now) (L.tracks site.now) (λ config. L.walk config site.now) site.now tables.now text }
-    ensures { IfOk result (EmitsBy (L.spelled site.now) (L.tracks site.now) (λ config. L.walk config site.now) site.now tables.now) }
+    requires right { EmitsIn L.spelled L.tracks L.walk site.now tables.now text }
+    ensures { IfOk result (EmitsIn L.spelled L.tracks L.walk site.now tables.now) }
 {
     if text.as_slice().len() > MOST_HEADED {
         return Ok(text);
@@ -75,7 +73,7 @@ fn printed<L: Language>(
     requires printable { L.printable site.now config.now ≡ true }
     requires tracks { L.tracks site.now config.now ≡ true }
     requires fates { GivesFates site.now tables.now (L.walk config.now site.now) }
-    ensures { IfOk result (EmitsBy (L.spelled site.now) (L.tracks site.now) (λ config. L.walk config site.now) site.now tables.now) }
+    ensures { IfOk result (EmitsIn L.spelled L.tracks L.walk site.now tables.now) }
 {
     let text = L::print(alloc, config, site)?;
     let longer = with_losses::<L>(alloc, site, tables, target, origin, text)?;
@@ -98,7 +96,7 @@ fn emitted<L: Language>(
     requires printable { L.printable site.now config.now ≡ true }
     requires tracks { L.tracks site.now config.now ≡ true }
     requires fates { GivesFates site.now tables.now (L.walk config.now site.now) }
-    ensures { IfOk result (EmitsBy (L.spelled site.now) (L.tracks site.now) (λ config. L.walk config site.now) site.now tables.now) }
+    ensures { IfOk result (EmitsIn L.spelled L.tracks L.walk site.now tables.now) }
 {
     let found = suggested::<L>(alloc, site, tables, hints, target, origin)?;
     match found {
@@ -120,7 +118,7 @@ fn placed<L: Language>(
     requires orderly { IsOrderly site.now }
     requires sound { IsSound site.now }
     requires regular { AreRegular site.now tables.now }
-    ensures { IfOk result (λ a. IsPlacementBy L.system (EmitsBy (L.spelled site.now) (L.tracks site.now) (λ config. L.walk config site.now) site.now tables.now) target site.now tables.now a.status a.text) }
+    ensures { IfOk result (λ a. IsPlacementBy L.system (EmitsIn L.spelled L.tracks L.walk site.now tables.now) target site.now tables.now a.status a.text) }
 {
     match L::place(alloc, tables, site) {
         Ok(config) => Ok(Answer {
@@ -169,7 +167,7 @@ pub(crate) fn translated(
     requires sound { IsSound site.now }
     requires ok { flat_ok code.now ≡ true }
     requires regular { DoesRegularly code.now site.now }
-    ensures { (walk : Packet → Kind → Outcome) → Does code.now site.now walk → IfOk result (λ a. IsTranslation target site.now walk a.status a.text) }
+    ensures { (walk : Walk) → Does code.now site.now walk → IfOk result (λ a. IsTranslation target site.now walk a.status a.text) }
 {
     let tables = tables(alloc, site, code)?;
     let answer = placed_in(alloc, target, site, &tables, code, origin)?;

@@ -1,6 +1,6 @@
 use Rattle.std.proofs.Common.{subst}
 use Rattle.fws_top.specs.Plan.{plan_of}
-use Rattle.fws_top.specs.Stops.{Answered}
+use Rattle.fws_top.specs.Answered.{Answered}
 use Rattle.fws_top.specs.Due.{plan_for}
 use Rattle.fws_top.proofs.Plans.{is_answered}
 use Rattle.fws_top.proofs.answering.answer_to.Goals as goal

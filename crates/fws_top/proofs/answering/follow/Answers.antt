@@ -1,10 +1,10 @@
 use Rattle.std.proofs.Common.{◌≡◌, IfOk, refl, subst, sym}
 use Rattle.std.proofs.lemmas.Result.{IfOk-weaker}
+use Rattle.fws_top.specs.Answered.{Answered}
 use Rattle.fws_top.specs.declared.form.Form.{Form}
 use Rattle.fws_top.specs.declared.status.Status.TheVariants as status
 use Rattle.fws_top.specs.Forms.{asked, help, synth, query, translate, trace, why, run, same, dead, load}
 use Rattle.fws_top.specs.Plan.{plan_of}
-use Rattle.fws_top.specs.Stops.{Answered}
 use Rattle.fws_top.specs.Texts.{help_text}
 use Rattle.fws_top.proofs.answering.follow.Goals as goal
 

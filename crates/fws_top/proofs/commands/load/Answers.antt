@@ -1,10 +1,10 @@
 use Rattle.std.proofs.Common.{rules}
 use Rattle.std.proofs.lemmas.Result.{IfErr-weaker, IfOk-weaker}
 use Rattle.fws_net.specs.declared.site.Site.{Site}
+use Rattle.fws_top.specs.Answered.{Answered, Stopped}
 use Rattle.fws_top.specs.declared.status.Status.TheVariants as status
 use Rattle.fws_top.specs.Parts.{load_part}
 use Rattle.fws_top.specs.Plan.{Plan, load_site_plan}
-use Rattle.fws_top.specs.Stops.{Answered, Stopped}
 use Rattle.fws_top.proofs.AnsweredCommands.{load_site_stops}
 use Rattle.fws_top.proofs.Chosen.{answered_where, stopped_where}
 use Rattle.fws_top.proofs.commands.load.Goals as goal

@@ -1,10 +1,10 @@
 use Rattle.std.proofs.Common.{rules}
 use Rattle.std.proofs.lemmas.Result.{IfErr-weaker, IfOk-weaker}
+use Rattle.fws_top.specs.Answered.{Answered, Stopped}
 use Rattle.fws_top.specs.declared.status.Status.TheVariants as status
-use Rattle.fws_top.specs.Parts.{conns_part}
 use Rattle.fws_top.specs.Judged.{Policy}
+use Rattle.fws_top.specs.Parts.{conns_part}
 use Rattle.fws_top.specs.Plan.{Plan, source_plan}
-use Rattle.fws_top.specs.Stops.{Answered, Stopped}
 use Rattle.fws_top.proofs.AnsweredCommands.{step_stops}
 use Rattle.fws_top.proofs.Chosen.{answered_behind, stopped_behind}
 use Rattle.fws_top.proofs.commands.trace_at.Goals as goal

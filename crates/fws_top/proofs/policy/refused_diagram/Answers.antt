@@ -8,7 +8,7 @@ use Rattle.fws_top.specs.declared.status.Status.TheVariants as status
 use Rattle.fws_top.specs.Judged.{diagram_refusal, judged_chains}
 use Rattle.fws_top.specs.Lines.{refused_line}
 use Rattle.fws_top.specs.Plan.{judged}
-use Rattle.fws_top.specs.Stops.{EndsIn}
+use Rattle.fws_top.specs.Steps.{EndsIn}
 use Rattle.fws_top.proofs.Policies.{diagram_refused}
 use Rattle.fws_top.proofs.policy.refused_diagram.Goals as goal
 use Rattle.fws_unfold.specs.Refused.{Refuses}

@@ -2,7 +2,7 @@ use Rattle.std.proofs.Common.{rules, subst, ◌∙◌}
 use Rattle.std.specs.Prelude.{codes}
 use Rattle.fws_net.specs.SiteText.{site_of}
 use Rattle.fws_top.specs.Plan.{spelled_site}
-use Rattle.fws_top.specs.Stops.{Chooses, EndsIn}
+use Rattle.fws_top.specs.Steps.{Chooses, EndsIn}
 use Rattle.fws_top.proofs.steps.generated_site.Goals as goal
 
 pub returns-clause-chooses : goal.returns-clause-chooses

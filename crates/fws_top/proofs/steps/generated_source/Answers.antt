@@ -3,7 +3,8 @@ use Rattle.std.specs.Prelude.{codes}
 use Rattle.fws_top.specs.declared.lang.SourceLang.TheVariants.{Iptables}
 use Rattle.fws_top.specs.Judged.{judge}
 use Rattle.fws_top.specs.Plan.{judged}
-use Rattle.fws_top.specs.Stops.{EndsIn, IsCode}
+use Rattle.fws_top.specs.Codes.{IsCode}
+use Rattle.fws_top.specs.Steps.{EndsIn}
 use Rattle.fws_top.proofs.steps.generated_source.Goals as goal
 
 pub returns-clause-code : goal.returns-clause-code

@@ -1,8 +1,9 @@
 use Rattle.std.proofs.Common.{IfErr, sym, subst}
 use Rattle.std.proofs.lemmas.Result.{IfOk-weaker}
 use Rattle.fws_top.specs.Judged.{judge}
+use Rattle.fws_top.specs.PlacedCodes.{IsPlacedCode, IsUnfoldedOf}
 use Rattle.fws_top.specs.Plan.{judged}
-use Rattle.fws_top.specs.Stops.{EndsIn, IsPlacedCode, IsUnfoldedOf}
+use Rattle.fws_top.specs.Steps.{EndsIn}
 use Rattle.fws_top.proofs.PlacedPolicies.{told_code}
 use Rattle.fws_top.proofs.steps.judge_placed_code.Goals as goal
 

@@ -1,7 +1,7 @@
 use Rattle.std.proofs.Common.{IfErr, sym, subst}
 use Rattle.fws_top.specs.Judged.{judge}
 use Rattle.fws_top.specs.Plan.{judged}
-use Rattle.fws_top.specs.Stops.{EndsIn}
+use Rattle.fws_top.specs.Steps.{EndsIn}
 use Rattle.fws_top.proofs.steps.judge_source.Goals as goal
 
 pub returns-in-Iptables-clause-refused : goal.returns-in-Iptables-clause-refused

@@ -1,5 +1,5 @@
 use Rattle.std.proofs.Common.{Some, IfSome, subst}
-use Rattle.fws_top.specs.Stops.{Does}
+use Rattle.fws_top.specs.Codes.{Does}
 use Rattle.fws_top.proofs.suggesting.gives_fates.Goals as goal
 
 pub is_alike-requires-clause-regular : goal.is_alike-requires-clause-regular
