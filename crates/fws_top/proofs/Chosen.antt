@@ -1,5 +1,5 @@
 -- Steps of plans: bytes that are read, and plans that choose what follows.
-use Rattle.std.proofs.Common.{◌≡◌, ◌≤◌, ◌<◌, ℕ, suc, true, cond, Option, Some, None, List, [], length, inr, refl, sym, subst, ap, arith}
+use Rattle.std.proofs.Common.{◌≡◌, ◌≤◌, ◌<◌, ℕ, suc, true, cond, Option, Some, None, Result, Ok, Err, IfErr, IfOk, List, [], length, inr, refl, sym, subst, ap, arith}
 use Rattle.std.proofs.lemmas.Bool.{le-ltb, lt-ltb}
 use Rattle.std.proofs.lemmas.List.{length-replicate}
 use Rattle.std.specs.Prelude.{replicate}
@@ -62,6 +62,18 @@ pub stopped_file : {X : Type 0} → (name : List ℕ) (told : Option Contents) (
     → StopsAt (file_plan name) told old new stop → StopsAt (λ next. file_plan name (λ b. judges b next)) told old new stop
 stopped_file name told judges old new (Due a) stops = λ next. stops (λ b. judges b next)
 stopped_file name told judges old new Memory stops = tt
+
+-- what is judged of the bytes of a file, where that ends the plan
+pub judged_stops : {X A : Type 0} → (name bytes seen : List ℕ) (told : Option Contents) (judges : List ℕ → (X → Plan) → Plan) (old new : Faults) (result : Result A Stop)
+    → seen ≡ bytes → GoesOn (file_plan name) told bytes → new ≡ old → IfErr result (EndsIn (judges seen)) → IfErr result (StopsAt (λ next. file_plan name (λ b. judges b next)) told old new)
+judged_stops name bytes seen told judges old new (Ok a) same on quiet ends = tt
+judged_stops name bytes seen told judges old new (Err stop) same on quiet ends = ended name bytes seen told judges old new stop same on quiet ends
+
+-- and where it chooses what follows, for what is seen of the value
+pub judged_goes_on : {X A : Type 0} → (name bytes seen : List ℕ) (told : Option Contents) (judges : List ℕ → (X → Plan) → Plan) (result : Result A Stop) (view : A → X)
+    → seen ≡ bytes → GoesOn (file_plan name) told bytes → IfOk result (λ a. Chooses (judges seen) (view a)) → IfOk result (λ a. GoesOn (λ next. file_plan name (λ b. judges b next)) told (view a))
+judged_goes_on name bytes seen told judges (Ok a) view same on chooses = chosen name bytes seen told judges (view a) same on chooses
+judged_goes_on name bytes seen told judges (Err stop) view same on chooses = tt
 
 -- Commands
 

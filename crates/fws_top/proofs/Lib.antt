@@ -1,6 +1,7 @@
 mod AnsweredCommands
 mod AskSets
 mod Asking
+mod Chainless
 mod Chosen
 mod Diagrams
 mod Holding
@@ -12,5 +13,6 @@ mod Points
 mod Policies
 mod RegularTables
 mod Suggestions
+mod Taken
 mod UnusedRules
 mod Widening

@@ -1,5 +1,5 @@
 -- From the text of a configuration to a diagram in which its rules have places, and to code that tells of them.
-use Rattle.std.proofs.Common.{◌≡◌, ℕ, true, Option, None, Result, Ok, List, length, sym, subst, ap, ◌∙◌}
+use Rattle.std.proofs.Common.{◌≡◌, ℕ, true, Option, None, Result, Ok, IfOk, List, length, sym, subst, ap, ◌∙◌}
 use Rattle.fws_ifcl.specs.declared.diagram.Place.{Place}
 use Rattle.fws_ifcl.specs.declared.diagram.Spot.{Spot}
 use Rattle.fws_ifcl.specs.Soundness.{ifcl_ok}
@@ -63,12 +63,12 @@ told_code name site text placed code is made =
     }
 
 -- what is said by the code, whose lists are lent, is said by the policy
-pub explained_by : (site : Site) (policy : Policy) (code : PlacedCode) (from : List (Option Place)) (spots : List Spot) (labels : List (List ℕ)) (conns : List Conn) (packets : List Packet) (text : List ℕ)
-    → IsToldBy policy site code → from ≡ code.from.items → spots ≡ code.spots.items → labels ≡ code.labels.items
-    → ((walk : Walk) (used : Uses) → IsWalkOf site code.flat from spots walk used → text ≡ why_text walk used labels conns packets)
-    → text ≡ why_text policy.walk policy.used policy.labels conns packets
-explained_by site policy code from spots labels conns packets text told same_from same_spots same_labels said =
+pub explained_by : {E : Type 0} → (site : Site) (policy : Policy) (code : PlacedCode) (from : List (Option Place)) (spots : List Spot) (labels : List (List ℕ)) (conns : List Conn) (packets : List Packet)
+    (result : Result (List ℕ) E) → IsToldBy policy site code → from ≡ code.from.items → spots ≡ code.spots.items → labels ≡ code.labels.items
+    → ((walk : Walk) (used : Uses) → IsWalkOf site code.flat from spots walk used → IfOk result (λ text. text ≡ why_text walk used labels conns packets))
+    → IfOk result (λ text. text ≡ why_text policy.walk policy.used policy.labels conns packets)
+explained_by site policy code from spots labels conns packets result told same_from same_spots same_labels said =
     let walk : IsWalkOf site code.flat from spots policy.walk policy.used =
     subst (λ f. IsWalkOf site code.flat f spots policy.walk policy.used) (sym same_from)
     (subst (λ s. IsWalkOf site code.flat code.from.items s policy.walk policy.used) (sym same_spots) told.walk) in
-    said policy.walk policy.used walk ∙ ap (λ l. why_text policy.walk policy.used l conns packets) (same_labels ∙ told.labels)
+    subst (λ l. IfOk result (λ text. text ≡ why_text policy.walk policy.used l conns packets)) (same_labels ∙ told.labels) (said policy.walk policy.used walk)

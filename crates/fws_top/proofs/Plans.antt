@@ -1,12 +1,14 @@
 -- What follows from an answer that goes along a plan.
-use Rattle.std.proofs.Common.{◌≡◌, ◌⊎◌, ℕ, Option, Some, List, inl, inr, refl, sym, subst}
+use Rattle.std.proofs.Common.{◌≡◌, ◌⊎◌, ℕ, Option, Some, Result, Ok, Err, IfOk, List, inl, inr, refl, sym, subst}
 use Rattle.fws_net.specs.declared.site.Site.{Site}
 use Rattle.fws_top.specs.Answered.{Answered, FaultSaid}
+use Rattle.fws_top.specs.declared.answer.Answer.{Answer}
 use Rattle.fws_top.specs.declared.lang.TargetLang.{TargetLang}
 use Rattle.fws_top.specs.declared.status.Status.{Status}
 use Rattle.fws_top.specs.declared.status.Status.TheVariants as status
-use Rattle.fws_top.specs.Due.{CanEnd, Contents, Due, Faults, IsAnswered, IsDue, IsFaultless, IsReadFault, IsReadInTurn, IsTold}
-use Rattle.fws_top.specs.Plan.{Plan, says, shows, reads}
+use Rattle.fws_top.specs.Due.{CanEnd, Contents, Due, Faults, IsAnswered, IsDue, IsFaultless, IsReadFault, IsReadInTurn, IsTold, plan_for}
+use Rattle.fws_top.specs.Forms.{Command, command_of}
+use Rattle.fws_top.specs.Plan.{Plan, says, shows, reads, plan_of}
 use Rattle.fws_top.specs.Tables.{Wanted, table, asked_table, translation, comparison, unused, loaded, CanBeShown, IsWanted}
 use Rattle.fws_top.specs.Translations.{IsPlacement}
 use Rattle.fws_tree.specs.declared.tables.Tables.{Tables}
@@ -127,3 +129,11 @@ is_answered plan told old new status.Refused t a = is_due plan told old new stat
 is_answered plan told old new status.ReadFault t a = answered_fault plan told old new t a
 is_answered plan told old new status.WriteFault t a = answered_fine plan told old new status.WriteFault t a (λ e. subst IsNoRead e tt)
 is_answered plan told old new status.Memory t a = answered_fine plan told old new status.Memory t a (λ e. subst IsNoRead e tt)
+
+-- what answers the plan of a command is an answer to the words that ask for it
+pub answers_words : {E : Type 0} → (command : Command) (words : List (List ℕ)) (told : Option Contents) (old new : Faults) (result : Result Answer E)
+    → command ≡ command_of words → IfOk result (λ a. Answered (plan_of command) told old new a.status a.text)
+    → IfOk result (λ a. IsAnswered (plan_for words) told old new a.status a.text)
+answers_words command words told old new (Ok a) asks answered =
+    is_answered (plan_for words) told old new a.status a.text (subst (λ c. Answered (plan_of c) told old new a.status a.text) asks answered)
+answers_words command words told old new (Err e) asks answered = tt

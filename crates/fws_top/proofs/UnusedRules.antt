@@ -1,5 +1,5 @@
 -- What `dead` answers, of a diagram in which the rules have places.
-use Rattle.std.proofs.Common.{◌≡◌, ℕ, Option, None, List, ap, refl, sym, subst, ◌∙◌}
+use Rattle.std.proofs.Common.{◌≡◌, ℕ, Option, None, Result, Ok, Err, IfErr, IfOk, List, ap, refl, sym, subst, ◌∙◌}
 use Rattle.fws_dead.specs.Compared.{IsOfSite}
 use Rattle.fws_dead.specs.Unused.{UseAlike, used_at}
 use Rattle.fws_net.specs.declared.connection.Kind.{Kind}
@@ -51,3 +51,19 @@ dead_stopped lang file site placed told old new (Due a) taken quiet ends =
     taken.goes_on (λ t. judged file t shown) old new a.status a.text
     (subst (λ plan. Answered plan told old new a.status a.text) (sym (said.1 shown)) (said.0, quiet, refl, refl))
 dead_stopped lang file site placed told old new Memory taken quiet ends = tt
+
+-- what is given for such a diagram: a text that shows its unused rules
+pub dead_given : (lang : SourceLang) (file : List ℕ) (site : Site) (placed : Placed) (told : Option Contents) (old new : Faults) (result : Result (List ℕ) Stop)
+    → IsTakenPlaced lang file told site placed → new ≡ old → IfOk result (λ text. diagram_refusal placed.diagram ≡ None)
+    → ((used : Uses) → UseAlike site (used_at placed.diagram site placed.spots.items) used → IfOk result (IsUnusedText site used placed.labels.items))
+    → IfOk result (Answered (dead_part lang site file) told old new status.Ok)
+dead_given lang file site placed told old new (Ok text) taken quiet unrefused made = dead_shown lang file site placed told old new text taken quiet unrefused made
+dead_given lang file site placed told old new (Err stop) taken quiet unrefused made = tt
+
+-- or what stops the command
+pub dead_stop_given : (lang : SourceLang) (file : List ℕ) (site : Site) (placed : Placed) (told : Option Contents) (old new : Faults) (result : Result (List ℕ) Stop)
+    → IsTakenPlaced lang file told site placed → new ≡ old
+    → ((policy : Policy) → IfErr result (EndsIn (judged file (judged_chains (diagram_refusal placed.diagram) policy))))
+    → IfErr result (Stopped (dead_part lang site file) told old new)
+dead_stop_given lang file site placed told old new (Ok text) taken quiet ends = tt
+dead_stop_given lang file site placed told old new (Err stop) taken quiet ends = dead_stopped lang file site placed told old new stop taken quiet ends

@@ -88,6 +88,5 @@ pub(crate) fn answer_to<S: Shelf>(
     ensures answered { AnswersWords words.now S.told S.faults shelf.old shelf.new result }
 {
     let form = read_form(words);
-    let answer = follow(alloc, &form, shelf)?;
-    Ok(answer)
+    follow(alloc, &form, shelf)
 }

@@ -12,7 +12,7 @@ ghost use Rattle.fws_net.specs.Routes.{IsSound};
 use fws_box::no_sides;
 use fws_flat::Ins;
 use fws_iv::Ivs;
-use fws_net::{Cond, Site, Test, tops};
+use fws_net::{Site, Test, tops};
 use fws_num::Memory;
 use std::alloc::Global;
 
@@ -32,15 +32,12 @@ fn looks_at(test: &Test, field: usize) -> bool {
     }
 }
 
-/// Whether a literal of the condition looks at the field.
-fn cond_looks_at(cond: &Cond, field: usize) -> bool {
-    cond.lits().iter().any(|lit| looks_at(&lit.test, field))
-}
-
 /// Whether a condition of the code may look at the field: each of the entry, the protocol and the destination counts, since packets are
 /// routed.
 fn code_looks_at(code: &[Ins], field: usize) -> bool {
-    field < 3 || field == 8 || code.iter().any(|ins| cond_looks_at(&ins.cond, field))
+    field < 3
+        || field == 8
+        || code.iter().any(|ins| ins.cond.lits().iter().any(|lit| looks_at(&lit.test, field)))
 }
 
 /// The members of the set and the numbers from `lo` to `hi`.

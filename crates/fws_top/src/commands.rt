@@ -55,8 +55,7 @@ fn synth_at<S: Shelf>(
     ensures stopped { GivesStop (table_part lang site.now file_name.now state) S.told S.faults shelf.old shelf.new result }
 {
     let code = take_source(alloc, shelf, lang, site, file_name)?;
-    let text = table(alloc, site, &code.flat, state)?;
-    Ok(text)
+    Ok(table(alloc, site, &code.flat, state)?)
 }
 
 /// The table of the packets of a state.
@@ -94,8 +93,7 @@ fn query_at<S: Shelf>(
 {
     know_entries(alloc, site, asks)?;
     let code = take_source(alloc, shelf, lang, site, file_name)?;
-    let text = asked_table(alloc, site, &code.flat, state, asks)?;
-    Ok(text)
+    Ok(asked_table(alloc, site, &code.flat, state, asks)?)
 }
 
 /// The part of that table for which the words ask.
@@ -134,8 +132,7 @@ fn translate_at<S: Shelf>(
 {
     let (bytes, code) = take_source_text(alloc, shelf, from, site, file_name)?;
     let origin = origin_of(alloc, from, site, bytes.as_slice(), &code.flat)?;
-    let answer = translated(alloc, to, site, &code.flat, &origin)?;
-    Ok(answer)
+    Ok(translated(alloc, to, site, &code.flat, &origin)?)
 }
 
 /// The same policy in another language, or why it can't hold it.
@@ -173,8 +170,7 @@ fn trace_among<S: Shelf>(
     ensures stopped { (walk : Walk) → GivesStop (packets_part site.now walk conns.now packets_name.now) S.told S.faults shelf.old shelf.new result }
 {
     let packets = take_packets(alloc, shelf, site, packets_name)?;
-    let text = traced(alloc, site, code, conns, packets.as_slice())?;
-    Ok(text)
+    Ok(traced(alloc, site, code, conns, packets.as_slice())?)
 }
 
 /// What code makes of listed packets against listed connections.
@@ -259,8 +255,7 @@ fn why_among<S: Shelf>(
         → GivesStop (why_packets_part site.now policy conns.now packets_name.now) S.told S.faults shelf.old shelf.new result }
 {
     let packets = take_packets(alloc, shelf, site, packets_name)?;
-    let text = explained(alloc, site, code, conns, packets.as_slice())?;
-    Ok(text)
+    Ok(explained(alloc, site, code, conns, packets.as_slice())?)
 }
 
 /// What code makes of listed packets against listed connections, and which rules decide it.
@@ -344,8 +339,7 @@ fn run_by<S: Shelf>(
     ensures stopped { (walk : Walk) → GivesStop (events_part site.now code.now.tracks walk events_name.now) S.told S.faults shelf.old shelf.new result }
 {
     let events = take_events(alloc, shelf, site, events_name)?;
-    let text = replayed(alloc, site, code, events.as_slice())?;
-    Ok(text)
+    Ok(replayed(alloc, site, code, events.as_slice())?)
 }
 
 /// What becomes of listed events one after the other, at a site.
@@ -401,8 +395,7 @@ fn same_by<S: Shelf>(
     ensures stopped { (walk : Walk) → GivesStop (other_part site.now walk other_lang other_name.now) S.told S.faults shelf.old shelf.new result }
 {
     let other = take_source(alloc, shelf, other_lang, site, other_name)?;
-    let text = compared(alloc, site, code, &other.flat)?;
-    Ok(text)
+    Ok(compared(alloc, site, code, &other.flat)?)
 }
 
 /// Whether two configurations do the same, at a site.
@@ -456,8 +449,7 @@ fn dead_at<S: Shelf>(
     ensures stopped { GivesStop (dead_part lang site.now file_name.now) S.told S.faults shelf.old shelf.new result }
 {
     let placed = take_placed_diagram(alloc, shelf, lang, site, file_name)?;
-    let text = unused(alloc, site, file_name, &placed)?;
-    Ok(text)
+    unused(alloc, site, file_name, &placed)
 }
 
 /// Which rules of a configuration no packet uses.
@@ -486,8 +478,7 @@ fn load_at(alloc: Global, n: u32, site: &Site) -> Result<Text, Stop>
     ensures stopped { (told : Option Contents) (faults : Faults) → IfErr result (Stopped (load_part n site.now) told faults faults) }
 {
     let code = generated_source(alloc, n, site)?;
-    let text = loaded(alloc, n, site, &code.flat)?;
-    Ok(text)
+    Ok(loaded(alloc, n, site, &code.flat)?)
 }
 
 /// What a generated policy of so many rules comes to.
@@ -513,6 +504,5 @@ pub(crate) fn second_form<S: Shelf>(
     ensures stopped { GivesStop (plan_of (site2 site_name.now)) S.told S.faults shelf.old shelf.new result }
 {
     let site = take_site(alloc, shelf, site_name)?;
-    let text = put_site(alloc, &site)?;
-    Ok(text)
+    Ok(put_site(alloc, &site)?)
 }

@@ -42,14 +42,12 @@ impl Source for Ios {
     }
 
     fn to_ifcl(alloc: Global, c: &IosConfig, site: &Site) -> Result<Ifcl, Memory> {
-        let diagram = fws_ios_ifcl::to_ifcl(alloc, c, site)?;
-        Ok(diagram)
+        fws_ios_ifcl::to_ifcl(alloc, c, site)
     }
 
     fn places(alloc: Global, c: &IosConfig, site: &Site) -> Result<(Ifcl, Vec<Spot>), Memory> {
         labels_are_counted();
-        let placed = fws_ios_ifcl::places(alloc, c, site)?;
-        Ok(placed)
+        fws_ios_ifcl::places(alloc, c, site)
     }
 
     fn labels(alloc: Global, c: &IosConfig) -> Result<Vec<Text>, Memory> {

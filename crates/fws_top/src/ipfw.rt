@@ -44,15 +44,13 @@ impl Source for Ipfw {
 
     fn to_ifcl(alloc: Global, c: &IpfwConfig, site: &Site) -> Result<Ifcl, Memory> {
         spelled_diagrams();
-        let diagram = fws_ipfw_ifcl::to_ifcl(alloc, c, site)?;
-        Ok(diagram)
+        fws_ipfw_ifcl::to_ifcl(alloc, c, site)
     }
 
     fn places(alloc: Global, c: &IpfwConfig, site: &Site) -> Result<(Ifcl, Vec<Spot>), Memory> {
         spelled_diagrams();
         labels_are_counted();
-        let placed = fws_ipfw_ifcl::places(alloc, c, site)?;
-        Ok(placed)
+        fws_ipfw_ifcl::places(alloc, c, site)
     }
 
     fn labels(alloc: Global, c: &IpfwConfig) -> Result<Vec<Text>, Memory> {

@@ -45,16 +45,14 @@ impl Source for Iptables {
     fn to_ifcl(alloc: Global, c: &IptConfig, site: &Site) -> Result<Ifcl, Memory> {
         spelled_diagrams();
         unrefused_have_no_loop();
-        let diagram = fws_ipt_ifcl::to_ifcl(alloc, c, site)?;
-        Ok(diagram)
+        fws_ipt_ifcl::to_ifcl(alloc, c, site)
     }
 
     fn places(alloc: Global, c: &IptConfig, site: &Site) -> Result<(Ifcl, Vec<Spot>), Memory> {
         spelled_diagrams();
         unrefused_have_no_loop();
         labels_are_counted();
-        let placed = fws_ipt_ifcl::places(alloc, c, site)?;
-        Ok(placed)
+        fws_ipt_ifcl::places(alloc, c, site)
     }
 
     fn labels(alloc: Global, c: &IptConfig) -> Result<Vec<Text>, Memory> {

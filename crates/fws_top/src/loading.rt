@@ -123,8 +123,7 @@ fn load_of(alloc: Global, n: u32, site: &Site, tables: &Tables) -> Result<Text, 
     let fresh = row_count(alloc, site, &tables.fresh)?;
     let est = row_count(alloc, site, &tables.est)?;
     let placed = held_count(alloc, site, tables)?;
-    let line = load_line(alloc, n, fresh, est, placed)?;
-    Ok(line)
+    load_line(alloc, n, fresh, est, placed)
 }
 
 /// What the tables of code come to, which is that of so many rules.

@@ -151,8 +151,7 @@ fn code_of<L: Source>(alloc: Global, site: &Site, text: &[u8]) -> Result<PlacedC
     requires { IsSound site.now }
 {
     let placed = take_placed::<L>(alloc, site, b"", text)?;
-    let code = placed_code(alloc, b"", placed)?;
-    Ok(code)
+    placed_code(alloc, b"", placed)
 }
 
 /// Whether a text spells a configuration.

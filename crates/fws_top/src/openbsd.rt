@@ -37,8 +37,7 @@ impl Source for Openbsd {
 
     fn to_ifcl(alloc: Global, c: &PfoConfig, site: &Site) -> Result<Ifcl, Memory> {
         spelled_fits();
-        let diagram = fws_pfo_ifcl::to_ifcl(alloc, c, site)?;
-        Ok(diagram)
+        fws_pfo_ifcl::to_ifcl(alloc, c, site)
     }
 
     fn places(alloc: Global, c: &PfoConfig, site: &Site) -> Result<(Ifcl, Vec<Spot>), Memory> {

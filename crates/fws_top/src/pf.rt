@@ -42,14 +42,12 @@ impl Source for Pf {
     }
 
     fn to_ifcl(alloc: Global, c: &PfConfig, site: &Site) -> Result<Ifcl, Memory> {
-        let diagram = fws_pf_ifcl::to_ifcl(alloc, c, site)?;
-        Ok(diagram)
+        fws_pf_ifcl::to_ifcl(alloc, c, site)
     }
 
     fn places(alloc: Global, c: &PfConfig, site: &Site) -> Result<(Ifcl, Vec<Spot>), Memory> {
         labels_are_counted();
-        let placed = fws_pf_ifcl::places(alloc, c, site)?;
-        Ok(placed)
+        fws_pf_ifcl::places(alloc, c, site)
     }
 
     fn labels(alloc: Global, c: &PfConfig) -> Result<Vec<Text>, Memory> {

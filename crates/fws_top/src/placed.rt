@@ -68,8 +68,7 @@ pub(crate) fn take_placed<L: Source>(
     ensures refused { IfErr result (EndsIn (judged name.now (judged_in L.spelled L.refusal L.walk L.tracks L.used L.labels site.now bytes.now))) }
 {
     let config = take_config::<L>(alloc, site, name, bytes)?;
-    let placed = placed_in::<L>(alloc, &config, site)?;
-    Ok(placed)
+    Ok(placed_in::<L>(alloc, &config, site)?)
 }
 
 /// The flat code of a diagram with the places that its instructions are for, or the refusal of a chain.

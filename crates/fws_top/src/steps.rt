@@ -88,8 +88,7 @@ pub(crate) fn take_site<S: Shelf>(alloc: Global, shelf: &mut S, name: &[u8]) -> 
     ensures stopped { IfErr result (StopsAt (site_plan name.now) (S.told shelf.old) (S.faults shelf.old) (S.faults shelf.new)) }
 {
     let bytes = take(alloc, shelf, name)?;
-    let site = judge_site(alloc, name, bytes.as_slice())?;
-    Ok(site)
+    judge_site(alloc, name, bytes.as_slice())
 }
 
 /// What is made of the configuration that the bytes spell in a language, or its refusal.
@@ -128,8 +127,7 @@ pub(crate) fn take_source<S: Shelf>(
     ensures stopped { IfErr result (StopsAt (source_plan lang site.now name.now) (S.told shelf.old) (S.faults shelf.old) (S.faults shelf.new)) }
 {
     let bytes = take(alloc, shelf, name)?;
-    let code = judge_source(alloc, lang, site, name, bytes.as_slice())?;
-    Ok(code)
+    judge_source(alloc, lang, site, name, bytes.as_slice())
 }
 
 /// The same, with the bytes of the file.
@@ -187,8 +185,7 @@ pub(crate) fn take_placed_diagram<S: Shelf>(
     ensures stopped { IfErr result (StopsAt (source_plan lang site.now name.now) (S.told shelf.old) (S.faults shelf.old) (S.faults shelf.new)) }
 {
     let bytes = take(alloc, shelf, name)?;
-    let placed = judge_placed(alloc, lang, site, name, bytes.as_slice())?;
-    Ok(placed)
+    judge_placed(alloc, lang, site, name, bytes.as_slice())
 }
 
 /// The code of the configuration that the bytes spell in a language, with its rules, or its refusal.
@@ -222,8 +219,7 @@ pub(crate) fn take_placed_code<S: Shelf>(
     ensures stopped { IfErr result (StopsAt (source_plan lang site.now name.now) (S.told shelf.old) (S.faults shelf.old) (S.faults shelf.new)) }
 {
     let bytes = take(alloc, shelf, name)?;
-    let code = judge_placed_code(alloc, lang, site, name, bytes.as_slice())?;
-    Ok(code)
+    judge_placed_code(alloc, lang, site, name, bytes.as_slice())
 }
 
 /// The site of the generator.
@@ -234,8 +230,7 @@ pub(crate) fn generated_site(alloc: Global) -> Result<Site, Stop>
     ensures refused { IfErr result (EndsIn load_site_plan) }
 {
     let text = load_site(alloc)?;
-    let site = judge_site(alloc, b"load site", text.as_slice())?;
-    Ok(site)
+    judge_site(alloc, b"load site", text.as_slice())
 }
 
 /// What is made of its filter with so many rules.
@@ -247,14 +242,13 @@ pub(crate) fn generated_source(alloc: Global, n: u32, site: &Site) -> Result<Pol
     ensures refused { IfErr result (EndsIn (load_text_plan n site.now)) }
 {
     let text = load_text(alloc, n)?;
-    let code = judge_source(
+    judge_source(
         alloc,
         SourceLang::Iptables,
         site,
         b"load text",
         text.as_slice(),
-    )?;
-    Ok(code)
+    )
 }
 
 /// The connections that the bytes list, or their refusal.
@@ -283,8 +277,7 @@ pub(crate) fn take_conns<S: Shelf>(
     ensures stopped { IfErr result (StopsAt (conns_plan name.now) (S.told shelf.old) (S.faults shelf.old) (S.faults shelf.new)) }
 {
     let bytes = take(alloc, shelf, name)?;
-    let conns = judge_conns(alloc, name, bytes.as_slice())?;
-    Ok(conns)
+    judge_conns(alloc, name, bytes.as_slice())
 }
 
 /// The packets that the bytes list, or their refusal.
@@ -318,8 +311,7 @@ pub(crate) fn take_packets<S: Shelf>(
     ensures stopped { IfErr result (StopsAt (packets_plan site.now name.now) (S.told shelf.old) (S.faults shelf.old) (S.faults shelf.new)) }
 {
     let bytes = take(alloc, shelf, name)?;
-    let packets = judge_packets(alloc, site, name, bytes.as_slice())?;
-    Ok(packets)
+    judge_packets(alloc, site, name, bytes.as_slice())
 }
 
 /// The events that the bytes list, or their refusal.
@@ -353,8 +345,7 @@ pub(crate) fn take_events<S: Shelf>(
     ensures stopped { IfErr result (StopsAt (events_plan site.now name.now) (S.told shelf.old) (S.faults shelf.old) (S.faults shelf.new)) }
 {
     let bytes = take(alloc, shelf, name)?;
-    let events = judge_events(alloc, site, name, bytes.as_slice())?;
-    Ok(events)
+    judge_events(alloc, site, name, bytes.as_slice())
 }
 
 /// A site that lacks an entry that the words name makes them no command.

@@ -76,8 +76,7 @@ fn code_of<L: Source>(
     ensures does { IfOk result (λ code. IfSome code (λ flat. Does flat site.now (L.walk config.now site.now))) }
 {
     let diagram = L::to_ifcl(alloc, config, site)?;
-    let code = flat_of(alloc, &diagram)?;
-    Ok(code)
+    flat_of(alloc, &diagram)
 }
 
 /// Whether a configuration that some text spells can be unfolded and gives every packet the fate that the tables give it.
@@ -175,8 +174,7 @@ pub(crate) fn suggested<L: Language>(
     let evidence = evidence_of(alloc, site, policy, origin)?;
     for text in texts {
         let longer = with_notes::<L>(alloc, site, target, origin, &evidence, text)?;
-        let found = checked::<L>(alloc, site, policy, longer)?;
-        if let Some(right) = found {
+        if let Some(right) = checked::<L>(alloc, site, policy, longer)? {
             return Ok(Some(right));
         }
     }

@@ -48,8 +48,7 @@ fn tree_of(alloc: Global, site: &Site, code: &Flat, state: State) -> Result<Tree
     ensures walked { (walk : Walk) → Does code.now site.now walk
         → IfOk result (λ t. (p : List ℕ) → IsWithin (tops_of site.now) p → value t.1 p ≡ Some (walked_at walk state p)) }
 {
-    let tree = execute_tree(alloc, code, site, state)?;
-    Ok(tree)
+    execute_tree(alloc, code, site, state)
 }
 
 /// The table of the packets of a state.
@@ -59,8 +58,7 @@ pub(crate) fn table(alloc: Global, site: &Site, code: &Flat, state: State) -> Re
     ensures { (walk : Walk) → Does code.now site.now walk → IfOk result (IsTable site.now state walk) }
 {
     let tree = tree_of(alloc, site, code, state)?;
-    let text = put_table(alloc, site, state, &tree)?;
-    Ok(text)
+    put_table(alloc, site, state, &tree)
 }
 
 /// A tree of what code makes of the packets of a state that are asked for; what it has for others means nothing. Most others are left
@@ -79,8 +77,7 @@ fn asked_tree(
         → IfOk result (λ t. (p : List ℕ) → IsWithin (tops_of site.now) p → sides_have ask.now.sides p ≡ true → value t.1 p ≡ Some (walked_at walk state p)) }
 {
     let sides = executed_sides(alloc, site, code.code.as_slice(), &ask.sides)?;
-    let tree = execute_within(alloc, code, site, state, &sides)?;
-    Ok(tree)
+    execute_within(alloc, code, site, state, &sides)
 }
 
 /// The part of the table that is asked for.
@@ -100,8 +97,7 @@ fn asked_text(
         → IfOk result (IsAskedTable site.now state asks walk) }
 {
     let tree = asked_tree(alloc, site, code, state, ask)?;
-    let text = query(alloc, site, state, &tree, ask)?;
-    Ok(text)
+    query(alloc, site, state, &tree, ask)
 }
 
 /// The part of that table for which the words ask.
@@ -150,8 +146,7 @@ pub(crate) fn traced(
     ensures { (walk : Walk) → Does code.now site.now walk → IfOk result (λ text. text ≡ trace_text walk conns.now packets.now) }
 {
     let tables = tables(alloc, site, code)?;
-    let text = trace(alloc, site, &tables, conns, packets)?;
-    Ok(text)
+    trace(alloc, site, &tables, conns, packets)
 }
 
 /// The same, and which rules decide it.
@@ -167,7 +162,7 @@ pub(crate) fn explained(
     ensures { (policy : Policy) → IsToldBy policy site.now code.now
         → IfOk result (λ text. text ≡ why_text policy.walk policy.used policy.labels conns.now packets.now) }
 {
-    let text = why(
+    why(
         alloc,
         site,
         &code.flat,
@@ -176,8 +171,7 @@ pub(crate) fn explained(
         code.labels.as_slice(),
         conns,
         packets,
-    )?;
-    Ok(text)
+    )
 }
 
 /// What code makes of events one after the other, in a run that begins with no connections.
@@ -193,8 +187,7 @@ pub(crate) fn replayed(
     ensures { (walk : Walk) → Does code.now.flat site.now walk → IfOk result (λ text. text ≡ run_text code.now.tracks walk events.now) }
 {
     let tables = tables(alloc, site, &code.flat)?;
-    let text = put_run(alloc, site, events, &tables, code.tracks)?;
-    Ok(text)
+    put_run(alloc, site, events, &tables, code.tracks)
 }
 
 /// Whether two codes do the same, or a packet with which they don't.
@@ -214,6 +207,5 @@ pub(crate) fn compared(
     let one = tables(alloc, site, code)?;
     let two = tables(alloc, site, other)?;
     let comparison = same(alloc, site, &one, &two)?;
-    let text = put_comparison(alloc, site, &comparison)?;
-    Ok(text)
+    put_comparison(alloc, site, &comparison)
 }

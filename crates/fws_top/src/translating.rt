@@ -76,8 +76,7 @@ fn printed<L: Language>(
     ensures { IfOk result (EmitsIn L.spelled L.tracks L.walk site.now tables.now) }
 {
     let text = L::print(alloc, config, site)?;
-    let longer = with_losses::<L>(alloc, site, tables, target, origin, text)?;
-    Ok(longer)
+    with_losses::<L>(alloc, site, tables, target, origin, text)
 }
 
 /// The text that is emitted where tables have a configuration: the first suggestion that is right, else that of the configuration.
@@ -98,8 +97,7 @@ fn emitted<L: Language>(
     requires fates { GivesFates site.now tables.now (L.walk config.now site.now) }
     ensures { IfOk result (EmitsIn L.spelled L.tracks L.walk site.now tables.now) }
 {
-    let found = suggested::<L>(alloc, site, tables, hints, target, origin)?;
-    match found {
+    match suggested::<L>(alloc, site, tables, hints, target, origin)? {
         Some(text) => Ok(text),
         None => printed::<L>(alloc, site, tables, config, target, origin),
     }
@@ -170,6 +168,5 @@ pub(crate) fn translated(
     ensures { (walk : Walk) → Does code.now site.now walk → IfOk result (λ a. IsTranslation target site.now walk a.status a.text) }
 {
     let tables = tables(alloc, site, code)?;
-    let answer = placed_in(alloc, target, site, &tables, code, origin)?;
-    Ok(answer)
+    placed_in(alloc, target, site, &tables, code, origin)
 }

@@ -4,7 +4,7 @@ use Rattle.fws_top.specs.Judged.{Policy}
 use Rattle.fws_top.specs.Plan.{Plan, shows, source_plan}
 use Rattle.fws_top.specs.Tables.{unused}
 use Rattle.fws_top.proofs.AnsweredCommands.{step_stops}
-use Rattle.fws_top.proofs.UnusedRules.{dead_shown, dead_stopped}
+use Rattle.fws_top.proofs.UnusedRules.{dead_given, dead_stop_given}
 use Rattle.fws_top.proofs.commands.dead_at.Goals as goal
 
 pub returns-in_err-placed-clause-stopped : goal.returns-in_err-placed-clause-stopped
@@ -23,13 +23,12 @@ unused-requires-clause-spots g c =
     let placed = c.in_ok-placed.placed in
     subst (λ labels. are_spots_of placed.diagram (length labels) placed.spots.items ≡ true) (sym is.labels) is.spots
 
-pub returns-in_err-text-clause-stopped : goal.returns-in_err-text-clause-stopped
-returns-in_err-text-clause-stopped g c =
-    let stops = dead_stopped c.args.lang c.args.file_name.now c.args.site.now c.in_ok-placed.placed (g.S.Shelf.told c.args.shelf.now) (g.S.Shelf.faults c.args.shelf.now)
-    (g.S.Shelf.faults c.take_placed_diagram.new.shelf) c.in_err-text.field-0.0 c.in_ok-placed.ensures.placed c.in_ok-placed.ensures.quiet c.in_err-text.ensures.refused in
-    search (rules, stops)
-
 pub returns-clause-answered : goal.returns-clause-answered
 returns-clause-answered g c =
-    dead_shown c.args.lang c.args.file_name.now c.args.site.now c.in_ok-placed.placed (g.S.Shelf.told c.args.shelf.now) (g.S.Shelf.faults c.args.shelf.now)
-    (g.S.Shelf.faults c.take_placed_diagram.new.shelf) c.in_ok-text.text c.in_ok-placed.ensures.placed c.in_ok-placed.ensures.quiet c.in_ok-text.ensures.unrefused c.in_ok-text.ensures.unused
+    dead_given c.args.lang c.args.file_name.now c.args.site.now c.in_ok-placed.placed (g.S.Shelf.told c.args.shelf.now) (g.S.Shelf.faults c.args.shelf.now)
+    (g.S.Shelf.faults c.take_placed_diagram.new.shelf) c.unused.result c.in_ok-placed.ensures.placed c.in_ok-placed.ensures.quiet c.unused.ensures.unrefused c.unused.ensures.unused
+
+pub returns-clause-stopped : goal.returns-clause-stopped
+returns-clause-stopped g c =
+    dead_stop_given c.args.lang c.args.file_name.now c.args.site.now c.in_ok-placed.placed (g.S.Shelf.told c.args.shelf.now) (g.S.Shelf.faults c.args.shelf.now)
+    (g.S.Shelf.faults c.take_placed_diagram.new.shelf) c.unused.result c.in_ok-placed.ensures.placed c.in_ok-placed.ensures.quiet c.unused.ensures.refused

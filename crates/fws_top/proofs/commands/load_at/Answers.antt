@@ -9,4 +9,4 @@ returns-in_err-code-clause-stopped c = λ told faults.
 
 pub returns-clause-answered : goal.returns-clause-answered
 returns-clause-answered c = λ told faults.
-    load_shown c.args.n c.args.site.now c.in_ok-code.code told faults c.in_ok-text.text c.in_ok-code.ensures.code c.in_ok-text.ensures
+    load_shown c.args.n c.args.site.now c.in_ok-code.code told faults c.in_ok-loaded.field-0 c.in_ok-code.ensures.code c.in_ok-loaded.ensures

@@ -17,5 +17,5 @@ returns-in_err-code-clause-stopped g c =
 pub returns-clause-answered : goal.returns-clause-answered
 returns-clause-answered g c =
     asked_table_shown c.args.lang c.args.file_name.now c.args.site.now c.args.state c.args.asks.now c.in_ok-code.code (g.S.Shelf.told c.args.shelf.now)
-    (g.S.Shelf.faults c.args.shelf.now) (g.S.Shelf.faults c.take_source.new.shelf) c.in_ok-text.text
-    c.in_ok-know_entries.ensures.known c.in_ok-code.ensures.code c.in_ok-code.ensures.quiet c.in_ok-text.ensures
+    (g.S.Shelf.faults c.args.shelf.now) (g.S.Shelf.faults c.take_source.new.shelf) c.in_ok-asked_table.field-0
+    c.in_ok-know_entries.ensures.known c.in_ok-code.ensures.code c.in_ok-code.ensures.quiet c.in_ok-asked_table.ensures

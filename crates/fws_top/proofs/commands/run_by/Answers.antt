@@ -16,5 +16,5 @@ returns-in_err-events-clause-stopped g c = λ walk.
 pub returns-clause-answered : goal.returns-clause-answered
 returns-clause-answered g c = λ walk does.
     run_said c.args.events_name.now c.args.site.now c.args.code.now.tracks walk c.in_ok-events.events.items (g.S.Shelf.told c.args.shelf.now) (g.S.Shelf.faults c.args.shelf.now)
-    (g.S.Shelf.faults c.take_events.new.shelf) c.in_ok-text.text c.in_ok-events.ensures.goes_on c.in_ok-events.ensures.quiet
-    (c.in_ok-text.ensures walk does ∙ ap (λ (es : List Event). run_text c.args.code.now.tracks walk es) c.as_slice.ensures.value)
+    (g.S.Shelf.faults c.take_events.new.shelf) c.in_ok-replayed.field-0 c.in_ok-events.ensures.goes_on c.in_ok-events.ensures.quiet
+    (c.in_ok-replayed.ensures walk does ∙ ap (λ (es : List Event). run_text c.args.code.now.tracks walk es) c.as_slice.ensures.value)

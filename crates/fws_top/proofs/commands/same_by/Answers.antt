@@ -20,5 +20,5 @@ compared-requires-clause-other_regular g c =
 pub returns-clause-answered : goal.returns-clause-answered
 returns-clause-answered g c = λ walk does.
     comparison_shown c.args.other_lang c.args.other_name.now c.args.site.now walk c.in_ok-other.other (g.S.Shelf.told c.args.shelf.now) (g.S.Shelf.faults c.args.shelf.now)
-    (g.S.Shelf.faults c.take_source.new.shelf) c.in_ok-text.text c.in_ok-other.ensures.code c.in_ok-other.ensures.quiet
-    (λ second other_does. c.in_ok-text.ensures walk second does other_does)
+    (g.S.Shelf.faults c.take_source.new.shelf) c.in_ok-compared.field-0 c.in_ok-other.ensures.code c.in_ok-other.ensures.quiet
+    (λ second other_does. c.in_ok-compared.ensures walk second does other_does)

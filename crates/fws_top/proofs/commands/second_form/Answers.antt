@@ -13,5 +13,5 @@ returns-in_err-site-clause-stopped g c =
 
 pub returns-clause-answered : goal.returns-clause-answered
 returns-clause-answered g c =
-    second_form_said c.args.site_name.now c.in_ok-site.site (g.S.Shelf.told c.args.shelf.now) (g.S.Shelf.faults c.args.shelf.now) (g.S.Shelf.faults c.take_site.new.shelf) c.in_ok-text.text
-    c.in_ok-site.ensures.goes_on c.in_ok-site.ensures.quiet c.in_ok-text.ensures.spelled
+    second_form_said c.args.site_name.now c.in_ok-site.site (g.S.Shelf.told c.args.shelf.now) (g.S.Shelf.faults c.args.shelf.now) (g.S.Shelf.faults c.take_site.new.shelf) c.in_ok-put_site.field-0
+    c.in_ok-site.ensures.goes_on c.in_ok-site.ensures.quiet c.in_ok-put_site.ensures.spelled

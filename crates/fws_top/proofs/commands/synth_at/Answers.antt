@@ -15,4 +15,4 @@ returns-in_err-code-clause-stopped g c =
 pub returns-clause-answered : goal.returns-clause-answered
 returns-clause-answered g c =
     table_shown c.args.lang c.args.file_name.now c.args.site.now c.args.state c.in_ok-code.code (g.S.Shelf.told c.args.shelf.now) (g.S.Shelf.faults c.args.shelf.now)
-    (g.S.Shelf.faults c.take_source.new.shelf) c.in_ok-text.text c.in_ok-code.ensures.code c.in_ok-code.ensures.quiet c.in_ok-text.ensures
+    (g.S.Shelf.faults c.take_source.new.shelf) c.in_ok-table.field-0 c.in_ok-code.ensures.code c.in_ok-code.ensures.quiet c.in_ok-table.ensures

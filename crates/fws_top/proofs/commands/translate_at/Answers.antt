@@ -15,5 +15,5 @@ returns-in_err-bytes-clause-stopped g c =
 pub returns-clause-answered : goal.returns-clause-answered
 returns-clause-answered g c =
     translation_shown c.args.from c.args.to c.args.file_name.now c.args.site.now c.in_ok-bytes.code (g.S.Shelf.told c.args.shelf.now) (g.S.Shelf.faults c.args.shelf.now)
-    (g.S.Shelf.faults c.take_source_text.new.shelf) c.in_ok-answer.answer.status c.in_ok-answer.answer.text
-    c.in_ok-bytes.ensures.code c.in_ok-bytes.ensures.quiet c.in_ok-answer.ensures
+    (g.S.Shelf.faults c.take_source_text.new.shelf) c.in_ok-translated.field-0.status c.in_ok-translated.field-0.text
+    c.in_ok-bytes.ensures.code c.in_ok-bytes.ensures.quiet c.in_ok-translated.ensures

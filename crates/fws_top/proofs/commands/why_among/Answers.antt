@@ -16,5 +16,5 @@ returns-in_err-packets-clause-stopped g c = λ policy.
 pub returns-clause-answered : goal.returns-clause-answered
 returns-clause-answered g c = λ policy told.
     why_said c.args.packets_name.now c.args.site.now policy c.args.conns.now c.in_ok-packets.packets.items (g.S.Shelf.told c.args.shelf.now) (g.S.Shelf.faults c.args.shelf.now)
-    (g.S.Shelf.faults c.take_packets.new.shelf) c.in_ok-text.text c.in_ok-packets.ensures.goes_on c.in_ok-packets.ensures.quiet
-    (c.in_ok-text.ensures policy told ∙ ap (λ (ps : List Packet). why_text policy.walk policy.used policy.labels c.args.conns.now ps) c.as_slice.ensures.value)
+    (g.S.Shelf.faults c.take_packets.new.shelf) c.in_ok-explained.field-0 c.in_ok-packets.ensures.goes_on c.in_ok-packets.ensures.quiet
+    (c.in_ok-explained.ensures policy told ∙ ap (λ (ps : List Packet). why_text policy.walk policy.used policy.labels c.args.conns.now ps) c.as_slice.ensures.value)

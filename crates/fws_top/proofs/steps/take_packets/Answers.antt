@@ -1,7 +1,7 @@
 use Rattle.std.proofs.Common.{rules}
 use Rattle.fws_trace.specs.PacketText.{packets_of}
 use Rattle.fws_top.specs.Plan.{listed}
-use Rattle.fws_top.proofs.Chosen.{chosen, ended, stopped_file}
+use Rattle.fws_top.proofs.Chosen.{judged_goes_on, judged_stops, stopped_file}
 use Rattle.fws_top.proofs.steps.take_packets.Goals as goal
 
 pub returns-in_err-bytes-clause-stopped : goal.returns-in_err-bytes-clause-stopped
@@ -10,14 +10,13 @@ returns-in_err-bytes-clause-stopped g c =
     (g.S.Shelf.faults c.args.shelf.now) (g.S.Shelf.faults c.take.new.shelf) c.in_err-bytes.field-0.0 c.in_err-bytes.ensures.stopped in
     search (rules, stops)
 
-pub returns-in_err-packets-clause-stopped : goal.returns-in_err-packets-clause-stopped
-returns-in_err-packets-clause-stopped g c =
-    let ends = ended c.args.name.now c.in_ok-bytes.bytes c.as_slice.result.now (g.S.Shelf.told c.args.shelf.now) (λ b. listed c.args.name.now (packets_of b c.args.site.now))
-    (g.S.Shelf.faults c.args.shelf.now) (g.S.Shelf.faults c.take.new.shelf) c.in_err-packets.field-0.0
-    c.as_slice.ensures c.in_ok-bytes.ensures.goes_on c.in_ok-bytes.ensures.quiet c.in_err-packets.ensures.refused in
-    search (rules, ends)
+pub returns-clause-stopped : goal.returns-clause-stopped
+returns-clause-stopped g c =
+    judged_stops c.args.name.now c.in_ok-bytes.bytes c.as_slice.result.now (g.S.Shelf.told c.args.shelf.now) (λ b. listed c.args.name.now (packets_of b c.args.site.now))
+    (g.S.Shelf.faults c.args.shelf.now) (g.S.Shelf.faults c.take.new.shelf) c.judge_packets.result
+    c.as_slice.ensures c.in_ok-bytes.ensures.goes_on c.in_ok-bytes.ensures.quiet c.judge_packets.ensures.refused
 
 pub returns-clause-goes_on : goal.returns-clause-goes_on
 returns-clause-goes_on g c =
-    chosen c.args.name.now c.in_ok-bytes.bytes c.as_slice.result.now (g.S.Shelf.told c.args.shelf.now) (λ b. listed c.args.name.now (packets_of b c.args.site.now)) c.in_ok-packets.packets.items
-    c.as_slice.ensures c.in_ok-bytes.ensures.goes_on c.in_ok-packets.ensures.chooses
+    judged_goes_on c.args.name.now c.in_ok-bytes.bytes c.as_slice.result.now (g.S.Shelf.told c.args.shelf.now) (λ b. listed c.args.name.now (packets_of b c.args.site.now)) c.judge_packets.result (λ packets. packets.items)
+    c.as_slice.ensures c.in_ok-bytes.ensures.goes_on c.judge_packets.ensures.chooses

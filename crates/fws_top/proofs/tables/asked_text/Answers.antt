@@ -1,8 +1,10 @@
-use Rattle.std.proofs.Common.{◌≡◌, Bool, true, false, Option, Some, None, option_and_then, cond, refl, ap, ◌∙◌}
+use Rattle.std.proofs.Common.{◌≡◌, ℕ, List, Bool, true, false, Option, Some, None, option_and_then, cond, refl, ap, ◌∙◌}
+use Rattle.std.proofs.lemmas.Result.{IfOk-weaker}
 use Rattle.fws_box.specs.Sides.{sides_have}
 use Rattle.fws_net.specs.declared.outcome.Outcome.{Outcome}
-use Rattle.fws_table.specs.QueryText.{asked_leaf}
+use Rattle.fws_table.specs.QueryText.{IsQuery, asked_leaf}
 use Rattle.fws_top.specs.Asks.{asks_have}
+use Rattle.fws_top.specs.Tables.{IsAskedTable}
 use Rattle.fws_top.specs.Walked.{walked_at}
 use Rattle.fws_top.proofs.tables.asked_text.Goals as goal
 use Rattle.fws_tree.specs.Plain.{value}
@@ -17,8 +19,8 @@ pub returns : goal.returns
 returns c = λ asks walk sides verdict does.
     let site = c.args.site.now in
     let ask = c.args.ask.now in
-    let made = c.in_ok-text.ensures in
-    record {
+    let given : List ℕ → Type 0 = IsQuery site c.args.state c.in_ok-tree.tree.1 ask in
+    IfOk-weaker c.query.result given (IsAskedTable site c.args.state asks walk) (λ text made. record {
       tree = made.tree;
       reduced = made.reduced;
       asked = λ p w.
@@ -31,4 +33,4 @@ returns c = λ asks walk sides verdict does.
           ∙ ap of_sides (sides p w)
           ∙ ap of_verdict verdict;
       spelled = made.spelled;
-    }
+    }) c.query.ensures

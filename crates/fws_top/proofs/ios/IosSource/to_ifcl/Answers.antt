@@ -1,10 +1,11 @@
-use Rattle.std.proofs.Common.{ap}
-use Rattle.std.specs.Prelude.{option_map}
-use Rattle.fws_top.specs.Judged.{named_refusal}
+use Rattle.std.proofs.Common.{None}
+use Rattle.fws_ifcl.specs.declared.diagram.Ifcl.{Ifcl}
+use Rattle.fws_ios.specs.Walk.{walk}
+use Rattle.fws_top.proofs.Chainless.{always_draws, never_refused}
 use Rattle.fws_top.proofs.ios.IosSource.to_ifcl.Goals as goal
 
 pub returns-clause-refused : goal.returns-clause-refused
-returns-clause-refused c = ap (option_map (named_refusal c.in_ok-diagram.diagram.chains)) c.in_ok-diagram.ensures.unfolds
+returns-clause-refused c = never_refused c.to_ifcl.result (λ (d : Ifcl). d) c.to_ifcl.ensures.unfolds
 
 pub returns-clause-means : goal.returns-clause-means
-returns-clause-means c = λ unrefused p k within. c.in_ok-diagram.ensures.means p k
+returns-clause-means c = always_draws c.to_ifcl.result (λ (d : Ifcl). d) c.args.site.now (walk c.args.c.now c.args.site.now) None c.to_ifcl.ensures.means

@@ -1,21 +1,23 @@
-use Rattle.std.proofs.Common.{◌≡◌, true, ap, subst, sym}
-use Rattle.std.specs.Prelude.{option_map}
-use Rattle.fws_ifcl.specs.Spots.{are_spots_of}
-use Rattle.fws_top.specs.Judged.{named_refusal}
+use Rattle.std.proofs.Common.{None, length}
+use Rattle.fws_ipfw.specs.Uses.{used}
+use Rattle.fws_ipfw.specs.Walk.{walk}
+use Rattle.fws_ipfw_print.specs.Labels.{labels_of}
+use Rattle.fws_top.proofs.Chainless.{always_draws, always_shows, never_refused, spots_labelled}
 use Rattle.fws_top.proofs.ipfw.IpfwSource.places.Goals as goal
 
 pub places-requires : goal.places-requires
 places-requires c = c.spelled_diagrams.ensures c.args.site.now c.requires.from_text.0 c.args.c.now c.requires.from_text.1
 
 pub returns-clause-refused : goal.returns-clause-refused
-returns-clause-refused c = ap (option_map (named_refusal c.in_ok-placed.placed.0.chains)) c.in_ok-placed.ensures.unfolds
+returns-clause-refused c = never_refused c.places.result (λ x. x.0) c.places.ensures.unfolds
 
 pub returns-clause-means : goal.returns-clause-means
-returns-clause-means c = λ unrefused p k within. c.in_ok-placed.ensures.means p k
+returns-clause-means c = always_draws c.places.result (λ x. x.0) c.args.site.now (walk c.args.c.now c.args.site.now) None c.places.ensures.means
 
 pub returns-clause-spots : goal.returns-clause-spots
 returns-clause-spots c =
-    subst (λ n. are_spots_of c.in_ok-placed.placed.0 n c.in_ok-placed.placed.1.items ≡ true) (sym (c.labels_are_counted.ensures c.args.c.now)) c.in_ok-placed.ensures.spots
+    spots_labelled c.places.result (λ x. x.0) (λ x. x.1.items) (length (labels_of c.args.c.now)) _ (c.labels_are_counted.ensures c.args.c.now) c.places.ensures.spots
 
 pub returns-clause-uses : goal.returns-clause-uses
-returns-clause-uses c = λ unrefused p k within. c.in_ok-placed.ensures.uses p k
+returns-clause-uses c =
+    always_shows c.places.result (λ x. x.0) (λ x. x.1.items) c.args.site.now (used c.args.c.now c.args.site.now) None c.places.ensures.uses

@@ -1,23 +1,16 @@
-use Rattle.fws_ipt.specs.Refusals.{refusal_of}
-use Rattle.fws_ipt_ifcl.specs.Fitting.{IsDrawable}
-use Rattle.fws_top.proofs.Diagrams.{refused_alike, unnamed_unrefused}
+use Rattle.fws_ifcl.specs.declared.diagram.Ifcl.{Ifcl}
+use Rattle.fws_top.proofs.Diagrams.{drawn_means, drawn_ok, drawn_refused}
 use Rattle.fws_top.proofs.iptables.IptablesSource.to_ifcl.Goals as goal
 
 pub returns-clause-ok : goal.returns-clause-ok
-returns-clause-ok c =
-    let drawable : IsDrawable c.args.c.now = c.spelled_diagrams.ensures c.args.site.now c.requires.from_text.0 c.args.c.now c.requires.from_text.1 in
-    c.in_ok-diagram.ensures.ok drawable.fitting
+returns-clause-ok c = drawn_ok c.to_ifcl.result (λ (d : Ifcl). d) c.args.c.now (c.spelled_diagrams.ensures c.args.site.now c.requires.from_text.0 c.args.c.now c.requires.from_text.1) c.to_ifcl.ensures.ok
 
 pub returns-clause-refused : goal.returns-clause-refused
 returns-clause-refused c =
-    let config = c.args.c.now in
-    let drawable : IsDrawable config = c.spelled_diagrams.ensures c.args.site.now c.requires.from_text.0 config c.requires.from_text.1 in
-    refused_alike c.in_ok-diagram.diagram config.chains (refusal_of c.args.site.now config) c.in_ok-diagram.ensures.chains.names (c.in_ok-diagram.ensures.refused drawable.met)
+    drawn_refused c.to_ifcl.result (λ (d : Ifcl). d) c.args.site.now c.args.c.now (c.spelled_diagrams.ensures c.args.site.now c.requires.from_text.0 c.args.c.now c.requires.from_text.1)
+    c.to_ifcl.ensures.chains c.to_ifcl.ensures.refused
 
 pub returns-clause-means : goal.returns-clause-means
-returns-clause-means c = λ unrefused.
-    let site = c.args.site.now in
-    let config = c.args.c.now in
-    let drawable : IsDrawable config = c.spelled_diagrams.ensures site c.requires.from_text.0 config c.requires.from_text.1 in
-    c.in_ok-diagram.ensures.means drawable.fitting drawable.sideless drawable.netmaps_placed
-    (c.unrefused_have_no_loop.ensures site config (unnamed_unrefused config.chains (refusal_of site config) unrefused))
+returns-clause-means c =
+    drawn_means c.to_ifcl.result (λ (d : Ifcl). d) c.args.site.now c.args.c.now (c.spelled_diagrams.ensures c.args.site.now c.requires.from_text.0 c.args.c.now c.requires.from_text.1)
+    (c.unrefused_have_no_loop.ensures c.args.site.now c.args.c.now) c.to_ifcl.ensures.means
