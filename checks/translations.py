@@ -170,7 +170,7 @@ PF_FORMS = [
     ('macro', r'[a-z_]\w* = "[^"]+"'),
     ('table', r'table <\w+> const \{ %s(?:, %s)* \}' % (PF_ITEM, PF_ITEM)),
     ('translation', r'no (?:rdr|nat)%s(?: tag %s)?(?: tagged %s)?' % (PF_HEAD, PF_TAG, PF_TAG)),
-    ('translation', r'rdr%s(?: tag %s)?(?: tagged %s)? -> \S+(?: bitmask| port \S+)?' % (PF_HEAD, PF_TAG, PF_TAG)),
+    ('translation', r'rdr(?: pass)?%s(?: tag %s)?(?: tagged %s)? -> \S+(?: bitmask| port \S+)?' % (PF_HEAD, PF_TAG, PF_TAG)),
     ('translation', r'nat%s(?: tag %s)?(?: tagged %s)? -> \S+(?: bitmask)? static-port' % (PF_HEAD, PF_TAG, PF_TAG)),
     ('filter', r'block(?: drop)?(?: in| out)?(?: quick)?%s%s' % (PF_HEAD, PF_OPTIONS)),
     ('filter', r'pass(?: in| out)?(?: quick)?%s%s' % (PF_HEAD, PF_OPTIONS)),

@@ -9,6 +9,8 @@ pub(crate) struct Translations {
     pub(crate) redirected: Vec<Rule>,
     /// Whether packets whose destination is written get a tag.
     pub(crate) tags_redirected: bool,
+    /// Whether they pass in by that, so that the filter doesn't see them there.
+    pub(crate) passes_redirected: bool,
     /// The rules for sources: a colour is the place of one.
     pub(crate) sent: Vec<Rule>,
     /// Whether packets whose source is written get a tag.

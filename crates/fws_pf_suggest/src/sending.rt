@@ -1,11 +1,13 @@
 //! How destinations and sources are translated.
 
 use crate::draft::Translations;
+use crate::filter::later_packets;
 use crate::free::Free;
 use fws_net::End;
 use fws_suggest::{
     ACCEPT, DROP, DST, Diagram, ENTRY, FLAGS, ICMP, List, Marked, Mask, Meeting, Policy, Reach,
-    Rule, SRC, Settings, Side, Stop, Task, end_colours, marks_of, solved, split_by_class, task_for,
+    Rule, SRC, Settings, Side, Stop, TAG, Task, end_colours, marks_of, solved, split_by_class,
+    task_for,
 };
 
 /// The end at a place of a list.
@@ -44,10 +46,8 @@ fn without_details(policy: &mut Policy, diagram: Diagram) -> Result<Diagram, Sto
     Ok(flat)
 }
 
-/// The rules for destinations.
-fn redirecting(policy: &mut Policy, reach: Reach) -> Result<Vec<Rule>, Stop> {
-    let arriving = policy.arriving;
-    let diagram = policy.redirections(arriving, reach)?;
+/// The rules for destinations that may be written.
+fn redirecting(policy: &mut Policy, diagram: Diagram) -> Result<Vec<Rule>, Stop> {
     let diagram = without_details(policy, diagram)?;
     let colours = end_colours(policy.alloc, &policy.destinations)?;
     let task = task_for(policy.alloc, diagram, colours, &[0])?;
@@ -65,8 +65,9 @@ fn redirected_by(
     reach: Reach,
     is_tagged: bool,
 ) -> Result<Option<Diagram>, Stop> {
-    let rules = redirecting(policy, reach)?;
     let arriving = policy.arriving;
+    let diagram = policy.redirections(arriving, reach)?;
+    let rules = redirecting(policy, diagram)?;
     let narrow = policy.narrowed(&rules, arriving)?;
     let found = policy.behind(&narrow, is_tagged)?;
     if found.is_some() {
@@ -77,10 +78,7 @@ fn redirected_by(
 }
 
 /// Notes how destinations are translated, and gives what packets are behind that. It gives up where none of the ways is open.
-pub(crate) fn redirect(
-    policy: &mut Policy,
-    translations: &mut Translations,
-) -> Result<Diagram, Stop> {
+fn redirect(policy: &mut Policy, translations: &mut Translations) -> Result<Diagram, Stop> {
     if policy.destinations.len() == 1 {
         return policy.direct();
     }
@@ -96,6 +94,66 @@ pub(crate) fn redirect(
         }
     }
     Err(Stop::Late)
+}
+
+/// What packets are behind the translation of destinations, and which sources may be written over theirs.
+#[derive(Clone, Copy)]
+pub(crate) struct Redirected {
+    /// What becomes of them, as `direct` has it.
+    pub(crate) behind: Diagram,
+    /// The sources that may be written.
+    pub(crate) sendings: Diagram,
+}
+
+/// Notes how destinations are translated, by rules that let these packets pass or by others, and gives what packets are behind that.
+pub(crate) fn redirected(
+    policy: &mut Policy,
+    translations: &mut Translations,
+    passes: bool,
+) -> Result<Redirected, Stop> {
+    if passes {
+        return redirect_passing(policy, translations);
+    }
+    let behind = redirect(policy, translations)?;
+    let sendings = policy.sendings(behind)?;
+    Ok(Redirected { behind, sendings })
+}
+
+/// Which destinations may be written where all packets over whose destination one is written pass in. TCP packets that open no
+/// connection may be among these, as rules can't ask for flags there.
+fn passing(policy: &mut Policy) -> Result<Diagram, Stop> {
+    let arriving = policy.arriving;
+    let strict = policy.redirections(arriving, Reach::Strict)?;
+    let Some(later) = later_packets(policy)? else {
+        return Ok(strict);
+    };
+    let near = policy.redirections(arriving, Reach::Near)?;
+    let opening = policy.space.paint(strict, &later)?;
+    let others = policy.space.keep(near, &later)?;
+    policy.space.meet(opening, others)
+}
+
+/// As `redirected`, by rules that let packets pass: the filter sees all others as they come in.
+fn redirect_passing(
+    policy: &mut Policy,
+    translations: &mut Translations,
+) -> Result<Redirected, Stop> {
+    let diagram = passing(policy)?;
+    let rules = redirecting(policy, diagram)?;
+    let arriving = policy.arriving;
+    let narrow = policy.narrowed(&rules, arriving)?;
+    let Some(whole) = policy.behind(&narrow, true)? else {
+        return Err(Stop::Late);
+    };
+    let side = policy.space.range(TAG, 0, 0)?;
+    let plain = policy.everything().with(TAG, side);
+    let staying = policy.space.keep(whole, &plain)?;
+    let behind = policy.space.project(staying, TAG, Meeting::Both)?;
+    let all = policy.sendings(whole)?;
+    let sendings = policy.space.project(all, TAG, Meeting::Both)?;
+    translations.redirected = rules;
+    translations.passes_redirected = true;
+    Ok(Redirected { behind, sendings })
 }
 
 /// What of the host's packets may be written over: where that is asked nothing over those that are dropped.
@@ -250,9 +308,9 @@ pub(crate) fn send(
     policy: &mut Policy,
     translations: &mut Translations,
     free: &Free,
-    behind: Diagram,
+    redirected: Redirected,
 ) -> Result<Diagram, Stop> {
-    let verdict = policy.verdict(behind)?;
+    let verdict = policy.verdict(redirected.behind)?;
     let own = free.leaving(policy, verdict)?;
     if policy.fails(own)? {
         return Err(Stop::Late);
@@ -260,7 +318,7 @@ pub(crate) fn send(
     if policy.sources.len() == 1 {
         return Ok(own);
     }
-    let sendings = policy.sendings(behind)?;
+    let sendings = redirected.sendings;
     for (is_strict, tags_sent) in [(false, false), (true, false), (true, true)] {
         if let Some(seen) = sent_by(
             policy,

@@ -210,6 +210,7 @@ fn put_rdr_rule(
     policy: &mut Policy,
     style: &mut Style,
     is_tagged: bool,
+    passes: bool,
     rule: &Rule,
 ) -> Result<(), Stop> {
     let Some(end) = end_at(&policy.destinations, rule.colour) else {
@@ -217,7 +218,7 @@ fn put_rdr_rule(
         put_plain(names, out, policy, style, &rule.region, false)?;
         return Ok(out.end(b"")?);
     };
-    out.put(b"rdr ")?;
+    out.put(if passes { b"rdr pass " } else { b"rdr " })?;
     put_plain(names, out, policy, style, &rule.region, false)?;
     if is_tagged {
         out.put(b" tag RDR")?;
@@ -246,6 +247,7 @@ fn put_rdr_rules(
             policy,
             style,
             translations.tags_redirected,
+            translations.passes_redirected,
             rule,
         )?;
     }

@@ -7,7 +7,7 @@ use crate::draft::{Filter, Translations};
 use crate::filter::filtered;
 use crate::free::{Free, free_interfaces};
 use crate::names::Names;
-use crate::sending::{redirect, send};
+use crate::sending::{redirected, send};
 use crate::text::statements;
 use fws_flat::Flat;
 use fws_net::Site;
@@ -35,10 +35,11 @@ fn translated(
     policy: &mut Policy,
     translations: &mut Translations,
     free: &Free,
+    passes: bool,
 ) -> Result<Behind, Stop> {
-    let behind = redirect(policy, translations)?;
-    let leaving = send(policy, translations, free, behind)?;
-    let verdict = policy.verdict(behind)?;
+    let redirected = redirected(policy, translations, passes)?;
+    let leaving = send(policy, translations, free, redirected)?;
+    let verdict = policy.verdict(redirected.behind)?;
     Ok(Behind { verdict, leaving })
 }
 
@@ -127,15 +128,17 @@ fn put_texts(
     site: &Site,
     free: &Free,
     is_small: bool,
+    passes: bool,
 ) -> Result<(), Stop> {
     let mut translations = Translations {
         redirected: Vec::new(policy.alloc),
         tags_redirected: false,
+        passes_redirected: false,
         sent: Vec::new(policy.alloc),
         tags_sent: false,
         marks: Vec::new(policy.alloc),
     };
-    let behind = translated(policy, &mut translations, free)?;
+    let behind = translated(policy, &mut translations, free, passes)?;
     for is_one in [true, false] {
         let tried = attempt(policy, site, &translations, free, behind, is_one);
         put_tried(all, tried)?;
@@ -148,6 +151,21 @@ fn put_texts(
 }
 
 /// As `put_texts`, with nothing put where the search gave up.
+fn put_texts_if_found(
+    all: &mut Vec<Tried>,
+    policy: &mut Policy,
+    site: &Site,
+    free: &Free,
+    is_small: bool,
+    passes: bool,
+) -> Result<(), Memory> {
+    match put_texts(all, policy, site, free, is_small, passes) {
+        Ok(()) | Err(Stop::Late) => Ok(()),
+        Err(Stop::Memory) => Err(Memory),
+    }
+}
+
+/// Puts the texts that are found; where tables are small also those in which redirected packets pass by that.
 fn put_if_found(
     all: &mut Vec<Tried>,
     policy: &mut Policy,
@@ -155,10 +173,11 @@ fn put_if_found(
     free: &Free,
     is_small: bool,
 ) -> Result<(), Memory> {
-    match put_texts(all, policy, site, free, is_small) {
-        Ok(()) | Err(Stop::Late) => Ok(()),
-        Err(Stop::Memory) => Err(Memory),
+    put_texts_if_found(all, policy, site, free, is_small, false)?;
+    if is_small && policy.destinations.len() > 1 {
+        put_texts_if_found(all, policy, site, free, true, true)?;
     }
+    Ok(())
 }
 
 /// As `put_if_found`, within half of the steps that are left.
