@@ -1,6 +1,7 @@
 //! Rules that drop or accept, with what they have in common in chains of the user's.
 
 use crate::options::words;
+use crate::passing::{GO, LEAVING};
 use crate::rules::Writer;
 use crate::sharing::{Common, common_part, split_by};
 use crate::text::{Lines, put_line};
@@ -33,12 +34,15 @@ pub(crate) struct Sheet {
     pub(crate) body: Text,
     /// How many rules there are.
     pub(crate) count: usize,
+    /// Whether a chain of the user's has rules that lead to the chain of what leaves, so that a packet which that doesn't decide would
+    /// come back.
+    pub(crate) leads_within: bool,
     waiting: Vec<Waiting>,
     chains: usize,
 }
 
 /// The verdict that a colour is.
-fn verdict(colour: u32) -> &'static [u8] {
+pub(crate) fn verdict(colour: u32) -> &'static [u8] {
     if colour == ACCEPT { b"ACCEPT" } else { b"DROP" }
 }
 
@@ -50,6 +54,7 @@ impl Sheet {
             heads: Text::new(alloc),
             body: Text::new(alloc),
             count: 0,
+            leads_within: false,
             waiting: Vec::new(alloc),
             chains: 0,
         }
@@ -100,6 +105,9 @@ impl Sheet {
         rules: &[Rule],
     ) -> Result<Vec<Rule>, Stop> {
         let parts = split_by(self.alloc, &policy.space, common, rules)?;
+        if parts.behind.iter().any(|rule| rule.colour == GO) {
+            self.leads_within = true;
+        }
         let name = self.name_for(common)?;
         let region = if common.others.is_some() {
             policy.everything()
@@ -138,7 +146,11 @@ impl Sheet {
         }
         for rule in &left {
             let tests = writer.tests(policy, style, &rule.region)?;
-            lines.put(chain, &tests, verdict(rule.colour))?;
+            if rule.colour == GO {
+                lines.lead(chain, &tests, LEAVING)?;
+            } else {
+                lines.put(chain, &tests, verdict(rule.colour))?;
+            }
         }
         Ok(())
     }

@@ -70,6 +70,17 @@ pub(crate) struct Translations {
     pub(crate) sent: Sent,
 }
 
+/// Where the rules for what the host itself sends stand.
+#[derive(Clone, Copy, Debug, PartialEq, Eq)]
+pub(crate) enum Own {
+    /// In OUTPUT.
+    Apart,
+    /// In a chain that FORWARD calls first, for what comes from loopback.
+    ForLoopback,
+    /// In a chain to which rules lead for what arrives.
+    ForPassing,
+}
+
 /// The chains of the table filter.
 #[derive(Drop)]
 pub(crate) struct Filters {
@@ -77,8 +88,8 @@ pub(crate) struct Filters {
     pub(crate) common: Vec<Rule>,
     /// Whether a rule for established packets stands first in that chain.
     pub(crate) has_established: bool,
-    /// Whether the rules of OUTPUT stand in a chain that FORWARD calls first, for what comes from loopback.
-    pub(crate) shares_output: bool,
+    /// Where the rules of OUTPUT stand.
+    pub(crate) own: Own,
     /// INPUT.
     pub(crate) input: Filtered,
     /// FORWARD.

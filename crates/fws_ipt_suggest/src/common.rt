@@ -4,7 +4,7 @@
 //! lists of both, from those of the source, and from a list that is sought for both at once; then each of both gets a list for what
 //! is left.
 
-use crate::chains::{Filtered, Filters};
+use crate::chains::{Filtered, Filters, Own};
 use crate::filter::{Asked, Hook, answered, hints_of_arriving};
 use fws_flat::Flat;
 use fws_num::Memory;
@@ -155,7 +155,7 @@ fn with_common(
     let forward = chain_behind(policy, Hook::Forward, both.forward, &common, source)?;
     Ok(Filters {
         has_established: both.has_established,
-        shares_output: filters.shares_output,
+        own: filters.own,
         common,
         input,
         forward,
@@ -339,7 +339,7 @@ pub(crate) fn with_output_shared(
         filters: Filters {
             common: Vec::new(policy.alloc),
             has_established: false,
-            shares_output: true,
+            own: Own::ForLoopback,
             input: base.filters.input.copy(policy.alloc)?,
             forward: passing,
             output: leaving,

@@ -6,6 +6,7 @@ mod chains;
 mod common;
 mod filter;
 mod options;
+mod passing;
 mod rules;
 mod sharing;
 mod tables;

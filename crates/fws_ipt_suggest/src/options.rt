@@ -1,6 +1,7 @@
 //! Options of rules.
 
 use fws_iv::Iv;
+use fws_net::Site;
 use fws_num::{Memory, Text, put_dec, put_quad};
 use fws_suggest::is_network;
 use std::alloc::Global;
@@ -71,6 +72,81 @@ pub(crate) fn local_option(alloc: Global, is_source: bool, not: bool) -> Result<
         b"--dst-type LOCAL"
     })?;
     Ok(out)
+}
+
+/// A test for the addresses of the host's interfaces: all of its own ones but those of loopback.
+pub(crate) fn face_option(alloc: Global, is_source: bool) -> Result<Text, Memory> {
+    let mut out = local_option(alloc, is_source, false)?;
+    out.put(if is_source {
+        b" ! -s 127.0.0.0/8"
+    } else {
+        b" ! -d 127.0.0.0/8"
+    })?;
+    Ok(out)
+}
+
+/// Whether a range has an address.
+fn has(range: Iv, address: u32) -> bool {
+    range.lo <= address && address <= range.hi
+}
+
+/// Whether one of the ranges has an address.
+fn is_in(ranges: &[Iv], address: u32) -> bool {
+    for range in ranges {
+        if has(*range, address) {
+            return true;
+        }
+    }
+    false
+}
+
+/// The addresses of the host's interfaces.
+fn face_addresses(alloc: Global, site: &Site) -> Result<Vec<u32>, Memory> {
+    let mut all = Vec::new(alloc);
+    for face in site.faces.as_slice() {
+        for address in face.addrs.as_slice() {
+            all.push(address.addr)?;
+        }
+    }
+    Ok(all)
+}
+
+/// Whether all addresses of a range are among those.
+fn is_made_of(range: Iv, addresses: &[u32]) -> bool {
+    let size = u64::from(range.hi.saturating_sub(range.lo)).saturating_add(1);
+    let mut count: u64 = 0;
+    for address in addresses {
+        if has(range, *address) {
+            count = count.saturating_add(1);
+        }
+    }
+    count == size
+}
+
+/// Of ranges that have all addresses of the host's interfaces those that have others, too: where at least two ranges have nothing
+/// else, so that it is shorter to name these addresses by their kind.
+pub(crate) fn without_own(
+    alloc: Global,
+    site: &Site,
+    ranges: &[Iv],
+) -> Result<Option<Vec<Iv>>, Memory> {
+    let own = face_addresses(alloc, site)?;
+    for address in &own {
+        if !is_in(ranges, *address) {
+            return Ok(None);
+        }
+    }
+    let mut others = Vec::new(alloc);
+    for range in ranges {
+        if !is_made_of(*range, &own) {
+            others.push(*range)?;
+        }
+    }
+    Ok(if others.len().saturating_add(2) <= ranges.len() {
+        Some(others)
+    } else {
+        None
+    })
 }
 
 /// The name of a protocol, or its number.

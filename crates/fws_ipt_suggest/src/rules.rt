@@ -1,7 +1,8 @@
 //! The lines of a rule.
 
 use crate::options::{
-    address_option, local_option, protocol_option, put_flags, put_mark, put_ports, words,
+    address_option, face_option, local_option, protocol_option, put_flags, put_mark, put_ports,
+    without_own, words,
 };
 use fws_iv::Iv;
 use fws_net::{Lang, Site};
@@ -24,6 +25,9 @@ pub(crate) struct Writer<'a> {
     pub(crate) entries: u32,
     /// Marks that stand for entries, where these can't be asked.
     pub(crate) marks: &'a [Marked],
+    /// Whether packets that are delivered are met, too, which leave by no interface: the host's own addresses are asked by their
+    /// kind then.
+    pub(crate) asks_local: bool,
 }
 
 /// The protocols that a rule names.
@@ -135,8 +139,22 @@ impl Writer<'_> {
         out.choose(&choices)
     }
 
+    /// The same for chains that packets meet that are delivered, too.
+    pub(crate) fn for_delivered(&self) -> Writer<'_> {
+        Writer {
+            alloc: self.alloc,
+            site: self.site,
+            entries: self.entries,
+            marks: self.marks,
+            asks_local: true,
+        }
+    }
+
     /// An option with the name of an interface.
     fn interface(&self, not: bool, option: &[u8], entry: u32) -> Result<Text, Memory> {
+        if self.asks_local && entry == 1 && option == b"-o".as_slice() {
+            return local_option(self.alloc, false, not);
+        }
         let mut text = words(self.alloc, if not { b"! " } else { b"" })?;
         text.put(option)?;
         text.put(b" ")?;
@@ -207,12 +225,34 @@ impl Writer<'_> {
         if address.form == AddressForm::WithLocal {
             choices.push(local_option(self.alloc, is_source, false)?)?;
         }
+        let mut ranges = Vec::new(self.alloc);
         for place in 0..count {
-            let not = negated || (mixed && place == 0);
-            let range = style.range(address.ranges, place);
-            choices.push(address_option(self.alloc, is_source, not, range)?)?;
+            ranges.push(style.range(address.ranges, place))?;
         }
+        if positive {
+            if let Some(others) = without_own(self.alloc, self.site, &ranges)? {
+                choices.push(face_option(self.alloc, is_source)?)?;
+                ranges = others;
+            }
+        }
+        self.put_ranges(&mut choices, is_source, negated, mixed, &ranges)?;
         Ok(choices)
+    }
+
+    /// Puts a test for each range of addresses, of which all are negated or the first alone.
+    fn put_ranges(
+        &self,
+        choices: &mut Vec<Text>,
+        is_source: bool,
+        negated: bool,
+        first_negated: bool,
+        ranges: &[Iv],
+    ) -> Result<(), Memory> {
+        for range in ranges {
+            let not = negated || (first_negated && choices.is_empty());
+            choices.push(address_option(self.alloc, is_source, not, *range)?)?;
+        }
+        Ok(())
     }
 
     /// Addresses as they are written.

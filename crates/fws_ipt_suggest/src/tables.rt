@@ -1,9 +1,10 @@
 //! The text of the tables mangle, nat and filter.
 
-use crate::chained::Sheet;
-use crate::chains::{Filtered, Filters, Redirected, Translations};
+use crate::chained::{Sheet, verdict};
+use crate::chains::{Filtered, Filters, Own, Redirected, Translations};
 use crate::filter::{Hook, style_of};
 use crate::options::words;
+use crate::passing::LEAVING;
 use crate::rules::{REDIRECTED, Writer};
 use crate::text::{Lines, end_target, mark_target, put_chain, put_line};
 use crate::translation::nat_settings;
@@ -283,6 +284,7 @@ fn put_sources(
         site: writer.site,
         entries: writer.entries,
         marks: &sent.marks,
+        asks_local: false,
     };
     chain.name = b"POSTROUTING";
     chain.settings = settings.with_exits();
@@ -396,7 +398,7 @@ fn input_lines(writer: &Writer, filters: &Filters) -> Result<Lines, Memory> {
 /// The first lines of FORWARD.
 fn forward_lines(writer: &Writer, policy: &mut Policy, filters: &Filters) -> Result<Lines, Stop> {
     let mut lines = Lines::new(writer.alloc);
-    if filters.shares_output {
+    if filters.own == Own::ForLoopback {
         put_own_call(writer, policy, &mut lines)?;
     }
     if !filters.common.is_empty() {
@@ -417,20 +419,47 @@ fn put_output(
         name: b"OUTPUT",
         text: b"# What the host itself sends.",
     };
-    if filters.shares_output {
-        sheet.declare(OWN)?;
-        put_call(writer, &mut lines, b"OUTPUT", OWN)?;
-        heading.name = OWN;
+    match filters.own {
+        Own::Apart => {}
+        Own::ForLoopback => heading.name = OWN,
+        Own::ForPassing => {
+            heading.name = LEAVING;
+            heading.text = b"# What leaves.";
+        }
     }
+    if filters.own != Own::Apart {
+        sheet.declare(heading.name)?;
+        put_call(writer, &mut lines, b"OUTPUT", heading.name)?;
+    }
+    let delivered = writer.for_delivered();
+    let here = if filters.own == Own::ForPassing {
+        &delivered
+    } else {
+        writer
+    };
     put_filter_chain(
-        writer,
+        here,
         sheet,
         policy,
         Hook::Output,
         heading,
         &filters.output,
         lines,
-    )
+    )?;
+    put_last(writer, sheet, filters)
+}
+
+/// Appends the last rule of the chain of what leaves, where a packet that no rule decides would go on elsewhere.
+fn put_last(writer: &Writer, sheet: &mut Sheet, filters: &Filters) -> Result<(), Stop> {
+    let default = filters.output.list.default;
+    if filters.own != Own::ForPassing
+        || (default == filters.input.list.default && !sheet.leads_within)
+    {
+        return Ok(());
+    }
+    let mut lines = Lines::new(writer.alloc);
+    put_call(writer, &mut lines, LEAVING, verdict(default))?;
+    Ok(sheet.put_lines(&lines)?)
 }
 
 /// Appends the chain that INPUT and FORWARD call, if there is one.
@@ -449,14 +478,15 @@ fn put_common_chain(
         put_established(writer, &mut lines, ARRIVING)?;
     }
     let everywhere = policy.space.full(DST);
-    let mut style = policy.style(Settings::iptables(), everywhere)?;
+    let mut style = policy.style(Settings::iptables().with_exits(), everywhere)?;
     let rules = filters.common.as_slice();
-    sheet.put_rules(writer, policy, &mut style, &mut lines, ARRIVING, rules)?;
+    let here = writer.for_delivered();
+    sheet.put_rules(&here, policy, &mut style, &mut lines, ARRIVING, rules)?;
     sheet.put_group(
         b"# What arrives, whether it is delivered or forwarded.",
         &lines,
     )?;
-    sheet.put_all_waiting(writer, policy, &mut style)
+    sheet.put_all_waiting(&here, policy, &mut style)
 }
 
 /// Appends the head of the table filter, with the policies of its chains.

@@ -29,6 +29,27 @@ impl Lines {
         tests: &Phrases,
         target: &[u8],
     ) -> Result<(), Memory> {
+        self.put_all(chain, tests, b"-j ", target)
+    }
+
+    /// Appends the lines of a rule that leads to another chain for good.
+    pub(crate) fn lead(
+        &mut self,
+        chain: &[u8],
+        tests: &Phrases,
+        target: &[u8],
+    ) -> Result<(), Memory> {
+        self.put_all(chain, tests, b"-g ", target)
+    }
+
+    /// Appends the lines of a rule with its target behind an option.
+    fn put_all(
+        &mut self,
+        chain: &[u8],
+        tests: &Phrases,
+        option: &[u8],
+        target: &[u8],
+    ) -> Result<(), Memory> {
         for line in tests.lines() {
             self.text.put(b"-A ")?;
             self.text.put(chain)?;
@@ -37,7 +58,7 @@ impl Lines {
                 self.text.put(line.as_slice())?;
                 self.text.put(b" ")?;
             }
-            self.text.put(b"-j ")?;
+            self.text.put(option)?;
             self.text.put(target)?;
             self.text.put(b"\n")?;
             self.count = self.count.saturating_add(1);

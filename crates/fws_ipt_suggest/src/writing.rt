@@ -2,9 +2,10 @@
 
 ghost use Rattle.fws_net.specs.Routes.{IsSound};
 
-use crate::chains::{Ahead, Filters, Translations};
+use crate::chains::{Ahead, Filters, Own, Translations};
 use crate::common::{Base, put_shared, with_output_shared};
 use crate::filter::{Asked, Hook, asked_at, filtered};
+use crate::passing::passing;
 use crate::rules::Writer;
 use crate::tables::put_tables;
 use crate::text::put_line;
@@ -81,7 +82,7 @@ fn base_of(policy: &mut Policy, questions: Questions, hints: &Flat) -> Result<Ba
     let filters = Filters {
         common: Vec::new(policy.alloc),
         has_established: false,
-        shares_output: false,
+        own: Own::Apart,
         input,
         forward,
         output,
@@ -129,6 +130,28 @@ fn sharing_output(
 /// The most words of diagrams with which it is tried whether FORWARD may call the rules of OUTPUT.
 const MOST_WORDS: usize = 500_000;
 
+/// Puts the version of the chains in which all that arrives is asked in one, where that is right and found.
+fn put_passing(
+    policy: &mut Policy,
+    plain: &Base,
+    output: Asked,
+    hints: &Flat,
+    versions: &mut Vec<Filters>,
+) -> Result<(), Memory> {
+    if policy.space.size() > MOST_WORDS_PASSING {
+        return Ok(());
+    }
+    match passing(policy, plain, output, hints) {
+        Ok(Some(filters)) => versions.push(filters)?,
+        Ok(None) | Err(Stop::Late) => {}
+        Err(Stop::Memory) => return Err(Memory),
+    }
+    Ok(())
+}
+
+/// The most words of diagrams with which it is tried to ask all that arrives in one chain.
+const MOST_WORDS_PASSING: usize = 200_000;
+
 /// Puts versions of the chains, with the rules of OUTPUT shared and without.
 fn put_all_versions(
     policy: &mut Policy,
@@ -137,6 +160,7 @@ fn put_all_versions(
     hints: &Flat,
     versions: &mut Vec<Filters>,
 ) -> Result<(), Memory> {
+    put_passing(policy, &plain, output, hints, versions)?;
     match sharing_output(policy, &plain, output, hints) {
         Ok(Some(shared)) => put_versions(policy, shared, hints, versions)?,
         Ok(None) | Err(Stop::Late) => {}
@@ -234,6 +258,7 @@ fn found(
         site,
         entries: policy.entries,
         marks: &[],
+        asks_local: false,
     };
     let mut text = Text::new(policy.alloc);
     put_head(&mut text, site)?;
