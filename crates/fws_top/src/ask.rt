@@ -3,7 +3,7 @@
 //! There is a function for each definition in `specs/Asks.antt`, cut as this is, so that the prover needs no help.
 
 ghost use Rattle.std.specs.Prelude.{◌≡◌, ◌≤◌, Some, None, MatchOption, IfSome};
-ghost use Rattle.std.specs.List.{list_all};
+ghost use Rattle.std.specs.List.{list_all, list_any};
 ghost use Rattle.std.specs.Str.{bytes_eq};
 ghost use Rattle.fws_num.specs.Numbers.{dec_of};
 ghost use Rattle.fws_table.specs.TableText.{entry_name};
@@ -223,14 +223,24 @@ fn asks_about(subject: Subject, word: &[u8]) -> bool
     }
 }
 
+/// Whether one of the words asks about this subject. A loop, since the prover doesn't see through `any` with a closure that takes the subject.
+fn any_asks_about(subject: Subject, words: &[Text]) -> bool
+    ensures { result ≡ list_any (asks_about subject) words.now }
+{
+    for word in words {
+        if asks_about(subject, word.as_slice()) {
+            return true;
+        }
+    }
+    false
+}
+
 /// Whether a word is well spelled, and no later one asks again about its subject.
 fn asks_last(word: &[u8], later: &[Text]) -> bool
     ensures { result ≡ asks_last word.now later.now }
 {
     match read_word(word) {
-        Some((subject, _)) => !later
-            .iter()
-            .any(|word| asks_about(subject, word.as_slice())),
+        Some((subject, _)) => !any_asks_about(subject, later),
         None => false,
     }
 }
