@@ -10,14 +10,14 @@ use Rattle.fws_net.specs.Connections.{is_est}
 use Rattle.fws_net.specs.Points.{tops_of}
 use Rattle.fws_ios.specs.declared.config.IosEntry.{IosEntry}
 use Rattle.fws_ios.specs.Walk.{permits, view_on}
-use Rattle.fws_ios_list.specs.FirstMatch.{IsFirstMatch}
-use Rattle.fws_ios_path.specs.Entries.{acknowledges, IsStateEntry}
+use Rattle.fws_ios_put_lists.specs.FirstMatch.{IsFirstMatch}
+use Rattle.fws_ios_put_entries.specs.Entries.{acknowledges, IsStateEntry}
 use Rattle.fws_ios_print.specs.Printable.{has_entries, is_printed_entry, is_state}
 use Rattle.fws_ios_put.specs.declared.choices.Choices.{Choices}
 use Rattle.fws_ios_put.specs.Blocks.{AreWellFormed, IsAhead, IsBack, IsDeniedBlock, IsFront, IsListOf, IsMarkedBlock, said_ahead}
 use Rattle.fws_ios_put.specs.Choices.{is_tcp, IsAskable, truth}
 use Rattle.fws_ios_put.specs.Placed.{keeps_state}
-use Rattle.fws_ios_put.proofs.Choosing.{begun_list, plain_list, whole_list}
+use Rattle.fws_ios_put.proofs.ListsSay.{begun_list, plain_list, whole_list}
 use Rattle.fws_ios_put.proofs.Parts.{all_weaker, formed_both, keeping_first}
 
 module _ (site : Site) (c : Choices) where

@@ -25,7 +25,7 @@ use Rattle.fws_ios_put.proofs.Chosen.{chosen_of, packet_of_pair}
 use Rattle.fws_ios_put.proofs.Deciding.{in_list_of}
 use Rattle.fws_ios_put.proofs.Groups.{all_guarded, at_entry, ascending, groups_printed, none_out}
 use Rattle.fws_ios_put.proofs.Known.{Known}
-use Rattle.fws_ios_put.proofs.Lists.{all_apart, marked_found, own_found}
+use Rattle.fws_ios_put.proofs.ListsApart.{all_apart, marked_found, own_found}
 use Rattle.fws_ios_put.proofs.Parts.{all_both}
 use Rattle.fws_ios_put.proofs.Sides.{good_sides}
 use Rattle.fws_ios_put.proofs.Ways.{est_placed, new_placed}

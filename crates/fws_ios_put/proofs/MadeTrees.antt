@@ -8,7 +8,7 @@ use Rattle.fws_net.specs.Points.{tops_of}
 use Rattle.fws_net.specs.Routes.{is_local}
 use Rattle.fws_tree.specs.Plain.{Plain, value}
 use Rattle.fws_truth.specs.Truths.{AreJoined}
-use Rattle.fws_ios_path.specs.Seen.{IsListed}
+use Rattle.fws_ios_put_entries.specs.Seen.{IsListed}
 use Rattle.fws_ios_put.specs.Choices.{IsAskable, is_stray, is_tcp, truth}
 
 pub truth_is : (t : Plain Bool) (x : List ℕ) (b : Bool) → value t x ≡ Some b → truth t x ≡ b

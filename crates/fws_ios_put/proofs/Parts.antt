@@ -14,10 +14,10 @@ use Rattle.fws_net.specs.Conditions.{holds}
 use Rattle.fws_net.specs.Points.{tops_of}
 use Rattle.fws_ios.specs.declared.config.IosEntry.{IosEntry}
 use Rattle.fws_ios.specs.Walk.{permits, view_on}
-use Rattle.fws_ios_cover.specs.Covers.{IsCover}
-use Rattle.fws_ios_path.specs.declared.act.Act.{Act}
-use Rattle.fws_ios_path.specs.Entries.{acknowledges}
-use Rattle.fws_ios_path.specs.Seen.{IsSeenAt}
+use Rattle.fws_ios_put_cover.specs.Covers.{IsCover}
+use Rattle.fws_ios_put_entries.specs.declared.act.Act.{Act}
+use Rattle.fws_ios_put_entries.specs.Entries.{acknowledges}
+use Rattle.fws_ios_put_entries.specs.Seen.{IsSeenAt}
 use Rattle.fws_ios_print.specs.Printable.{is_printed_entry, is_state}
 use Rattle.fws_tree.specs.Plain.{Plain, value}
 use Rattle.fws_ios_put.specs.Blocks.{AreWellFormed, Gives, IsDeniedBlock, IsMarkedBlock, Marks}

@@ -11,7 +11,7 @@ use Rattle.fws_net.specs.declared.site.Side.{Side}
 use Rattle.fws_net.specs.declared.site.Side.TheVariants.{Neither, Inside, Outside}
 use Rattle.fws_net.specs.declared.site.Site.{Site}
 use Rattle.fws_ios_print.specs.Printable.{are_sides, face_count, meets, ranges_ascend, sides_differ}
-use Rattle.fws_ios_source.specs.Sources.{is_on}
+use Rattle.fws_ios_put_sources.specs.Sources.{is_on}
 use Rattle.fws_place.specs.Rewritings.{side_of}
 
 -- Ranges

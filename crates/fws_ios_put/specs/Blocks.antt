@@ -9,8 +9,8 @@ use Rattle.fws_net.specs.Connections.{is_est}
 use Rattle.fws_net.specs.Points.{tops_of}
 use Rattle.fws_ios.specs.declared.config.IosEntry.{IosEntry}
 use Rattle.fws_ios.specs.Walk.{permits}
-use Rattle.fws_ios_path.specs.Entries.{acknowledges}
-use Rattle.fws_ios_path.specs.Seen.{IsSeenAt}
+use Rattle.fws_ios_put_entries.specs.Entries.{acknowledges}
+use Rattle.fws_ios_put_entries.specs.Seen.{IsSeenAt}
 use Rattle.fws_ios_print.specs.Printable.{has_entries, is_printed_entry}
 use Rattle.fws_ios_put.specs.declared.choices.Choices.{Choices}
 use Rattle.fws_ios_put.specs.Choices.{IsAskedAt, is_tcp, said_at, truth}

@@ -12,8 +12,8 @@ use Rattle.fws_tree.specs.declared.tables.Tables.{Tables}
 use Rattle.fws_tree.specs.Plain.{Plain, value}
 use Rattle.fws_sight.specs.declared.seen.Seen.TheVariants.{Entered}
 use Rattle.fws_sight.specs.Shown.{IsTold}
-use Rattle.fws_ios_path.specs.Entries.{acknowledges}
-use Rattle.fws_ios_path.specs.Seen.{IsListed}
+use Rattle.fws_ios_put_entries.specs.Entries.{acknowledges}
+use Rattle.fws_ios_put_entries.specs.Seen.{IsListed}
 use Rattle.fws_place.specs.Meaning.{IsPairOf, new_of, point_of, rec_of}
 use Rattle.fws_place.specs.Rewritings.{is_accepted}
 use Rattle.fws_place.specs.Seen.{IsAcceptedSomewhere, Tells}

@@ -4,8 +4,8 @@ use Rattle.fws_iv.specs.Ivs.{has, IsRegular}
 use Rattle.fws_net.specs.declared.site.Site.{Site}
 use Rattle.fws_ios.specs.declared.config.IosConfig.{IosConfig}
 use Rattle.fws_ios.specs.declared.config.IosList.{IosList}
-use Rattle.fws_ios_source.specs.declared.translations.Sources.{Sources}
-use Rattle.fws_ios_source.specs.Sources.{is_on, IsSources}
+use Rattle.fws_ios_put_sources.specs.declared.translations.Sources.{Sources}
+use Rattle.fws_ios_put_sources.specs.Sources.{is_on, IsSources}
 use Rattle.fws_place.specs.Rewritings.{side_of}
 use Rattle.fws_tree.specs.declared.tables.Tables.{Tables}
 use Rattle.fws_tree.specs.Plain.{Plain}

@@ -13,9 +13,9 @@ use crate::choices::Choices;
 use crate::fixing::{is_somewhere, of_tcp};
 use crate::truths::{negated, without};
 use fws_ios::IosEntry;
-use fws_ios_cover::put_cover;
-use fws_ios_list::put_first_match;
-use fws_ios_path::{Act, state_entry};
+use fws_ios_put_cover::put_cover;
+use fws_ios_put_entries::{Act, state_entry};
+use fws_ios_put_lists::put_list;
 use fws_net::Site;
 use fws_num::{Items, Memory};
 use fws_tree::Tree;
@@ -280,7 +280,7 @@ fn put_back(
 {
     put_marked(alloc, entries, site, &c.acked_fresh, &c.fresh, true)?;
     put_lacking(alloc, entries, site, &c.acked_fresh, &c.fresh)?;
-    put_first_match(alloc, entries, site, &c.fresh, true)?;
+    put_list(alloc, entries, site, &c.fresh, true)?;
     Ok(())
 }
 

@@ -12,9 +12,9 @@ ghost use Rattle.fws_tree.specs.Regular.{AreRegular};
 ghost use Rattle.fws_ios_put.specs.Draft.{IsDraft};
 ghost use Rattle.fws_ios_put.specs.Layout.{AreLeaders, AreLists};
 
-use crate::laying::{groups_of, lists_of};
+use crate::lists::{groups_of, lists_of};
 use fws_ios::{IosConfig, IosList};
-use fws_ios_source::{entries_on, sources_of};
+use fws_ios_put_sources::{entries_on, sources_of};
 use fws_net::Site;
 use fws_num::{Items, Memory};
 use fws_tree::{Tables, Tree};

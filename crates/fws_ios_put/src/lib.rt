@@ -3,12 +3,12 @@
 
 mod blocks;
 mod choices;
+mod choosing;
 mod drafting;
 mod fixing;
-mod laying;
 mod leading;
-mod making;
-mod naming;
+mod lists;
+mod names;
 mod placing;
 mod telling;
 mod tracking;

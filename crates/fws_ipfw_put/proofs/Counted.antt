@@ -12,7 +12,7 @@ use Rattle.fws_ipfw.specs.declared.config.IpfwNat.{IpfwNat}
 use Rattle.fws_ipfw.specs.declared.config.IpfwRule.{IpfwRule}
 use Rattle.fws_ipfw.specs.Walk.{nat_numbered}
 use Rattle.fws_ipfw_print.specs.Printable.{all_redirects, redirects_at, redirects_named}
-use Rattle.fws_ipfw_tree.specs.Lists.{is_plain}
+use Rattle.fws_ipfw_put_rules.specs.Lists.{is_plain}
 use Rattle.fws_place.specs.declared.redirect.Redirect.{Redirect as Shown}
 use Rattle.fws_ipfw_put.specs.Instances.{redirect_for}
 use Rattle.fws_ipfw_put.specs.Laid.{nats_for}

@@ -19,8 +19,8 @@ use Rattle.fws_ipfw.specs.declared.config.IpfwTag.TheVariants as tags
 use Rattle.fws_ipfw.specs.declared.pass.Pass.{Pass}
 use Rattle.fws_ipfw.specs.RuleText.{allows}
 use Rattle.fws_ipfw.specs.Walk.{rules_walk, step_of, stepped, tagged}
-use Rattle.fws_ipfw_tree.specs.declared.choice.Section.{Section}
-use Rattle.fws_ipfw_tree.specs.Lists.{NeverAllows, act_of, is_of, tag_of}
+use Rattle.fws_ipfw_put_rules.specs.declared.choice.Section.{Section}
+use Rattle.fws_ipfw_put_rules.specs.Lists.{NeverAllows, act_of, is_of, tag_of}
 use Rattle.fws_sight.specs.declared.seen.Seen.TheVariants.{Entered, Routed}
 use Rattle.fws_sight.specs.Shown.{IsSeenAs}
 use Rattle.fws_ipfw_put.specs.Guards.{IsFullGuard, IsGuard, IsImageList, IsNoGuard}

@@ -12,10 +12,10 @@ use Rattle.fws_net.specs.Points.{tops_of}
 use Rattle.fws_net.specs.Routes.{is_local}
 use Rattle.fws_tree.specs.Plain.{Plain, leaf, value, value_from}
 use Rattle.fws_ipfw.specs.declared.config.IpfwRule.{IpfwRule}
-use Rattle.fws_ipfw_tree.specs.declared.choice.Choice.{Choice}
-use Rattle.fws_ipfw_tree.specs.declared.choice.Choice.TheVariants as choices
-use Rattle.fws_ipfw_tree.specs.declared.choice.Section.{Section}
-use Rattle.fws_ipfw_tree.specs.Lists.{FitsAt, IsList, fits_at, is_tag}
+use Rattle.fws_ipfw_put_rules.specs.declared.choice.Choice.{Choice}
+use Rattle.fws_ipfw_put_rules.specs.declared.choice.Choice.TheVariants as choices
+use Rattle.fws_ipfw_put_rules.specs.declared.choice.Section.{Section}
+use Rattle.fws_ipfw_put_rules.specs.Lists.{FitsAt, IsList, fits_at, is_tag}
 use Rattle.fws_sight.specs.declared.seen.Seen.{Seen}
 use Rattle.fws_sight.specs.declared.seen.Seen.TheVariants.{Routed}
 use Rattle.fws_sight.specs.Shown.{IsTold, has_field, shown}

@@ -24,7 +24,7 @@ use Rattle.fws_ipfw.specs.RuleText.{allows, has_ports as have_ports}
 use Rattle.fws_ipfw.specs.Soundness.{are_apart, are_ordered}
 use Rattle.fws_ipfw.specs.Walk.{nat_numbered}
 use Rattle.fws_ipfw_print.specs.Printable.{all_redirects, is_port, is_printable, is_printed_nat, is_printed_redirect, is_printed_rule, is_whole}
-use Rattle.fws_ipfw_tree.specs.Lists.{is_plain}
+use Rattle.fws_ipfw_put_rules.specs.Lists.{is_plain}
 use Rattle.fws_place.specs.declared.redirect.Redirect.{Redirect as Shown}
 use Rattle.fws_place.specs.Counts.{IsShown, new_rows, public_service, redirect_of}
 use Rattle.fws_place.specs.Meaning.{new_of, no_ends, point_of}

@@ -23,8 +23,8 @@ use Rattle.fws_tree.specs.Plain.{value}
 use Rattle.fws_ipfw.specs.declared.config.IpfwConfig.{IpfwConfig}
 use Rattle.fws_ipfw.specs.declared.pass.Pass.{Pass}
 use Rattle.fws_ipfw.specs.Walk.{nat_numbered, pass_walk, rules_walk, step_of, stepped, tagged, translated, walk}
-use Rattle.fws_ipfw_tree.specs.declared.choice.Choice.TheVariants as choices
-use Rattle.fws_ipfw_tree.specs.Lists.{act_of, tag_for, tag_of as rule_tag}
+use Rattle.fws_ipfw_put_rules.specs.declared.choice.Choice.TheVariants as choices
+use Rattle.fws_ipfw_put_rules.specs.Lists.{act_of, tag_for, tag_of as rule_tag}
 use Rattle.fws_place.specs.Counts.{redirect_of}
 use Rattle.fws_place.specs.Meaning.{IsPacketOf, IsPairOf, new_of, no_ends, point_of}
 use Rattle.fws_place.specs.Rewritings.{is_delivered, new_exit}

@@ -7,9 +7,9 @@ use Rattle.fws_net.specs.Points.{tops_of}
 use Rattle.fws_net.specs.Routes.{is_local}
 use Rattle.fws_tree.specs.Plain.{Plain, value}
 use Rattle.fws_ipfw.specs.declared.config.IpfwRule.{IpfwRule}
-use Rattle.fws_ipfw_tree.specs.declared.choice.Choice.{Choice}
-use Rattle.fws_ipfw_tree.specs.declared.choice.Section.{Section}
-use Rattle.fws_ipfw_tree.specs.Lists.{IsList}
+use Rattle.fws_ipfw_put_rules.specs.declared.choice.Choice.{Choice}
+use Rattle.fws_ipfw_put_rules.specs.declared.choice.Section.{Section}
+use Rattle.fws_ipfw_put_rules.specs.Lists.{IsList}
 use Rattle.fws_sight.specs.SightLaws.{HasImages}
 use Rattle.fws_ipfw_put.specs.Layout.{known_arriving, known_forwarded, known_sent, leaving_rules, passing}
 use Rattle.fws_box.specs.Fields.{value_of}

@@ -11,10 +11,10 @@ use Rattle.fws_ipfw.specs.declared.config.IpfwAct.{IpfwAct}
 use Rattle.fws_ipfw.specs.declared.config.IpfwAct.TheVariants as acts
 use Rattle.fws_ipfw.specs.declared.config.IpfwTag.TheVariants as tags
 use Rattle.fws_ipfw.specs.declared.config.IpfwRule.{IpfwRule}
-use Rattle.fws_ipfw_tree.specs.declared.choice.Choice.{Choice}
-use Rattle.fws_ipfw_tree.specs.declared.choice.Choice.TheVariants as choices
-use Rattle.fws_ipfw_tree.specs.declared.choice.Origin.TheVariants as origins
-use Rattle.fws_ipfw_tree.specs.declared.choice.Section.{Section}
+use Rattle.fws_ipfw_put_rules.specs.declared.choice.Choice.{Choice}
+use Rattle.fws_ipfw_put_rules.specs.declared.choice.Choice.TheVariants as choices
+use Rattle.fws_ipfw_put_rules.specs.declared.choice.Origin.TheVariants as origins
+use Rattle.fws_ipfw_put_rules.specs.declared.choice.Section.{Section}
 use Rattle.fws_sight.specs.declared.seen.Seen.TheVariants as seens
 
 -- Where sections stand

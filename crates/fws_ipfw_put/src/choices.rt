@@ -4,7 +4,7 @@ ghost use Rattle.std.specs.Prelude.{◌≡◌, ◌+◌, None, Some, option_map, 
 ghost use Rattle.fws_ipfw_put.specs.Layout.{arriving_choice, destination_number, destined, passing, place_of, sent_by, sent_choice, source_tag, tag_of};
 
 use crate::sections::{DESTINATIONS, LOOKUP, SOURCES};
-use fws_ipfw_tree::Choice;
+use fws_ipfw_put_rules::Choice;
 use fws_net::{End, Outcome};
 use fws_num::Memory;
 use fws_tree::Relabelling;

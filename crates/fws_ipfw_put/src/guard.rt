@@ -19,7 +19,7 @@ use crate::rules::put_leaving;
 use crate::sections::{KNOWN_ARRIVING, KNOWN_FORWARDED, KNOWN_SENT};
 use fws_box::{Field, whole_sides};
 use fws_ipfw::IpfwRule;
-use fws_ipfw_tree::{Choice, Section, put_list};
+use fws_ipfw_put_rules::{Choice, Section, put_rules};
 use fws_iv::{Ivs, one};
 use fws_net::{Site, local_set, tops};
 use fws_num::{Items, Memory};
@@ -107,7 +107,7 @@ fn put_passing(
 {
     relabelled_trees_are_told::<bool, Choice>();
     let choices = tree.relabel(alloc, &Passing)?;
-    put_list(alloc, rules, site, &choices, section)?;
+    put_rules(alloc, rules, site, &choices, section)?;
     Ok(())
 }
 

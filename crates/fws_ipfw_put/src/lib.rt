@@ -2,13 +2,13 @@
 #![tactic(auto)]
 
 mod choices;
-mod ends;
+mod drafting;
 mod guard;
 mod instances;
-mod laying;
 mod placing;
 mod rules;
 mod sections;
+mod telling;
 mod tracking;
 
 pub use placing::place;

@@ -13,9 +13,9 @@ ghost use Rattle.fws_ipfw_put.specs.Laid.{AreEnds, AreRulesBy};
 ghost use Rattle.fws_ipfw_put.specs.Placed.{IsPlaced};
 ghost use Rattle.fws_ipfw_put.specs.Redirects.{AreRedirects};
 
-use crate::ends::{destinations_of, sources_of};
+use crate::drafting::{nats_of, rules_of};
 use crate::guard::met;
-use crate::laying::{nats_of, rules_of};
+use crate::telling::{destinations_of, sources_of};
 use fws_ipfw::{IpfwConfig, IpfwRule};
 use fws_net::{End, Lang, Site};
 use fws_num::{Items, Memory};

@@ -1,6 +1,6 @@
 //! Where the rules of a policy stand.
 
-use fws_ipfw_tree::{Origin, Section};
+use fws_ipfw_put_rules::{Origin, Section};
 use fws_sight::Seen;
 
 /// Packets of connections, as they arrive.

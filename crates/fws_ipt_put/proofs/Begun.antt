@@ -9,15 +9,15 @@ use Rattle.fws_ipt.specs.declared.config.IptTable.{IptTable}
 use Rattle.fws_ipt.specs.declared.config.IptTable.TheVariants.{Filter, Mangle}
 use Rattle.fws_ipt.specs.Walk.{is_table}
 use Rattle.fws_tree.specs.Plain.{IsReduced, Plain, value}
-use Rattle.fws_ipt_tree.specs.declared.verdict.Verdict.{Verdict}
-use Rattle.fws_ipt_tree.specs.declared.verdict.Verdict.TheVariants as verdicts
-use Rattle.fws_ipt_tree.specs.declared.verdict.Branch.{Branch}
-use Rattle.fws_ipt_tree.specs.Blocks.{IsBlock, IsPrintedAct}
-use Rattle.fws_ipt_tree.specs.Branches.{HasMarkChains, Leads, PartEntries}
+use Rattle.fws_ipt_put_chains.specs.declared.verdict.Verdict.{Verdict}
+use Rattle.fws_ipt_put_chains.specs.declared.verdict.Verdict.TheVariants as verdicts
+use Rattle.fws_ipt_put_chains.specs.declared.verdict.Branch.{Branch}
+use Rattle.fws_ipt_put_chains.specs.Blocks.{IsBlock, IsPrintedAct}
+use Rattle.fws_ipt_put_chains.specs.Branches.{HasMarkChains, Leads, PartEntries}
 use Rattle.fws_ipt_put.specs.declared.marks.Mark.{Mark}
 use Rattle.fws_net.specs.declared.site.Site.{Site}
 use Rattle.fws_net.specs.Points.{tops_of}
-use Rattle.fws_ipt_put.specs.declared.draft.Draft.{Draft}
+use Rattle.fws_ipt_put.specs.declared.chains.Draft.{Draft}
 use Rattle.fws_ipt_put.specs.Builtin.{filter_chains, nat_chains}
 use Rattle.fws_ipt_put.specs.Drafts.{IsDraft, SetsMarks, begun}
 use Rattle.fws_ipt_put.specs.Marks.{mark_chain, mark_chains}

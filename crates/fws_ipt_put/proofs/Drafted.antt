@@ -21,11 +21,11 @@ use Rattle.fws_ipt.specs.declared.hook.Hook.TheVariants.{Prerouting, Input, Forw
 use Rattle.fws_ipt.specs.Soundness.{is_user_chain}
 use Rattle.fws_ipt.specs.Walk.{act, chain_walk, is_table}
 use Rattle.fws_ipt_print.specs.Printable.{is_printed_act}
-use Rattle.fws_ipt_tree.specs.declared.verdict.Branch.{Branch}
-use Rattle.fws_ipt_tree.specs.declared.verdict.Verdict.{Verdict}
-use Rattle.fws_ipt_tree.specs.Blocks.{IsPrintedAct}
-use Rattle.fws_ipt_tree.specs.Branches.{Leads}
-use Rattle.fws_ipt_put.specs.declared.draft.Draft.{Draft}
+use Rattle.fws_ipt_put_chains.specs.declared.verdict.Branch.{Branch}
+use Rattle.fws_ipt_put_chains.specs.declared.verdict.Verdict.{Verdict}
+use Rattle.fws_ipt_put_chains.specs.Blocks.{IsPrintedAct}
+use Rattle.fws_ipt_put_chains.specs.Branches.{Leads}
+use Rattle.fws_ipt_put.specs.declared.chains.Draft.{Draft}
 use Rattle.fws_ipt_put.specs.Builtin.{builtin, filter_chains, nat_chains}
 use Rattle.fws_ipt_put.specs.Drafts.{IsDraft, IsFilled, begun}
 use Rattle.fws_ipt_put.specs.Marks.{mark_chains}

@@ -5,7 +5,7 @@ use Rattle.fws_net.specs.declared.outcome.Outcome.{Outcome}
 use Rattle.fws_net.specs.declared.outcome.Outcome.TheVariants.{Drop, Accept}
 use Rattle.fws_net.specs.declared.outcome.Rewrite.{Rewrite}
 use Rattle.fws_tree.specs.declared.row.Row.{Row}
-use Rattle.fws_ipt_put.specs.declared.gathered.Uses.{Uses}
+use Rattle.fws_ipt_put.specs.declared.telling.Uses.{Uses}
 use Rattle.fws_ipt_put.specs.Gathered.{AreUses, Covers, Grows, IsAmong, PutsRow}
 use Rattle.fws_ipt_put.specs.Marks.{same_rewrite}
 use Rattle.fws_ipt_put.proofs.Lists.{none_is, position_found, some_is}

@@ -11,7 +11,7 @@ use Rattle.fws_ipt.specs.declared.config.IptTable.TheVariants.{Filter, Nat, Mang
 use Rattle.fws_ipt.specs.declared.hook.Hook.{Hook}
 use Rattle.fws_ipt.specs.declared.hook.Hook.TheVariants.{Prerouting, Input, Forward, Output, Postrouting}
 use Rattle.fws_ipt.specs.Walk.{builtin_from, hook_name, is_table, stands_at}
-use Rattle.fws_ipt_put.specs.declared.draft.Draft.{Draft}
+use Rattle.fws_ipt_put.specs.declared.chains.Draft.{Draft}
 use Rattle.fws_ipt_put.specs.declared.marks.Mark.{Mark}
 use Rattle.fws_ipt_put.specs.Builtin.{builtin, filter_chains, mangle_chains, nat_chains}
 use Rattle.fws_ipt_put.specs.Drafts.{filled}

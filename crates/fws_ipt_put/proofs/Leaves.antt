@@ -6,9 +6,9 @@ use Rattle.fws_box.specs.Sides.{IsWithin}
 use Rattle.fws_tree.specs.Plain.{Plain, leaf, cut, Kids, none, kid, value_from, value, kid_at, EachKid, Parts, AreMany, IsReducedFrom, IsReduced}
 use Rattle.fws_ipt.specs.declared.config.IptChain.{IptChain}
 use Rattle.fws_ipt.specs.declared.config.IptTable.{IptTable}
-use Rattle.fws_ipt_tree.specs.declared.verdict.Verdict.{Verdict}
-use Rattle.fws_ipt_tree.specs.declared.verdict.Verdict.TheVariants.{Accept, Drop, Mark}
-use Rattle.fws_ipt_tree.specs.Branches.{HasMarkChains, HaveMarkChains, IsMarkChain}
+use Rattle.fws_ipt_put_chains.specs.declared.verdict.Verdict.{Verdict}
+use Rattle.fws_ipt_put_chains.specs.declared.verdict.Verdict.TheVariants.{Accept, Drop, Mark}
+use Rattle.fws_ipt_put_chains.specs.Branches.{HasMarkChains, HaveMarkChains, IsMarkChain}
 
 -- the mark of a verdict, if it is one, has its chain
 abbrev pub HasChain : IptTable → ℕ → List IptChain → Verdict → Type 0

@@ -11,7 +11,7 @@ use Rattle.fws_net.specs.declared.outcome.Outcome.{Outcome}
 use Rattle.fws_net.specs.declared.outcome.Outcome.TheVariants.{Accept}
 use Rattle.fws_net.specs.declared.outcome.Rewrite.{Rewrite}
 use Rattle.fws_tree.specs.declared.row.Row.{Row}
-use Rattle.fws_ipt_put.specs.declared.gathered.Uses.{Uses}
+use Rattle.fws_ipt_put.specs.declared.telling.Uses.{Uses}
 use Rattle.fws_ipt_put.specs.declared.marks.Mark.{Mark}
 use Rattle.fws_ipt_put.specs.Gathered.{Covers, CoversAll, TellsOf, TellsOfAll}
 use Rattle.fws_ipt_put.specs.Marks.{AreBlocks, FitsEnd, is_network}

@@ -16,7 +16,7 @@ use Rattle.fws_ipt.specs.RuleText.{is_chain}
 use Rattle.fws_ipt.specs.Soundness.{are_apart, is_named}
 use Rattle.fws_ipt.specs.Walk.{is_table}
 use Rattle.fws_ipt_print.specs.Printable.{begins_with_letter, is_chain_name, is_name_byte}
-use Rattle.fws_ipt_tree.specs.Blocks.{EndsInNumber}
+use Rattle.fws_ipt_put_chains.specs.Blocks.{EndsInNumber}
 use Rattle.fws_ipt_put.specs.Marks.{mark_name}
 use Rattle.fws_ipt_put.proofs.Closing.{all_joined}
 use Rattle.fws_ipt_put.proofs.Lists.{some_is}

@@ -23,9 +23,9 @@ use Rattle.fws_ipt.specs.declared.hook.Hook.{Hook}
 use Rattle.fws_ipt.specs.declared.passage.ChainEnd.{ChainEnd}
 use Rattle.fws_ipt.specs.declared.passage.Passage.{Passage}
 use Rattle.fws_ipt.specs.Walk.{by_policy, chain_walk, entering, visit}
-use Rattle.fws_ipt_tree.specs.declared.verdict.Verdict.{Verdict}
-use Rattle.fws_ipt_tree.specs.declared.verdict.Verdict.TheVariants as verdicts
-use Rattle.fws_ipt_tree.specs.Branches.{verdict_end}
+use Rattle.fws_ipt_put_chains.specs.declared.verdict.Verdict.{Verdict}
+use Rattle.fws_ipt_put_chains.specs.declared.verdict.Verdict.TheVariants as verdicts
+use Rattle.fws_ipt_put_chains.specs.Branches.{verdict_end}
 use Rattle.fws_place.specs.Meaning.{IsPacketOf, no_ends, point_of}
 use Rattle.fws_ipt_put.specs.declared.marks.Mark.{Mark}
 use Rattle.fws_ipt_put.specs.Marks.{IsMarkOf, is_network, mark_at, marked, same_rewrite, verdict_of, writes}

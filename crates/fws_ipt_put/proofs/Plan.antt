@@ -15,9 +15,9 @@ use Rattle.fws_sight.specs.SightLaws.{HasImages}
 use Rattle.fws_ipt.specs.declared.config.IptChain.{IptChain}
 use Rattle.fws_ipt.specs.declared.config.IptTable.TheVariants.{Filter, Nat, Mangle}
 use Rattle.fws_ipt.specs.declared.hook.Hook.TheVariants.{Prerouting, Input, Forward, Output, Postrouting}
-use Rattle.fws_ipt_tree.specs.declared.verdict.Branch.{Branch}
-use Rattle.fws_ipt_tree.specs.declared.verdict.Verdict.{Verdict}
-use Rattle.fws_ipt_tree.specs.Branches.{PartEntries}
+use Rattle.fws_ipt_put_chains.specs.declared.verdict.Branch.{Branch}
+use Rattle.fws_ipt_put_chains.specs.declared.verdict.Verdict.{Verdict}
+use Rattle.fws_ipt_put_chains.specs.Branches.{PartEntries}
 use Rattle.fws_place.specs.Meaning.{IsPairOf, est_of, point_of}
 use Rattle.fws_place.specs.Pairs.{IsLost}
 use Rattle.fws_ipt_put.specs.declared.marks.Mark.{Mark}

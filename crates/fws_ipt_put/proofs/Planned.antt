@@ -8,7 +8,7 @@ use Rattle.fws_ipt.specs.declared.config.IptChain.{IptChain}
 use Rattle.fws_ipt.specs.declared.config.IptConfig.{IptConfig}
 use Rattle.fws_ipt_print.specs.Printable.{is_printed_chain, is_printable}
 use Rattle.fws_place.specs.TellingLaws.{PointsAreSeen}
-use Rattle.fws_ipt_put.specs.declared.draft.Draft.{Draft}
+use Rattle.fws_ipt_put.specs.declared.chains.Draft.{Draft}
 use Rattle.fws_ipt_put.specs.Builtin.{filter_chains, mangle_chains, nat_chains}
 use Rattle.fws_ipt_put.specs.Drafts.{IsDraft, IsFilled}
 use Rattle.fws_ipt_put.specs.Marks.{mark_chains}

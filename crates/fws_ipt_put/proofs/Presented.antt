@@ -19,10 +19,10 @@ use Rattle.fws_ipt.specs.RuleText.{is_chain}
 use Rattle.fws_ipt.specs.Soundness.{are_apart, is_named, is_user_chain}
 use Rattle.fws_ipt.specs.Walk.{shows_recv}
 use Rattle.fws_ipt_print.specs.Printable.{are_in_order, begins_with_letter, is_chain_name, is_name_byte, is_printable, is_printed_act, is_printed_chain, is_printed_policy, is_printed_rule, rank_of}
-use Rattle.fws_ipt_tree.specs.declared.verdict.Branch.{Branch}
-use Rattle.fws_ipt_tree.specs.Blocks.{EndsInNumber, IsPrintedAct}
-use Rattle.fws_ipt_tree.specs.Branches.{PartEntries}
-use Rattle.fws_ipt_put.specs.declared.draft.Draft.{Draft}
+use Rattle.fws_ipt_put_chains.specs.declared.verdict.Branch.{Branch}
+use Rattle.fws_ipt_put_chains.specs.Blocks.{EndsInNumber, IsPrintedAct}
+use Rattle.fws_ipt_put_chains.specs.Branches.{PartEntries}
+use Rattle.fws_ipt_put.specs.declared.chains.Draft.{Draft}
 use Rattle.fws_ipt_put.specs.declared.marks.Mark.{Mark}
 use Rattle.fws_ipt_put.specs.Builtin.{builtin, filter_chains, mangle_chains, nat_chains}
 use Rattle.fws_ipt_put.specs.Drafts.{IsDraft, IsFilled, begun}

@@ -23,7 +23,7 @@ use Rattle.fws_ipt.specs.Soundness.{is_user_chain}
 use Rattle.fws_ipt.specs.Spelled.{asks, asks_ports, is_block, is_prefix_set, names_block, tests_dst, tests_src}
 use Rattle.fws_ipt.specs.Walk.{hook_name, writes_dst_at, writes_src_at}
 use Rattle.fws_ipt_print.specs.Printable.{is_chain_name, is_end, is_printed_act, is_printed_chain, is_printed_literal, is_printed_policy, is_printed_rule, are_different, protocol_leads, shows_receiving, stands_where}
-use Rattle.fws_ipt_tree.specs.declared.verdict.Branch.{Branch}
+use Rattle.fws_ipt_put_chains.specs.declared.verdict.Branch.{Branch}
 use Rattle.fws_ipt_put.specs.declared.marks.Mark.{Mark}
 use Rattle.fws_ipt_put.specs.Builtin.{builtin}
 use Rattle.fws_ipt_put.specs.Marks.{AreBlocks, FitsEnd, FitsPort, mark_chain, mark_chains, mark_name}

@@ -17,7 +17,7 @@ use Rattle.fws_ipt.specs.declared.hook.Hook.{Hook}
 use Rattle.fws_ipt.specs.declared.passage.ChainEnd.{ChainEnd}
 use Rattle.fws_ipt.specs.declared.passage.Passage.{Passage}
 use Rattle.fws_ipt.specs.Walk.{act, rules_walk, view_at}
-use Rattle.fws_ipt_tree.specs.declared.verdict.Branch.{Branch}
+use Rattle.fws_ipt_put_chains.specs.declared.verdict.Branch.{Branch}
 use Rattle.fws_ipt_put.specs.Roots.{of_entry, go_at, is_same_go, class_rule, entry_rule, own_rules, entry_rules, arriving_rules, sending_rules}
 
 -- acts that are the same are equal

@@ -16,9 +16,9 @@ use Rattle.fws_ipt.specs.declared.hook.Hook.{Hook}
 use Rattle.fws_ipt.specs.declared.passage.ChainEnd.{ChainEnd}
 use Rattle.fws_ipt.specs.declared.passage.Passage.{Passage}
 use Rattle.fws_ipt.specs.Walk.{act, builtin_from, builtin_walk, by_policy, chain_walk, policy_at, rules_walk}
-use Rattle.fws_ipt_tree.specs.declared.verdict.Branch.{Branch}
-use Rattle.fws_ipt_tree.specs.declared.verdict.Verdict.{Verdict}
-use Rattle.fws_ipt_tree.specs.Branches.{verdict_end}
+use Rattle.fws_ipt_put_chains.specs.declared.verdict.Branch.{Branch}
+use Rattle.fws_ipt_put_chains.specs.declared.verdict.Verdict.{Verdict}
+use Rattle.fws_ipt_put_chains.specs.Branches.{verdict_end}
 use Rattle.fws_ipt_put.specs.Builtin.{builtin}
 
 -- the built-in chain of the table at the hook has this number, policy and rules

@@ -24,9 +24,9 @@ use Rattle.fws_ipt.specs.declared.hook.Hook.TheVariants.{Prerouting, Input, Forw
 use Rattle.fws_ipt.specs.declared.passage.ChainEnd.{ChainEnd}
 use Rattle.fws_ipt.specs.declared.passage.Passage.{Passage}
 use Rattle.fws_ipt.specs.Walk.{act, by_policy, chain_walk, entering, shows_recv, view_at, visit}
-use Rattle.fws_ipt_tree.specs.declared.verdict.Branch.{Branch}
-use Rattle.fws_ipt_tree.specs.declared.verdict.Verdict.{Verdict}
-use Rattle.fws_ipt_tree.specs.Branches.{verdict_end}
+use Rattle.fws_ipt_put_chains.specs.declared.verdict.Branch.{Branch}
+use Rattle.fws_ipt_put_chains.specs.declared.verdict.Verdict.{Verdict}
+use Rattle.fws_ipt_put_chains.specs.Branches.{verdict_end}
 use Rattle.fws_place.specs.Meaning.{IsPacketOf, IsPairOf, no_ends, point_of}
 use Rattle.fws_place.specs.TellingLaws.{PointsAreSeen}
 use Rattle.fws_ipt_put.specs.Roots.{arriving_rules, go_at, sending_rules}

@@ -23,8 +23,8 @@ use Rattle.fws_ipt.specs.declared.hook.Hook.{Hook}
 use Rattle.fws_ipt.specs.declared.hook.Hook.TheVariants.{Prerouting, Input, Forward, Output, Postrouting}
 use Rattle.fws_ipt.specs.declared.passage.Passage.{Passage}
 use Rattle.fws_ipt.specs.Walk.{arriving, by_policy, delivered, entering, forwarded, go_to, outcome_of, routed, sent_out, visit, visits, walk}
-use Rattle.fws_ipt_tree.specs.declared.verdict.Verdict.TheVariants as verdicts
-use Rattle.fws_ipt_tree.specs.Branches.{verdict_end}
+use Rattle.fws_ipt_put_chains.specs.declared.verdict.Verdict.TheVariants as verdicts
+use Rattle.fws_ipt_put_chains.specs.Branches.{verdict_end}
 use Rattle.fws_place.specs.Meaning.{IsPacketOf, IsPairOf, est_of, new_of, no_ends, point_of}
 use Rattle.fws_place.specs.Pairs.{IsLost}
 use Rattle.fws_place.specs.TellingLaws.{PointsAreSeen}

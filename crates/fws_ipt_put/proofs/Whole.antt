@@ -10,13 +10,13 @@ use Rattle.fws_tree.specs.Regular.{AreRegular}
 use Rattle.fws_sight.specs.SightLaws.{HasImages}
 use Rattle.fws_ipt.specs.declared.config.IptChain.{IptChain}
 use Rattle.fws_ipt.specs.declared.config.IptConfig.{IptConfig}
-use Rattle.fws_ipt_tree.specs.declared.verdict.Verdict.{Verdict}
+use Rattle.fws_ipt_put_chains.specs.declared.verdict.Verdict.{Verdict}
 use Rattle.fws_place.specs.declared.clause.Clause.TheVariants.{DropsByOneView}
 use Rattle.fws_place.specs.Fits.{Fits, Meets}
 use Rattle.fws_place.specs.FitLaws.{FittingPairsAreTold, LostPairsAreDropped}
 use Rattle.fws_place.specs.TellingLaws.{PointsAreSeen}
 use Rattle.fws_place.specs.Seen.{IsAcceptedAlike, IsAcceptedSomewhere, Tells}
-use Rattle.fws_ipt_put.specs.declared.draft.Draft.{Draft}
+use Rattle.fws_ipt_put.specs.declared.chains.Draft.{Draft}
 use Rattle.fws_ipt_put.specs.declared.marks.Mark.{Mark}
 use Rattle.fws_ipt_put.specs.Drafts.{IsDraft, IsFilled}
 use Rattle.fws_ipt_put.specs.Marks.{AreMarks, passing, verdict_of}

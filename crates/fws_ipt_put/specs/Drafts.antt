@@ -9,12 +9,12 @@ use Rattle.fws_ipt.specs.declared.config.IptChain.{IptChain}
 use Rattle.fws_ipt.specs.declared.config.IptRule.{IptRule}
 use Rattle.fws_ipt.specs.declared.config.IptTable.TheVariants.{Filter, Mangle}
 use Rattle.fws_ipt.specs.declared.hook.Hook.TheVariants.{Prerouting, Input, Forward, Output}
-use Rattle.fws_ipt_tree.specs.declared.verdict.Verdict.{Verdict}
-use Rattle.fws_ipt_tree.specs.declared.verdict.Verdict.TheVariants as verdicts
-use Rattle.fws_ipt_tree.specs.Blocks.{IsBlock, IsPrintedAct}
-use Rattle.fws_ipt_tree.specs.Branches.{Leads, PartEntries}
+use Rattle.fws_ipt_put_chains.specs.declared.verdict.Verdict.{Verdict}
+use Rattle.fws_ipt_put_chains.specs.declared.verdict.Verdict.TheVariants as verdicts
+use Rattle.fws_ipt_put_chains.specs.Blocks.{IsBlock, IsPrintedAct}
+use Rattle.fws_ipt_put_chains.specs.Branches.{Leads, PartEntries}
 use Rattle.fws_ipt_put.specs.declared.marks.Mark.{Mark}
-use Rattle.fws_ipt_put.specs.declared.draft.Draft.{Draft}
+use Rattle.fws_ipt_put.specs.declared.chains.Draft.{Draft}
 use Rattle.fws_ipt_put.specs.Builtin.{builtin, filter_chains, mangle_chains, nat_chains}
 use Rattle.fws_ipt_put.specs.Marks.{mark_chains}
 use Rattle.fws_ipt_put.specs.Roots.{AreArriving, AreEntering, sending_rules}

@@ -8,7 +8,7 @@ use Rattle.fws_net.specs.declared.outcome.Outcome.{Outcome}
 use Rattle.fws_net.specs.declared.outcome.Outcome.TheVariants.{Drop, Accept}
 use Rattle.fws_net.specs.declared.outcome.Rewrite.{Rewrite}
 use Rattle.fws_tree.specs.declared.row.Row.{Row}
-use Rattle.fws_ipt_put.specs.declared.gathered.Uses.{Uses}
+use Rattle.fws_ipt_put.specs.declared.telling.Uses.{Uses}
 use Rattle.fws_ipt_put.specs.declared.marks.Mark.{Mark}
 use Rattle.fws_ipt_put.specs.Marks.{AreBlocks, FitsEnd, is_network, same_rewrite, writes}
 

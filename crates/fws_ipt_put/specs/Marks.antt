@@ -13,9 +13,9 @@ use Rattle.fws_net.specs.declared.outcome.Outcome.TheVariants.{Drop, Accept}
 use Rattle.fws_tree.specs.Plain.{Plain, value}
 use Rattle.fws_ipt.specs.declared.config.IptChain.{IptChain}
 use Rattle.fws_ipt.specs.declared.config.IptTable.TheVariants.{Mangle}
-use Rattle.fws_ipt_tree.specs.declared.verdict.Verdict.{Verdict}
-use Rattle.fws_ipt_tree.specs.declared.verdict.Verdict.TheVariants as verdicts
-use Rattle.fws_ipt_tree.specs.Branches.{mark_rules}
+use Rattle.fws_ipt_put_chains.specs.declared.verdict.Verdict.{Verdict}
+use Rattle.fws_ipt_put_chains.specs.declared.verdict.Verdict.TheVariants as verdicts
+use Rattle.fws_ipt_put_chains.specs.Branches.{mark_rules}
 use Rattle.fws_ipt_put.specs.declared.marks.Mark.{Mark}
 use Rattle.fws_box.specs.Fields.{value_of}
 

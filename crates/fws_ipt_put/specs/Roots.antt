@@ -6,7 +6,7 @@ use Rattle.fws_net.specs.declared.condition.Test.TheVariants.{Est, Recv}
 use Rattle.fws_ipt.specs.declared.config.IptGo.{IptGo}
 use Rattle.fws_ipt.specs.declared.config.IptGo.TheVariants as acts
 use Rattle.fws_ipt.specs.declared.config.IptRule.{IptRule}
-use Rattle.fws_ipt_tree.specs.declared.verdict.Branch.{Branch}
+use Rattle.fws_ipt_put_chains.specs.declared.verdict.Branch.{Branch}
 
 -- the class is tested: established packets, or new ones
 abbrev pub of_class : Bool → Lit

@@ -2,7 +2,7 @@
 
 ghost use Rattle.std.specs.Prelude.{◌≡◌, ◌+◌, ◌<◌, ◌^◌, None, true, [], ◌∷◌, ◌++◌, codes, length, IfOk, OnOk, All};
 ghost use Rattle.std.specs.Fmt.{decimal};
-ghost use Rattle.fws_ipt_tree.specs.Branches.{mark_rules};
+ghost use Rattle.fws_ipt_put_chains.specs.Branches.{mark_rules};
 ghost use Rattle.fws_ipt_put.specs.Builtin.{builtin, filter_chains, mangle_chains, nat_chains};
 ghost use Rattle.fws_ipt_put.specs.NatRules.{nat_rules as rules_at_hook};
 ghost use Rattle.fws_ipt.specs.declared.config.IptTable.TheVariants as tables;

@@ -3,16 +3,16 @@
 
 mod blocks;
 mod builtin;
-mod draft;
-mod gathered;
-mod labels;
-mod layout;
+mod chains;
+mod choices;
+mod drafting;
 mod marking;
 mod marks;
 mod nat;
 mod placing;
 mod roots;
 mod rules;
+mod telling;
 mod tracking;
 
 pub use placing::place;

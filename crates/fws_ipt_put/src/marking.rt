@@ -8,9 +8,9 @@ ghost use Rattle.fws_ipt_put.specs.Gathered.{CoversAll, Extends, HaveRewrites, I
 ghost use Rattle.fws_ipt_put.specs.Marks.{AreBlocks, AreMarks, FitsEnd, is_network, same_rewrite, writes};
 
 use crate::blocks::blocks_of;
-use crate::gathered::{Uses, uses_of};
-use crate::labels::writes;
+use crate::choices::writes;
 use crate::marks::Mark;
+use crate::telling::{Uses, uses_of};
 use fws_iv::{Iv, Ivs};
 use fws_net::{End, Outcome, Rewrite};
 use fws_num::{Items, Memory, Prefix};

@@ -11,12 +11,12 @@ ghost use Rattle.fws_sight.specs.SightLaws.{HasImages};
 ghost use Rattle.fws_ipt_put.specs.Marks.{AreMarks, passing, verdict_of};
 ghost use Rattle.fws_ipt_put.specs.Placed.{IsPlaced};
 
-use crate::draft::drafted;
-use crate::labels::{Decisions, labelled};
-use crate::layout::filled;
+use crate::chains::drafted;
+use crate::choices::{Decisions, labelled};
+use crate::drafting::filled;
 use crate::marking::{Marks, marks_for};
 use fws_ipt::IptConfig;
-use fws_ipt_tree::Verdict;
+use fws_ipt_put_chains::Verdict;
 use fws_net::{Lang, Outcome, Site};
 use fws_num::Memory;
 use fws_place::{

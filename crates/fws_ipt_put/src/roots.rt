@@ -5,7 +5,7 @@ ghost use Rattle.fws_ipt_put.specs.Roots.{arriving_rules, class_rule, entry_rule
 
 use crate::rules::{class_rule, entry_rule};
 use fws_ipt::{IptGo, IptRule};
-use fws_ipt_tree::Branch;
+use fws_ipt_put_chains::Branch;
 use fws_num::{Items, Memory};
 use std::alloc::Global;
 

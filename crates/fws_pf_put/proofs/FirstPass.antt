@@ -23,9 +23,9 @@ use Rattle.fws_pf.specs.declared.config.PfConfig.{PfConfig}
 use Rattle.fws_pf.specs.declared.config.PfNat.{PfNat}
 use Rattle.fws_pf.specs.Walk.{behind, chosen, interface_of, pass_walk, rules_walk, tagged, translated_by, translations, view_on, written}
 use Rattle.fws_pf_print.specs.Printable.{is_printed_translation}
-use Rattle.fws_pf_tree.specs.Filters.{Ends, ReachesBelow}
-use Rattle.fws_pf_tree.specs.States.{IsSourceState, state_at}
-use Rattle.fws_pf_list.specs.Translations.{IsAfter, IsLed, IsMet, IsTranslations, end_of}
+use Rattle.fws_pf_put_filter.specs.Filters.{Ends, ReachesBelow}
+use Rattle.fws_pf_put_filter.specs.States.{IsSourceState, state_at}
+use Rattle.fws_pf_put_nat.specs.Translations.{IsAfter, IsLed, IsMet, IsTranslations, end_of}
 use Rattle.fws_place.specs.Meaning.{IsPacketOf, no_ends, point_of}
 use Rattle.fws_pf_put.proofs.Fitting.{FitsEnd, found_passes, rewritten_of, same_port, source_port, translation_fits}
 use Rattle.fws_pf_put.proofs.Plan.{Plan}

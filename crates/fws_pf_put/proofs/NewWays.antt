@@ -29,7 +29,7 @@ use Rattle.fws_pf.specs.declared.config.PfConfig.{PfConfig}
 use Rattle.fws_pf.specs.declared.config.PfNat.{PfNat}
 use Rattle.fws_pf.specs.Walk.{chosen, pass_walk, rules_walk, tagged, translated_by, translations, view_on, walk, written}
 use Rattle.fws_pf_print.specs.Printable.{is_printed_translation}
-use Rattle.fws_pf_tree.specs.Filters.{Ends, ReachesBelow}
+use Rattle.fws_pf_put_filter.specs.Filters.{Ends, ReachesBelow}
 use Rattle.fws_place.specs.Meaning.{IsPacketOf, new_of, no_ends, point_of}
 use Rattle.fws_place.specs.PfLaws.{IsKeptByPf}
 use Rattle.fws_place.specs.Rewritings.{is_delivered, new_exit, writes_source_port}

@@ -20,9 +20,9 @@ use Rattle.fws_sight.specs.Shown.{IsTold}
 use Rattle.fws_sight.specs.SightLaws.{ReachedValuesAreTold, SeenPointsAreTopped}
 use Rattle.fws_pf.specs.declared.config.PfConfig.{PfConfig}
 use Rattle.fws_pf.specs.declared.config.PfNat.{PfNat}
-use Rattle.fws_pf_tree.specs.Filters.{IsFilter}
-use Rattle.fws_pf_tree.specs.States.{AreStates}
-use Rattle.fws_pf_list.specs.Translations.{IsTranslations}
+use Rattle.fws_pf_put_filter.specs.Filters.{IsFilter}
+use Rattle.fws_pf_put_filter.specs.States.{AreStates}
+use Rattle.fws_pf_put_nat.specs.Translations.{IsTranslations}
 use Rattle.fws_place.specs.Meaning.{IsPacketOf, IsPairOf, est_of, new_of}
 use Rattle.fws_place.specs.Pairs.{IsLost}
 use Rattle.fws_place.specs.PfLaws.{IsKeptByPf}

@@ -20,7 +20,7 @@ use Rattle.fws_place.specs.Fits.{Fits}
 use Rattle.fws_place.specs.Meaning.{IsPacketOf, IsPairOf, new_of, no_ends, point_of, rec_of}
 use Rattle.fws_place.specs.PfLaws.{PfDestinationsAgree, PfHostSourcesAgree, PfKeepsNewPackets}
 use Rattle.fws_place.specs.Rewritings.{writes_source_port}
-use Rattle.fws_pf_list.specs.Translations.{AgreeBefore, KeepsPortsOutward, WritesOneEnd, WritesPortsOfProtocols}
+use Rattle.fws_pf_put_nat.specs.Translations.{AgreeBefore, KeepsPortsOutward, WritesOneEnd, WritesPortsOfProtocols}
 
 -- the pair with other ends
 other_ends : (site : Site) (p : Packet) (r s : Rec) → IsPairOf site p r → s.rdst ≤ 2 ^ 32 - 1 → s.rdport ≤ 65535 → s.rsrc ≤ 2 ^ 32 - 1 → s.rsport ≤ 65535 → IsPairOf site p s

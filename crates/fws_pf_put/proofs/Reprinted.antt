@@ -13,7 +13,7 @@ use Rattle.fws_pf.specs.declared.config.PfConfig.{PfConfig}
 use Rattle.fws_pf.specs.declared.config.PfNat.{PfNat}
 use Rattle.fws_pf.specs.declared.config.PfRule.{PfRule}
 use Rattle.fws_pf.specs.Drawn.{is_port_protocol}
-use Rattle.fws_pf_tree.specs.Filters.{asks_nothing, catches_all, is_both}
+use Rattle.fws_pf_put_filter.specs.Filters.{asks_nothing, catches_all, is_both}
 use Rattle.fws_print.specs.Sets.{first_number}
 use Rattle.fws_pf_print.specs.Printable.{all_tags, are_named, ascend, is_block, is_printable, is_printed_cond, is_printed_end, is_printed_literal, is_printed_port, is_printed_rule, is_printed_test, is_printed_translation, is_translation_test, place_of, place_written, protocol_tested, skips_none, test_set, tested}
 use Rattle.fws_pf_put.specs.Renumbered.{ArePrinted, keeps_state, renamed, renamed_cond, renamed_nat, renamed_rule, renamed_test}

@@ -17,8 +17,8 @@ use Rattle.fws_pf.specs.declared.config.PfConfig.{PfConfig}
 use Rattle.fws_pf.specs.declared.config.PfNat.{PfNat}
 use Rattle.fws_pf.specs.declared.config.PfRule.{PfRule}
 use Rattle.fws_pf_print.specs.Printable.{is_printed_translation}
-use Rattle.fws_pf_tree.specs.Filters.{IsFilter}
-use Rattle.fws_pf_list.specs.Translations.{IsTranslations}
+use Rattle.fws_pf_put_filter.specs.Filters.{IsFilter}
+use Rattle.fws_pf_put_nat.specs.Translations.{IsTranslations}
 use Rattle.fws_place.specs.FitLaws.{LostPairsAreDropped}
 use Rattle.fws_place.specs.Fits.{Fits}
 use Rattle.fws_place.specs.PfLaws.{PfKeepsNewPackets, PfPairsPass}

@@ -17,8 +17,8 @@ use Rattle.fws_place.specs.Fits.{Fits}
 use Rattle.fws_place.specs.Meaning.{IsPacketOf, IsPairOf, new_of, est_of}
 use Rattle.fws_pf.specs.declared.config.PfConfig.{PfConfig}
 use Rattle.fws_pf.specs.Walk.{walk}
-use Rattle.fws_pf_tree.specs.Filters.{catches_all}
-use Rattle.fws_pf_tree.specs.States.{AreStates}
+use Rattle.fws_pf_put_filter.specs.Filters.{catches_all}
+use Rattle.fws_pf_put_filter.specs.States.{AreStates}
 use Rattle.fws_pf_put.specs.Renumbered.{ArePrinted, keeps_state}
 
 -- tables that fit pf, with the leaves, the nodes and the states of the tree of new packets

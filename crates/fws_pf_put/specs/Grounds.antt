@@ -2,7 +2,7 @@
 use Rattle.std.specs.Prelude.{◌≡◌, Bool, true, List, ◌++◌, length, ℕ, [], Option, MatchOption}
 use Rattle.fws_net.specs.Points.{tops_of}
 use Rattle.fws_pf.specs.declared.config.PfNat.{PfNat}
-use Rattle.fws_pf_list.specs.Translations.{IsTranslations}
+use Rattle.fws_pf_put_nat.specs.Translations.{IsTranslations}
 use Rattle.fws_pf_put.specs.declared.drafting.Ground.{Ground}
 use Rattle.fws_pf_put.specs.declared.ends.Sources.{Sources}
 use Rattle.fws_pf_put.specs.Drafted.{IsFitting}

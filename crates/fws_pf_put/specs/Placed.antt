@@ -8,7 +8,7 @@ use Rattle.fws_net.specs.declared.site.Site.{Site}
 use Rattle.fws_pf.specs.declared.config.PfConfig.{PfConfig}
 use Rattle.fws_pf.specs.Walk.{walk}
 use Rattle.fws_pf_print.specs.Printable.{is_printable, skips_none}
-use Rattle.fws_pf_tree.specs.Filters.{catches_all}
+use Rattle.fws_pf_put_filter.specs.Filters.{catches_all}
 use Rattle.fws_place.specs.Meaning.{IsPacketOf, IsPairOf, new_of, est_of}
 use Rattle.fws_tree.specs.declared.tables.Tables.{Tables}
 

@@ -11,7 +11,7 @@ use Rattle.fws_pf.specs.declared.config.PfConfig.{PfConfig}
 use Rattle.fws_pf.specs.declared.config.PfNat.{PfNat}
 use Rattle.fws_pf.specs.declared.config.PfRule.{PfRule}
 use Rattle.fws_pf.specs.Walk.{walk}
-use Rattle.fws_pf_tree.specs.Filters.{catches_all}
+use Rattle.fws_pf_put_filter.specs.Filters.{catches_all}
 use Rattle.fws_pf_print.specs.Printable.{behind_rules, behind_translations, is_printable, is_printed_rule, is_printed_translation}
 
 -- Rules whose tags have the numbers that a function gives them

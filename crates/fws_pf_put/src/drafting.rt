@@ -6,7 +6,7 @@ ghost use Rattle.fws_net.specs.Routes.{IsSound};
 ghost use Rattle.fws_net.specs.declared.packet.Lang.TheVariants as langs;
 ghost use Rattle.fws_pf.specs.declared.config.PfNat.{PfNat};
 ghost use Rattle.fws_pf.specs.declared.config.PfRule.{PfRule};
-ghost use Rattle.fws_pf_tree.specs.Filters.{IsFilter};
+ghost use Rattle.fws_pf_put_filter.specs.Filters.{IsFilter};
 ghost use Rattle.fws_place.specs.Fits.{Fits};
 ghost use Rattle.fws_tree.specs.Regular.{AreRegular};
 ghost use Rattle.fws_pf_put.specs.Drafted.{IsDrafted};
@@ -14,13 +14,13 @@ ghost use Rattle.fws_print.specs.Appended.{Appends};
 ghost use Rattle.fws_pf_put.specs.Grounds.{AreOutward, ArePass, IsKnown};
 
 use crate::ends::Sources;
-use crate::gathered::sources_of;
 use crate::states::put_sources;
+use crate::telling::sources_of;
 use fws_iv::Ivs;
 use fws_net::{Outcome, Site};
 use fws_num::{Items, Memory};
 use fws_pf::{PfConfig, PfNat, PfRule};
-use fws_pf_tree::{put_filter, states_of};
+use fws_pf_put_filter::{put_filter, states_of};
 use fws_place::{
     lost_pairs_are_dropped, pf_destinations_agree, pf_host_sources_agree, pf_keeps_new_packets,
     pf_pairs_pass, points_are_of_pairs, points_are_seen, views_are_told,
@@ -59,7 +59,7 @@ fn put_pass(
     pf_destinations_agree();
     pf_host_sources_agree();
     pf_keeps_new_packets();
-    let plan = fws_pf_list::Plan {
+    let plan = fws_pf_put_nat::Plan {
         site: ground.site,
         tree: &ground.tables.fresh,
         leaves: ground.leaves,
@@ -67,7 +67,7 @@ fn put_pass(
         states: ground.states,
         outward,
     };
-    fws_pf_list::put_list(alloc, nats, &plan)?;
+    fws_pf_put_nat::put_translations(alloc, nats, &plan)?;
     Ok(())
 }
 
@@ -110,7 +110,7 @@ fn filter_rules(alloc: Global, ground: &Ground<'_>) -> Result<Items<PfRule>, Mem
     ensures { IfOk result (IsFilter ground.now.site.now (tops_of ground.now.site.now) ground.now.leaves.now ground.now.nodes.now ground.now.states.now) }
 {
     views_are_told();
-    let plan = fws_pf_tree::Plan {
+    let plan = fws_pf_put_filter::Plan {
         site: ground.site,
         tree: &ground.tables.fresh,
         leaves: ground.leaves,

@@ -4,13 +4,13 @@
 mod blocks;
 mod drafting;
 mod ends;
-mod gathered;
 mod gathering;
+mod names;
 mod placing;
-mod renaming;
 mod renumbering;
 mod sources;
 mod states;
+mod telling;
 mod tracking;
 
 pub use placing::place;

@@ -4,7 +4,7 @@ ghost use Rattle.std.specs.Prelude.{◌≡◌, IfOk};
 ghost use Rattle.fws_pf_put.specs.Renumbered.{IsRenumbered, RenamedWalksAreSame};
 
 use crate::gathering::tags_of;
-use crate::renaming::{renamed_nats, renamed_rules, tag_names};
+use crate::names::{renamed_nats, renamed_rules, tag_names};
 use fws_num::Memory;
 use fws_pf::PfConfig;
 use std::alloc::Global;

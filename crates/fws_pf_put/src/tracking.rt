@@ -4,7 +4,7 @@ ghost use Rattle.std.specs.Prelude.{◌≡◌, ◌||◌, not};
 ghost use Rattle.std.specs.List.{list_all, list_any};
 ghost use Rattle.fws_pf_print.specs.Printable.{skips_none};
 ghost use Rattle.fws_pf_put.specs.Placed.{tracks};
-ghost use Rattle.fws_pf_tree.specs.Filters.{asks_nothing, catches_all};
+ghost use Rattle.fws_pf_put_filter.specs.Filters.{asks_nothing, catches_all};
 
 use fws_iv::Iv;
 use fws_net::{Lit, Site};

@@ -1,6 +1,6 @@
 use Rattle.std.proofs.Common.{ℕ, List, sym, subst}
 use Rattle.fws_tree.specs.Shared.{IsShared}
-use Rattle.fws_pf_tree.specs.States.{AreStates}
+use Rattle.fws_pf_put_filter.specs.States.{AreStates}
 use Rattle.fws_pf_put.proofs.drafting.drafted.Goals as goal
 
 pub states_of-requires-clause-ordered : goal.states_of-requires-clause-ordered

@@ -1,7 +1,7 @@
 use Rattle.std.proofs.Common.{◌++◌, ℕ, List, sym, ap, ◌∙◌, subst}
 use Rattle.fws_net.specs.Points.{tops_of}
 use Rattle.fws_pf.specs.declared.config.PfRule.{PfRule}
-use Rattle.fws_pf_tree.specs.Filters.{IsFilter}
+use Rattle.fws_pf_put_filter.specs.Filters.{IsFilter}
 use Rattle.fws_tree.specs.Shared.{IsShared}
 use Rattle.fws_sight.specs.declared.seen.Seen.TheVariants.{Entered}
 use Rattle.fws_sight.specs.Shown.{IsTold}

@@ -1,7 +1,7 @@
 use Rattle.std.proofs.Common.{◌++◌, false, List, sym, ap, ◌∙◌, subst}
 use Rattle.fws_net.specs.Points.{tops_of}
 use Rattle.fws_pf.specs.declared.config.PfNat.{PfNat}
-use Rattle.fws_pf_list.specs.Translations.{IsTranslations}
+use Rattle.fws_pf_put_nat.specs.Translations.{IsTranslations}
 use Rattle.fws_pf_put.proofs.drafting.inward_nats.Goals as goal
 
 pub returns : goal.returns

@@ -3,7 +3,7 @@ use Rattle.std.proofs.lemmas.Bool.{and_from}
 use Rattle.std.specs.List.{list_all, list_any}
 use Rattle.fws_pf.specs.declared.config.PfRule.{PfRule}
 use Rattle.fws_pf_print.specs.Printable.{skips_none}
-use Rattle.fws_pf_tree.specs.Filters.{catches_all}
+use Rattle.fws_pf_put_filter.specs.Filters.{catches_all}
 use Rattle.fws_net.specs.declared.connection.Kind.TheVariants.{New, Est}
 use Rattle.fws_pf_put.proofs.placing.put_tables.Goals as goal
 

@@ -1,7 +1,0 @@
-use Rattle.fws_ios_cover.proofs.Wider.{details_widen}
-use Rattle.fws_ios_cover.proofs.widening.without_details.Goals as goal
-
-pub returns : goal.returns
-returns c = λ established.
-    details_widen established c.args.tops.now c.args.within.now.1 c.args.sides c.in_ok-sides.sides c.in_ok-sides-2.sides c.in_ok-sides-3.sides c.in_ok-sides.ensures c.in_ok-sides-2.ensures
-    c.in_ok-sides-3.ensures

@@ -1,7 +1,0 @@
-use Rattle.std.proofs.Common.{◌≡◌, ◌++◌, List}
-use Rattle.fws_ios_list.specs.declared.turn.Turn.{Turn}
-use Rattle.fws_ios_list.specs.Turns.{AreTests}
-use Rattle.fws_ios_list.proofs.turns.put_kids.Given as goal
-
-abbrev pub invariant-loop-kid : goal.invariant-loop-kid
-invariant-loop-kid l = (block : List Turn) × (l.turns ≡ l.initial.turns ++ block) × AreTests l.side l.kids l.path l.last l.falls l.kid-index block

@@ -1,5 +1,0 @@
-use Rattle.fws_ios_path.specs.Narrowing.{AreMembers}
-use Rattle.fws_ios_path.proofs.narrowing.members.Given as goal
-
-abbrev pub invariant-loop-v : goal.invariant-loop-v
-invariant-loop-v l = AreMembers l.set l.v l.numbers

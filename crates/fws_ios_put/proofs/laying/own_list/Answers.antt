@@ -1,4 +1,0 @@
-use Rattle.fws_ios_put.proofs.laying.own_list.Goals as goal
-
-pub returns : goal.returns
-returns c = record { name = c.in_ok-name.ensures; decides = c.in_ok-entries.ensures }

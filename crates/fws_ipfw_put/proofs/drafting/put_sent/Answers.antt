@@ -1,0 +1,19 @@
+use Rattle.fws_net.specs.Points.{tops_of}
+use Rattle.fws_ipfw_put.specs.Layout.{new_sent, sent_choice}
+use Rattle.fws_ipfw_put.proofs.Listed.{images_fit, images_told, list_made, sent_fits}
+use Rattle.fws_ipfw_put.proofs.drafting.put_sent.Goals as goal
+
+pub put_rules-requires-clause-told : goal.put_rules-requires-clause-told
+put_rules-requires-clause-told c =
+    images_told (tops_of c.args.site.now) c.args.fresh.now.0 (sent_choice c.args.sources.now.keys) c.args.fresh.now.1 c.in_ok-choices.choices.0 c.in_ok-choices.choices.1
+    c.requires.tops c.in_ok-choices.ensures.tops c.in_ok-choices.ensures.value new_sent.seen c.relabelled_trees_are_told.ensures c.requires.told
+
+pub put_rules-requires-clause-fits : goal.put_rules-requires-clause-fits
+put_rules-requires-clause-fits c =
+    images_fit (tops_of c.args.site.now) c.args.fresh.now.0 (sent_choice c.args.sources.now.keys) c.args.fresh.now.1 c.in_ok-choices.choices.0 c.in_ok-choices.choices.1
+    c.requires.tops c.in_ok-choices.ensures.tops c.in_ok-choices.ensures.value 7000 (sent_fits c.args.sources.now.keys c.requires.few_sources)
+
+pub returns : goal.returns
+returns c =
+    list_made c.args.site.now new_sent (sent_choice c.args.sources.now.keys) c.args.fresh.now.1 c.args.fresh.now.0 c.in_ok-choices.choices.0 c.in_ok-choices.choices.1
+    c.args.rules.now c.put_rules.new.rules c.requires.tops c.in_ok-choices.ensures.tops c.in_ok-choices.ensures.value c.in_ok-put_list.ensures

@@ -1,4 +1,0 @@
-use Rattle.fws_ipfw_tree.proofs.default.default_kid.Goals as goal
-
-pub dearest-requires-clause-proper : goal.dearest-requires-clause-proper
-dearest-requires-clause-proper c = c.requires.proper c.in-Some.f c.in-Some.is

@@ -1,6 +1,0 @@
-use Rattle.std.proofs.Common.{◌≡◌, map, take}
-use Rattle.fws_ipfw_tree.specs.Pieces.{cube_lit}
-use Rattle.fws_ipfw_tree.proofs.pieces.flags.Given as goal
-
-abbrev pub invariant-loop-cube : goal.invariant-loop-cube
-invariant-loop-cube l = l.lits ≡ map cube_lit (take l.cube-index l.cube-items)

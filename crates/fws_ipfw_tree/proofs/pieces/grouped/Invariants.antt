@@ -1,6 +1,0 @@
-use Rattle.std.proofs.Common.{◌≡◌, map}
-use Rattle.fws_ipfw_tree.specs.Pieces.{set_lit}
-use Rattle.fws_ipfw_tree.proofs.pieces.grouped.Given as goal
-
-abbrev pub invariant-loop-group : goal.invariant-loop-group
-invariant-loop-group l = l.lits ≡ map (set_lit l.field) l.yielded

@@ -1,9 +1,0 @@
-use Rattle.std.proofs.Common.{◌≡◌, ◌++◌, List, take}
-use Rattle.fws_ipfw_tree.specs.declared.turn.Turn.{Turn}
-use Rattle.fws_ipfw_tree.specs.Pieces.{ArePieces}
-use Rattle.fws_ipfw_tree.specs.Turns.{AreKidTurns}
-use Rattle.fws_ipfw_tree.proofs.turns.put_kids.Given as goal
-
-abbrev pub invariant-loop-kid : goal.invariant-loop-kid
-invariant-loop-kid l =
-    (block : List Turn) × (l.turns ≡ l.initial.turns ++ block) × AreKidTurns (ArePieces l.field) (take l.kid-index l.kids) block

@@ -1,4 +1,0 @@
-use Rattle.fws_ipfw_tree.proofs.turns.tests.Goals as goal
-
-pub other_turns-requires-clause-proper : goal.other_turns-requires-clause-proper
-other_turns-requires-clause-proper c = c.requires.proper c.in-Some.f c.in-Some.is

@@ -1,6 +1,0 @@
-use Rattle.std.proofs.Common.{◌≡◌, map, take}
-use Rattle.fws_ipt_tree.specs.Conds.{cube_cond}
-use Rattle.fws_ipt_tree.proofs.pieces.flags.Given as goal
-
-abbrev pub invariant-loop-cube : goal.invariant-loop-cube
-invariant-loop-cube l = l.conds ≡ map cube_cond (take l.cube-index l.cube-items)

@@ -1,6 +1,0 @@
-use Rattle.fws_sight.specs.declared.field.PacketField.TheVariants.{Icmp}
-use Rattle.fws_ipt_tree.specs.Conds.{AreValuesBelow}
-use Rattle.fws_ipt_tree.proofs.pieces.types.Given as goal
-
-abbrev pub invariant-loop-v : goal.invariant-loop-v
-invariant-loop-v l = AreValuesBelow Icmp l.set l.v l.conds

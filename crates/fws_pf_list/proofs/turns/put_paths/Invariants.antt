@@ -1,6 +1,0 @@
-use Rattle.std.proofs.Common.{◌≡◌, ◌++◌}
-use Rattle.fws_pf_list.specs.Turns.{turns_to}
-use Rattle.fws_pf_list.proofs.turns.put_paths.Given as goal
-
-abbrev pub invariant-loop-path : goal.invariant-loop-path
-invariant-loop-path l = l.turns ≡ l.initial.turns ++ turns_to l.node l.falls l.yielded

@@ -1,0 +1,5 @@
+use Rattle.std.proofs.Common.{◌≡◌, ◌++◌, take}
+use Rattle.fws_pf_put_filter.proofs.literals.put_copies.Given as goal
+
+abbrev pub invariant-loop-lit : goal.invariant-loop-lit
+invariant-loop-lit l = l.cond ≡ l.initial.cond ++ take l.lit-index l.lits

@@ -1,0 +1,13 @@
+use Rattle.std.proofs.Common.{List}
+use Rattle.std.proofs.lemmas.Result.{IfOk-weaker}
+use Rattle.fws_net.specs.declared.condition.Lit.{Lit}
+use Rattle.fws_sight.specs.declared.field.PacketField.TheVariants.{Dst}
+use Rattle.fws_pf_put_filter.specs.Pieces.{ArePieces, AreRanges}
+use Rattle.fws_pf_put_filter.proofs.Hitting.{dst_pieces}
+use Rattle.fws_pf_put_filter.proofs.set_pieces.destinations.Goals as goal
+
+pub returns : goal.returns
+returns c =
+    let P : List Lit → Type 0 = λ lits. AreRanges Dst c.args.set.now lits in
+    let Q : List Lit → Type 0 = λ lits. ArePieces Dst c.args.set.now lits in
+    IfOk-weaker _ P Q (λ lits made. dst_pieces c.args.set.now lits c.requires made) c.ranges-2.ensures

@@ -1,0 +1,13 @@
+use Rattle.std.proofs.Common.{List}
+use Rattle.std.proofs.lemmas.Result.{IfOk-weaker}
+use Rattle.fws_net.specs.declared.condition.Lit.{Lit}
+use Rattle.fws_sight.specs.declared.field.PacketField.TheVariants.{Proto}
+use Rattle.fws_pf_put_filter.specs.Pieces.{ArePieces, AreValuesBelow}
+use Rattle.fws_pf_put_filter.proofs.Hitting.{proto_pieces}
+use Rattle.fws_pf_put_filter.proofs.set_pieces.protocols.Goals as goal
+
+pub returns : goal.returns
+returns c =
+    let P : List Lit → Type 0 = λ lits. AreValuesBelow Proto c.args.set.now 256 lits in
+    let Q : List Lit → Type 0 = λ lits. ArePieces Proto c.args.set.now lits in
+    IfOk-weaker _ P Q (λ lits made. proto_pieces c.args.set.now lits made) c.values.ensures

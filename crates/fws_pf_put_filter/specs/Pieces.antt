@@ -1,0 +1,81 @@
+-- Pieces of sets: literals of one interval or value, of which one holds where a field's value is a member.
+use Rattle.std.specs.Prelude.{◌≡◌, ℕ, ◌≤◌, true, false, ◌&&◌, nat_lt, List, [], ◌∷◌, map}
+use Rattle.std.specs.List.{list_all, list_any}
+use Rattle.fws_iv.specs.declared.cube.Cube.{Cube}
+use Rattle.fws_iv.specs.declared.iv.Iv.{Iv}
+use Rattle.fws_iv.specs.Ivs.{has, IsRegular}
+use Rattle.fws_net.specs.declared.condition.Lit.{Lit}
+use Rattle.fws_net.specs.declared.condition.Test.{Test}
+use Rattle.fws_net.specs.declared.condition.Test.TheVariants as tests
+use Rattle.fws_net.specs.declared.site.Site.{Site}
+use Rattle.fws_net.specs.declared.view.View.{View}
+use Rattle.fws_net.specs.Conditions.{lit_holds}
+use Rattle.fws_sight.specs.declared.field.PacketField.{PacketField}
+use Rattle.fws_sight.specs.declared.field.PacketField.TheVariants.{Proto, Dst, Dport, Src, Sport, Flags, Icmp}
+use Rattle.fws_sight.specs.Fields.{hits, suits, top_of}
+use Rattle.fws_sight.specs.Shown.{value_of}
+use Rattle.fws_pf_put_filter.specs.Literals.{is_printed_at, lit_of}
+
+-- a test of a field for the members of a set
+abbrev pub set_test : PacketField → List Iv → Test
+set_test Proto set = tests.Proto set
+set_test Dst set = tests.Dst set
+set_test Dport set = tests.Dport set
+set_test Src set = tests.Src set
+set_test Sport set = tests.Sport set
+set_test Flags set = tests.Never
+set_test Icmp set = tests.Icmp set
+
+-- the value of a field is a member
+abbrev pub set_lit : PacketField → List Iv → Lit
+set_lit field set = lit_of (set_test field set)
+
+-- the value of a field lies in an interval
+abbrev pub range_lit : PacketField → Iv → Lit
+range_lit field iv = set_lit field (iv ∷ [])
+
+-- flags lie in the cube
+abbrev pub cube_lit : Cube → Lit
+cube_lit cube = lit_of (tests.Flags cube.mask cube.want)
+
+-- the place of the tests of a field
+abbrev pub place_at : PacketField → ℕ
+place_at Proto = 1
+place_at Src = 2
+place_at Sport = 3
+place_at Dst = 4
+place_at Dport = 5
+place_at Flags = 6
+place_at Icmp = 7
+
+-- a set of some values of a field, and not of all
+pub record IsProper (field : PacketField) (set : List Iv) : Type 0 where
+  pub within : (v : ℕ) → has set v ≡ true → v ≤ top_of field
+  pub some : (v : ℕ) × (has set v ≡ true)
+  pub lacks : (v : ℕ) × (v ≤ top_of field) × (has set v ≡ false)
+
+-- literals of which one holds just where the packet hits the set; they are printed at the place of the field, in conditions for a
+-- protocol that has the field
+pub record ArePieces (field : PacketField) (set : List Iv) (lits : List Lit) : Type 0 where
+  pub hit : (v : View) → (suits field v.packet.proto ≡ true → value_of field v.packet ≤ top_of field) → list_any (lit_holds v) lits ≡ hits field set v.packet
+  pub printed : (site : Site) (protocol : ℕ) → suits field protocol ≡ true → list_all (is_printed_at site protocol (place_at field)) lits ≡ true
+
+-- a literal for each interval of a set
+pub record AreRanges (field : PacketField) (set : List Iv) (lits : List Lit) : Type 0 where
+  pub each : lits ≡ map (range_lit field) set
+  pub regular : IsRegular set
+
+-- the values of these fields are tested one by one
+abbrev pub IsOneByOne : PacketField → Type 0
+IsOneByOne Proto = Unit {0}
+IsOneByOne Icmp = Unit {0}
+IsOneByOne Dst = ⊥
+IsOneByOne Dport = ⊥
+IsOneByOne Src = ⊥
+IsOneByOne Sport = ⊥
+IsOneByOne Flags = ⊥
+
+-- literals for the values below a number
+pub record AreValuesBelow (field : PacketField) (set : List Iv) (n : ℕ) (lits : List Lit) : Type 0 where
+  pub hit : (v : View) → list_any (lit_holds v) lits ≡ (suits field v.packet.proto && (nat_lt (value_of field v.packet) n && has set (value_of field v.packet)))
+  pub printed : n ≤ 256 → (site : Site) (protocol : ℕ) → suits field protocol ≡ true → list_all (is_printed_at site protocol (place_at field)) lits ≡ true

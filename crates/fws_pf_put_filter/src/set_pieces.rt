@@ -1,0 +1,140 @@
+//! Pieces of sets: literals of one interval or value, of which one holds where a field's value is a member.
+
+ghost use Rattle.std.specs.Prelude.{◌≡◌, map, IfOk};
+ghost use Rattle.fws_iv.specs.declared.iv.Iv.{Iv};
+ghost use Rattle.fws_pf_put_filter.specs.Pieces.{set_lit, range_lit, ArePieces, AreRanges, AreValuesBelow, IsOneByOne, IsProper};
+
+use fws_iv::{Ivs, cubes, one};
+use fws_net::{Lit, Test};
+use fws_num::{Items, Memory};
+use fws_sight::PacketField;
+use std::alloc::Global;
+
+// A literal that a field's value is a member.
+fn has_member(field: PacketField, set: Ivs) -> Lit
+    ensures { result ≡ set_lit field set }
+{
+    let test = match field {
+        PacketField::Proto => Test::Proto(set),
+        PacketField::Dst => Test::Dst(set),
+        PacketField::Dport => Test::Dport(set),
+        PacketField::Src => Test::Src(set),
+        PacketField::Sport => Test::Sport(set),
+        PacketField::Flags => Test::Never,
+        PacketField::Icmp => Test::Icmp(set),
+    };
+    Lit { not: false, test }
+}
+
+// For each interval of a set, that the value lies in it.
+fn ranges(alloc: Global, field: PacketField, set: &Ivs) -> Result<Items<Lit>, Memory>
+    ensures { IfOk result (λ lits. AreRanges field set.now lits) }
+{
+    let parts = set.parts();
+    let mut lits = Items::new(alloc);
+    for part in parts {
+        let range = one(alloc, part.lo, part.hi)?;
+        lits.put(has_member(field, range))?;
+    }
+    Ok(lits)
+}
+
+// For each protocol or ICMP type of a set, that it is the packet's.
+fn values(alloc: Global, field: PacketField, set: &Ivs) -> Result<Items<Lit>, Memory>
+    requires { IsOneByOne field }
+    ensures { IfOk result (λ lits. AreValuesBelow field set.now 256 lits) }
+{
+    let mut lits = Items::new(alloc);
+    for v in 0..256 {
+        if set.has(v) {
+            let only = one(alloc, v, v)?;
+            lits.put(has_member(field, only))?;
+        }
+    }
+    Ok(lits)
+}
+
+// The pieces of a set of flags: a literal for each cube.
+fn flags(alloc: Global, set: &Ivs) -> Result<Items<Lit>, Memory>
+    requires { IsProper PacketField.Flags set.now }
+    ensures { IfOk result (λ lits. ArePieces PacketField.Flags set.now lits) }
+{
+    let all = cubes(alloc, set)?;
+    let mut lits = Items::new(alloc);
+    for cube in &all {
+        lits.put(Lit {
+            not: false,
+            test: Test::Flags {
+                mask: cube.mask,
+                want: cube.want,
+            },
+        })?;
+    }
+    Ok(lits)
+}
+
+// The pieces of a set of protocols.
+fn protocols(alloc: Global, set: &Ivs) -> Result<Items<Lit>, Memory>
+    requires { IsProper PacketField.Proto set.now }
+    ensures { IfOk result (λ lits. ArePieces PacketField.Proto set.now lits) }
+{
+    values(alloc, PacketField::Proto, set)
+}
+
+// The pieces of a set of ICMP types.
+fn types(alloc: Global, set: &Ivs) -> Result<Items<Lit>, Memory>
+    requires { IsProper PacketField.Icmp set.now }
+    ensures { IfOk result (λ lits. ArePieces PacketField.Icmp set.now lits) }
+{
+    values(alloc, PacketField::Icmp, set)
+}
+
+// The pieces of a set of destinations.
+fn destinations(alloc: Global, set: &Ivs) -> Result<Items<Lit>, Memory>
+    requires { IsProper PacketField.Dst set.now }
+    ensures { IfOk result (λ lits. ArePieces PacketField.Dst set.now lits) }
+{
+    ranges(alloc, PacketField::Dst, set)
+}
+
+// The pieces of a set of destination ports.
+fn destination_ports(alloc: Global, set: &Ivs) -> Result<Items<Lit>, Memory>
+    requires { IsProper PacketField.Dport set.now }
+    ensures { IfOk result (λ lits. ArePieces PacketField.Dport set.now lits) }
+{
+    ranges(alloc, PacketField::Dport, set)
+}
+
+// The pieces of a set of sources.
+fn sources(alloc: Global, set: &Ivs) -> Result<Items<Lit>, Memory>
+    requires { IsProper PacketField.Src set.now }
+    ensures { IfOk result (λ lits. ArePieces PacketField.Src set.now lits) }
+{
+    ranges(alloc, PacketField::Src, set)
+}
+
+// The pieces of a set of source ports.
+fn source_ports(alloc: Global, set: &Ivs) -> Result<Items<Lit>, Memory>
+    requires { IsProper PacketField.Sport set.now }
+    ensures { IfOk result (λ lits. ArePieces PacketField.Sport set.now lits) }
+{
+    ranges(alloc, PacketField::Sport, set)
+}
+
+/// Literals of which one holds where the packet has the field and its value is a member: for each
+/// protocol and each ICMP type one, for each interval of addresses or ports one, and for each cube of
+/// flags one. An error is want of memory.
+pub fn pieces(alloc: Global, field: PacketField, set: &Ivs) -> Result<Items<Lit>, Memory>
+    requires { IsProper field set.now }
+    ensures { IfOk result (λ lits. ArePieces field set.now lits) }
+{
+    match field {
+        PacketField::Proto => protocols(alloc, set),
+        PacketField::Dst => destinations(alloc, set),
+        PacketField::Dport => destination_ports(alloc, set),
+        PacketField::Src => sources(alloc, set),
+        PacketField::Sport => source_ports(alloc, set),
+        PacketField::Flags => flags(alloc, set),
+        PacketField::Icmp => types(alloc, set),
+    }
+}

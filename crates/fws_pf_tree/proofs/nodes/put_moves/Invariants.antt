@@ -1,6 +1,0 @@
-use Rattle.std.proofs.Common.{◌≡◌, ◌++◌}
-use Rattle.fws_pf_tree.specs.Rules.{moves}
-use Rattle.fws_pf_tree.proofs.nodes.put_moves.Given as goal
-
-abbrev pub invariant-loop-cond : goal.invariant-loop-cond
-invariant-loop-cond l = l.rules ≡ l.initial.rules ++ moves l.way l.from l.to l.yielded
