@@ -157,7 +157,7 @@ pub(crate) fn filtered(
 ) -> Result<Filter, Stop> {
     let coming = coming_list(policy, verdict, leaving, marks, free, is_one)?;
     let least = policy.space.least_mask(leaving);
-    let all_leave = policy.space.has(least, ACCEPT) && marks.is_empty();
+    let all_leave = policy.space.has(least, ACCEPT);
     let leaving = if is_one || all_leave {
         None
     } else {
