@@ -79,7 +79,7 @@ fn list_at(
 }
 
 // Puts the list at a place, which gives the address, and the translation that asks it. An error is want of memory.
-fn put_list(
+fn put_list_at(
     alloc: Global,
     sources: &mut Sources,
     site: &Site,
@@ -130,7 +130,7 @@ pub(crate) fn lists_of(
     };
     for place in 0..addrs.len() {
         let addr = address_at(addrs, place);
-        put_list(alloc, &mut sources, site, crossing, addrs, place, addr)?;
+        put_list_at(alloc, &mut sources, site, crossing, addrs, place, addr)?;
     }
     Ok(sources)
 }

@@ -4,8 +4,8 @@ use Rattle.fws_ios_put_sources.proofs.lists.lists_of.Goals as goal
 
 pub loop-place-preserved : goal.loop-place-preserved
 loop-place-preserved c =
-    one_asked c.args.site.now c.args.crossing.now.1 c.args.addrs.now.keys c.loop-place.place c.address_at-addr.result c.loop-place.sources c.put_list.new.sources
-    c.address_at-addr.ensures c.loop-place.invariant c.in_ok-put_list.ensures
+    one_asked c.args.site.now c.args.crossing.now.1 c.args.addrs.now.keys c.loop-place.place c.address_at-addr.result c.loop-place.sources c.put_list_at.new.sources
+    c.address_at-addr.ensures c.loop-place.invariant c.in_ok-put_list_at.ensures
 
 pub returns : goal.returns
 returns c =
