@@ -12,6 +12,9 @@ const GO: u32 = 1;
 /// The colour of packets that pass, be they new or established.
 const PERMIT: u32 = 2;
 
+/// What `evaluate` costs with the list for what leaves, which reflects it: two lines, in thousandths.
+const EVALUATION: u64 = 2000;
+
 /// The list of some interfaces.
 #[derive(Drop)]
 pub(crate) struct Inward {
@@ -104,14 +107,17 @@ fn ahead_list(policy: &mut Policy, style: &mut Style, diagram: Diagram) -> Resul
 }
 
 /// What stands ahead of `evaluate`.
-fn ahead_of(policy: &mut Policy, style: &mut Style, sight: Sight) -> Result<Vec<Rule>, Stop> {
+fn ahead_of(policy: &mut Policy, style: &mut Style, sight: Sight) -> Result<List, Stop> {
     let least = policy.space.least_mask(sight.established);
     if policy.space.has(least, ACCEPT) {
-        return Ok(Vec::new(policy.alloc));
+        return Ok(List {
+            rules: Vec::new(policy.alloc),
+            default: GO,
+            cost: 0,
+        });
     }
     let diagram = ahead_by(policy, sight)?;
-    let list = ahead_list(policy, style, diagram)?;
-    Ok(list.rules)
+    ahead_list(policy, style, diagram)
 }
 
 /// The list of verdicts on packets from some entries.
@@ -154,16 +160,15 @@ fn evaluating(
     entries: Side,
 ) -> Result<Costed, Stop> {
     let ahead = ahead_of(policy, style, sight)?;
-    let list = list_behind(policy, style, sight, entries, &ahead)?;
-    let more = (ahead.len() as u64)
-        .saturating_mul(1100)
-        .saturating_add(1000);
-    let cost = whole_cost(&list).saturating_add(more);
+    let list = list_behind(policy, style, sight, entries, &ahead.rules)?;
+    let cost = whole_cost(&list)
+        .saturating_add(ahead.cost)
+        .saturating_add(EVALUATION);
     Ok(Costed {
         list: Inward {
             entries: Vec::new(policy.alloc),
             evaluates: true,
-            ahead,
+            ahead: ahead.rules,
             list,
         },
         cost,
