@@ -1,7 +1,6 @@
 -- Trees that are kept where a field lies in a set.
-use Rattle.std.proofs.Common.{◌≡◌, Bool, true, false, Option, Some, [], refl}
+use Rattle.std.proofs.Common.{◌≡◌, Bool, true, false, Option, Some, refl}
 use Rattle.std.specs.Prelude.{if◌then◌else◌}
-use Rattle.fws_iv.specs.Ivs.{has}
 
 -- what a tree that is kept has, where it is true
 pub kept_true : (b : Bool) (v u : Option Bool) → u ≡ (if b then v else Some false) → u ≡ Some true → (b ≡ true) × (v ≡ Some true)

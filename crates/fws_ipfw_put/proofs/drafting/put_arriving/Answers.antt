@@ -17,4 +17,4 @@ put_rules-requires-clause-fits c =
 pub returns : goal.returns
 returns c =
     list_made c.args.site.now new_arriving (arriving_choice c.args.destinations.now.keys c.args.sources.now.keys) c.args.fresh.now.1 c.args.fresh.now.0 c.in_ok-choices.choices.0 c.in_ok-choices.choices.1
-    c.args.rules.now c.put_rules.new.rules c.requires.tops c.in_ok-choices.ensures.tops c.in_ok-choices.ensures.value c.in_ok-put_list.ensures
+    c.args.rules.now c.put_rules.new.rules c.requires.tops c.in_ok-choices.ensures.tops c.in_ok-choices.ensures.value c.in_ok-put_rules.ensures

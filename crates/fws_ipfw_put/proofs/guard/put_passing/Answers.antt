@@ -16,4 +16,4 @@ put_rules-requires-clause-fits c =
 pub returns : goal.returns
 returns c =
     list_made c.args.site.now c.args.section.now passing c.args.tree.now.1 c.args.tree.now.0 c.in_ok-choices.choices.0 c.in_ok-choices.choices.1 c.args.rules.now c.put_rules.new.rules
-    c.requires.tops c.in_ok-choices.ensures.tops c.in_ok-choices.ensures.value c.in_ok-put_list.ensures
+    c.requires.tops c.in_ok-choices.ensures.tops c.in_ok-choices.ensures.value c.in_ok-put_rules.ensures

@@ -45,5 +45,5 @@ put_translations-requires-clause-bare c =
 pub returns : goal.returns
 returns c =
     let g = c.args.ground.now in
-    let put = c.in_ok-put_list.ensures in
+    let put = c.in_ok-put_translations.ensures in
     (put.0, put.1, subst (λ (ts : List ℕ). IsTranslations g.site.now ts g.tables.now.fresh.1 g.leaves.now g.nodes.now g.states.now c.args.outward put.0) c.requires.regular.fresh_tops put.2)
