@@ -19,6 +19,7 @@ pub mod Putting
 pub mod Reached
 pub mod Recoloured
 pub mod Routed
+pub mod Sameness
 pub mod Running
 pub mod Sent
 pub mod Telling

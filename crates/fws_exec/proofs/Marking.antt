@@ -45,27 +45,37 @@ boxed_by boxes label rest p h e = ap (λ n. cond (nat_eq n 0) rest label) e ∙ 
     by true = refl
     by false = refl
 
--- one more instruction, the first of those that are left, where an area has the point
-pub picked_step : (b : Bool) (place : ℕ) (v : View) (ins : Ins) (code left : List Ins) → left ≡ ins ∷ code
-    → cond (b && holds ins.cond v) (label_of place ins.act) (cond b (picked place v code) 0) ≡ cond b (picked place v left) 0
-picked_step b place v ins code left e = inside b (holds ins.cond v) ∙ sym (ap (λ xs. cond b (picked place v xs) 0) e)
+-- where its condition fails, an instruction is passed over
+pub picked_past : (place : ℕ) (v : View) (ins : Ins) (code left : List Ins) → left ≡ ins ∷ code → holds ins.cond v ≡ false → picked place v left ≡ picked place v code
+picked_past place v ins code left e fails = ap (λ xs. picked place v xs) e ∙ ap (λ h. cond h (label_of place ins.act) (picked place v code)) fails
+
+pub numbered_past : (n : ℕ) (v : View) (ins : Ins) (code left : List Ins) → left ≡ ins ∷ code → holds ins.cond v ≡ false → numbered n v left ≡ numbered (n + 1) v code
+numbered_past n v ins code left e fails = ap (λ xs. numbered n v xs) e ∙ ap (λ h. cond h n (numbered (n + 1) v code)) fails
+
+-- one more instruction, the first of those that are left, where an area has the point; where its condition fails, those behind it may be
+-- passed over up to the rest
+pub picked_step : (b : Bool) (place : ℕ) (v : View) (ins : Ins) (code rest left : List Ins) → left ≡ ins ∷ code → (holds ins.cond v ≡ false → picked place v code ≡ picked place v rest)
+    → cond (b && holds ins.cond v) (label_of place ins.act) (cond b (picked place v rest) 0) ≡ cond b (picked place v left) 0
+picked_step b place v ins code rest left e same = inside b (holds ins.cond v) same ∙ sym (ap (λ xs. cond b (picked place v xs) 0) e)
   where
-    inside : (b h : Bool) → cond (b && h) (label_of place ins.act) (cond b (picked place v code) 0) ≡ cond b (cond h (label_of place ins.act) (picked place v code)) 0
-    inside true true = refl
-    inside true false = refl
-    inside false true = refl
-    inside false false = refl
+    inside : (b h : Bool) → (h ≡ false → picked place v code ≡ picked place v rest)
+        → cond (b && h) (label_of place ins.act) (cond b (picked place v rest) 0) ≡ cond b (cond h (label_of place ins.act) (picked place v code)) 0
+    inside true true s = refl
+    inside true false s = sym (s refl)
+    inside false true s = refl
+    inside false false s = refl
 
 -- the same by the numbers of instructions
-pub numbered_step : (b : Bool) (n : ℕ) (v : View) (ins : Ins) (code rest : List Ins) → rest ≡ ins ∷ code
-    → cond (b && holds ins.cond v) n (cond b (numbered (n + 1) v code) 0) ≡ cond b (numbered n v rest) 0
-numbered_step b n v ins code rest e = inside b (holds ins.cond v) ∙ sym (ap (λ xs. cond b (numbered n v xs) 0) e)
+pub numbered_step : (b : Bool) (n more : ℕ) (v : View) (ins : Ins) (code rest left : List Ins) → left ≡ ins ∷ code → (holds ins.cond v ≡ false → numbered (n + 1) v code ≡ numbered more v rest)
+    → cond (b && holds ins.cond v) n (cond b (numbered more v rest) 0) ≡ cond b (numbered n v left) 0
+numbered_step b n more v ins code rest left e same = inside b (holds ins.cond v) same ∙ sym (ap (λ xs. cond b (numbered n v xs) 0) e)
   where
-    inside : (b h : Bool) → cond (b && h) n (cond b (numbered (n + 1) v code) 0) ≡ cond b (cond h n (numbered (n + 1) v code)) 0
-    inside true true = refl
-    inside true false = refl
-    inside false true = refl
-    inside false false = refl
+    inside : (b h : Bool) → (h ≡ false → numbered (n + 1) v code ≡ numbered more v rest)
+        → cond (b && h) n (cond b (numbered more v rest) 0) ≡ cond b (cond h n (numbered (n + 1) v code)) 0
+    inside true true s = refl
+    inside true false s = sym (s refl)
+    inside false true s = refl
+    inside false false s = refl
 
 -- a label where an area has the point
 pub label_inside : (b : Bool) (k rest : ℕ) → b ≡ true → cond b k rest ≡ k

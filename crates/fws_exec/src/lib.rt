@@ -5,6 +5,7 @@ mod behind;
 mod called;
 mod closed;
 mod divide;
+mod equal;
 mod errand;
 mod execution;
 mod going;

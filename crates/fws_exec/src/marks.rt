@@ -1,10 +1,11 @@
 //! Marks for the points where conditions hold.
 
-ghost use Rattle.std.specs.Prelude.{◌≡◌, ◌≤◌, ◌+◌, ◌&&◌, ℕ, List, if◌then◌else◌, IfOk, OnOk};
+ghost use Rattle.std.specs.Prelude.{◌≡◌, ◌<◌, ◌≤◌, ◌+◌, ◌&&◌, ℕ, List, false, drop, length, if◌then◌else◌, IfOk, OnOk};
 ghost use Rattle.fws_box.specs.Boxes.{sides_of};
 ghost use Rattle.fws_box.specs.Sides.{IsWithin, sides_have};
 ghost use Rattle.fws_flat.specs.declared.code.Part.{Part as AnyPart};
 ghost use Rattle.fws_net.specs.declared.site.Site.{Site};
+ghost use Rattle.fws_net.specs.declared.view.View.{View};
 ghost use Rattle.fws_net.specs.Conditions.{holds};
 ghost use Rattle.fws_net.specs.Points.{tops_of};
 ghost use Rattle.fws_scene.specs.Areas.{IsOfSite};
@@ -15,6 +16,7 @@ ghost use Rattle.fws_exec.specs.Goings.{label_of};
 ghost use Rattle.fws_exec.specs.Grounds.{IsGround};
 ghost use Rattle.fws_exec.specs.Runs.{boxed, numbered, picked};
 
+use crate::equal::same_lits;
 use crate::errand::Ground;
 use crate::going::label_of;
 use crate::progress::Progress;
@@ -109,8 +111,24 @@ fn put_ins<'b>(
     Ok(())
 }
 
+/// The first place from this one on at which an instruction has another condition, as far as is seen: where the condition fails, the
+/// instructions before that do nothing.
+fn past_same(code: &[Ins], cond: &Cond, from: usize) -> usize
+    requires { from ≤ length code.now }
+    ensures later { from ≤ result }
+    ensures within { result ≤ length code.now }
+    ensures picked { (v : View) (place : ℕ) → holds cond.now v ≡ false → picked place v (drop from code.now) ≡ picked place v (drop result code.now) }
+    ensures numbered { (v : View) → holds cond.now v ≡ false → numbered (from + 1) v (drop from code.now) ≡ numbered (result + 1) v (drop result code.now) }
+{
+    let mut past = from;
+    while past < code.len() && same_lits(code[past].cond.lits(), cond.lits()) {
+        past += 1;
+    }
+    past
+}
+
 /// Marks for the points of the area, for a class to which rules did this, with the labels of where the instructions of a run
-/// send them that begins at the place.
+/// send them that begins at the place. Of instructions in a row with one condition the first one takes all points.
 pub(crate) fn run_marks<'b>(
     alloc: Global,
     ground: &Ground<'_, 'b>,
@@ -126,10 +144,13 @@ pub(crate) fn run_marks<'b>(
 {
     let scene = progress.scene(alloc, part, ground.state)?;
     let mut marks = Vec::new(alloc);
-    for ins in code {
+    let mut at = 0;
+    while at < code.len() {
+        let ins = &code[at];
         put_ins(
             alloc, ground, area, &scene, progress, ins, place, &mut marks,
         )?;
+        at = past_same(code, &ins.cond, at + 1);
     }
     Ok(marks)
 }
@@ -158,18 +179,19 @@ fn put_use<'b>(
     Ok(())
 }
 
-/// The number behind this one. An error is want of memory, and a number that has no 32 bits.
-fn number_behind(number: u32) -> Result<u32, Memory>
-    ensures { IfOk result (λ next. next ≡ number + 1) }
+/// The number of the instruction at a place of a run, of which the first has number 1. An error is a number that has no 32 bits.
+fn number_at(place: usize) -> Result<u32, Memory>
+    requires { place < usize.MAX }
+    ensures { IfOk result (λ number. number ≡ place + 1) }
 {
-    match number.checked_add(1) {
-        Some(next) => Ok(next),
-        None => Err(Memory),
+    match u32::try_from(place + 1) {
+        Ok(number) => Ok(number),
+        Err(_) => Err(Memory),
     }
 }
 
 /// Marks for the points of the area, for a class to which rules did this, with the numbers of the instructions that they use of a
-/// run, of which the first has number 1.
+/// run, of which the first has number 1. Of instructions in a row with one condition the first one is used alone.
 pub(crate) fn use_marks<'b>(
     alloc: Global,
     ground: &Ground<'_, 'b>,
@@ -184,12 +206,14 @@ pub(crate) fn use_marks<'b>(
 {
     let scene = progress.scene(alloc, part, ground.state)?;
     let mut marks = Vec::new(alloc);
-    let mut number: u32 = 1;
-    for ins in code {
+    let mut at = 0;
+    while at < code.len() {
+        let cond = &code[at].cond;
+        let number = number_at(at)?;
         put_use(
-            alloc, ground, area, &scene, progress, &ins.cond, number, &mut marks,
+            alloc, ground, area, &scene, progress, cond, number, &mut marks,
         )?;
-        number = number_behind(number)?;
+        at = past_same(code, cond, at + 1);
     }
     Ok(marks)
 }

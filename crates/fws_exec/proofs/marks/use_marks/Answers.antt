@@ -1,4 +1,4 @@
-use Rattle.std.proofs.Common.{◌≡◌, ◌+◌, ◌<◌, cond, ◌&&◌, [], ◌∷◌, drop, length, sym, ◌∙◌, ap, arith}
+use Rattle.std.proofs.Common.{◌≡◌, ◌+◌, ◌<◌, cond, ◌&&◌, [], ◌∷◌, drop, length, get_or, sym, ◌∙◌, ap, arith}
 use Rattle.std.proofs.lemmas.List.{drop_more}
 use Rattle.std.proofs.Math.ListN.{drop_of_length-le}
 use Rattle.fws_box.specs.Boxes.{sides_of}
@@ -10,26 +10,22 @@ use Rattle.fws_exec.specs.Runs.{numbered}
 use Rattle.fws_exec.proofs.Marking.{numbered_step, same_both}
 use Rattle.fws_exec.proofs.marks.use_marks.Goals as goal
 
-pub loop-ins-preserved : goal.loop-ins-preserved
-loop-ins-preserved c =
-    let next = c.in_ok-number.ensures in
-    record {
-      some = omega arith;
-      marked = λ p w. (
-          let lt : c.loop-ins.ins-index < length c.args.code.now = omega arith in
-          let front : drop c.loop-ins.ins-index c.args.code.now ≡ c.ins-item.result ∷ drop (c.loop-ins.ins-index + 1) c.args.code.now =
-          drop_more c.args.code.now c.loop-ins.ins-index c.ins-item.result lt ∙ ap (λ x. x ∷ drop (c.loop-ins.ins-index + 1) c.args.code.now) (sym c.ins-item.is) in
-          c.in_ok-put_use.ensures c.args.part c.in_ok-scene.ensures _ p w
-          ∙ ap (λ r. mark_at c.loop-ins.marks.items r p) (
-          ap (λ n. cond (sides_have (sides_of c.args.area.now) p && holds c.ins-item.result.cond (seen_at c.args.ground.now.site.now c.args.ground.now.state c.args.part c.args.progress.now p)) c.loop-ins.number
-          (cond (sides_have (sides_of c.args.area.now) p) (numbered n (seen_at c.args.ground.now.site.now c.args.ground.now.state c.args.part c.args.progress.now p) (drop (c.loop-ins.ins-index + 1) c.args.code.now)) 0)) next
-          ∙ numbered_step (sides_have (sides_of c.args.area.now) p) c.loop-ins.number (seen_at c.args.ground.now.site.now c.args.ground.now.state c.args.part c.args.progress.now p) c.ins-item.result (drop (c.loop-ins.ins-index + 1) c.args.code.now) (drop c.loop-ins.ins-index c.args.code.now) front)
-          ∙ c.loop-ins.invariant.marked p w);
-    }
+pub loop-at-preserved : goal.loop-at-preserved
+loop-at-preserved c p w =
+    let lt : c.loop-at.at < length c.args.code.now = omega arith in
+    let front : drop c.loop-at.at c.args.code.now ≡ get_or c.args.code.now c.loop-at.at c.index-code-at.result ∷ drop (c.loop-at.at + 1) c.args.code.now =
+    drop_more c.args.code.now c.loop-at.at c.index-code-at.result lt in
+    c.in_ok-put_use.ensures c.args.part c.in_ok-scene.ensures _ p w
+    ∙ ap (λ r. mark_at c.loop-at.marks.items r p) (
+    ap (λ n. cond (sides_have (sides_of c.args.area.now) p && holds (get_or c.args.code.now c.loop-at.at c.index-code-at.result).cond (seen_at c.args.ground.now.site.now c.args.ground.now.state c.args.part c.args.progress.now p)) n
+    (cond (sides_have (sides_of c.args.area.now) p) (numbered (c.past_same-at.result + 1) (seen_at c.args.ground.now.site.now c.args.ground.now.state c.args.part c.args.progress.now p) (drop c.past_same-at.result c.args.code.now)) 0)) c.in_ok-number.ensures
+    ∙ numbered_step (sides_have (sides_of c.args.area.now) p) (c.loop-at.at + 1) (c.past_same-at.result + 1) (seen_at c.args.ground.now.site.now c.args.ground.now.state c.args.part c.args.progress.now p) (get_or c.args.code.now c.loop-at.at c.index-code-at.result) (drop (c.loop-at.at + 1) c.args.code.now) (drop c.past_same-at.result c.args.code.now) (drop c.loop-at.at c.args.code.now) front
+    (c.past_same-at.ensures.numbered (seen_at c.args.ground.now.site.now c.args.ground.now.state c.args.part c.args.progress.now p)))
+    ∙ c.loop-at.invariant p w
 
 pub returns : goal.returns
 returns c p w =
-    let all : drop c.loop-ins.ins-index c.args.code.now ≡ [] = drop_of_length-le c.args.code.now (omega arith) in
-    sym (ap (λ xs. mark_at c.loop-ins.marks.items (cond (sides_have (sides_of c.args.area.now) p) (numbered c.loop-ins.number (seen_at c.args.ground.now.site.now c.args.ground.now.state c.args.part c.args.progress.now p) xs) 0) p) all
-    ∙ ap (λ r. mark_at c.loop-ins.marks.items r p) (same_both (sides_have (sides_of c.args.area.now) p) 0))
-    ∙ c.loop-ins.invariant.marked p w
+    let all : drop c.loop-at.at c.args.code.now ≡ [] = drop_of_length-le c.args.code.now (omega arith) in
+    sym (ap (λ xs. mark_at c.loop-at.marks.items (cond (sides_have (sides_of c.args.area.now) p) (numbered (c.loop-at.at + 1) (seen_at c.args.ground.now.site.now c.args.ground.now.state c.args.part c.args.progress.now p) xs) 0) p) all
+    ∙ ap (λ r. mark_at c.loop-at.marks.items r p) (same_both (sides_have (sides_of c.args.area.now) p) 0))
+    ∙ c.loop-at.invariant p w
