@@ -33,4 +33,6 @@ pub(crate) struct Errand<'a, 'b> {
     pub part: Part,
     /// The stage of which it is a part.
     pub stage: Stage,
+    /// For each place of the part where the run begins in which it is. Nothing hangs on it but time.
+    pub starts: &'a [u32],
 }

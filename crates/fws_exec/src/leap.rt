@@ -49,15 +49,6 @@ fn free_jump(reached: &[bool], act: FlatAct, place: u32) -> Option<u32>
     jump_of(act)
 }
 
-/// Whether the instruction at the place, if there is one, may stand in a run that goes on behind the other place. Nothing
-/// hangs on it but time.
-fn is_run_past(code: &[Ins], place: u32, other: u32) -> bool {
-    match code.get(place as usize) {
-        Some(ins) => is_plain(ins) && bound_by(ins.act, u32::MAX) > other,
-        None => false,
-    }
-}
-
 /// Whether the instruction may be in a run. Nothing hangs on it but time.
 fn may_run(ins: &Ins) -> bool {
     is_plain(ins) && bound_by(ins.act, u32::MAX) > 0
@@ -129,14 +120,11 @@ impl Errand<'_, '_> {
     fn run_start(&self, first: u32, place: u32) -> u32
         ensures { result ≤ place }
     {
-        let mut start = place;
-        if !is_run_past(self.code, place, place) {
-            return start;
+        let at = place.saturating_sub(self.part.first);
+        match self.starts.get(at as usize) {
+            Some(start) => (*start).max(first).min(place),
+            None => place,
         }
-        while start > first && is_run_past(self.code, start - 1, start) {
-            start -= 1;
-        }
-        start
     }
 
     /// Where packets of the look, to which rules did this, come from the place as they are: to where the run begins that has the

@@ -7,8 +7,10 @@ ghost use Rattle.fws_exec.specs.Views.{is_tag, is_tagless};
 
 use crate::errand::Errand;
 use crate::roll::Roll;
-use fws_flat::{FlatAct, Ins};
+use fws_flat::{FlatAct, Ins, Part};
 use fws_net::{Cond, Test};
+use fws_num::Memory;
+use std::alloc::Global;
 
 /// Whether the test is that of a tag.
 fn is_tag(test: &Test) -> bool
@@ -49,6 +51,31 @@ pub(crate) fn bound_by(act: FlatAct, limit: u32) -> u32
         FlatAct::Jump(to) => to.min(limit),
         _ => 0,
     }
+}
+
+/// Whether a run in which the instruction is may go on to the place. Nothing hangs on it but time.
+fn may_run_to(ins: &Ins, place: u32) -> bool {
+    is_plain(ins) && bound_by(ins.act, u32::MAX) > place
+}
+
+/// For each place of the part where the run begins in which it is, or the place itself where it is in none. Nothing hangs on it but time.
+pub(crate) fn run_starts(alloc: Global, code: &[Ins], part: Part) -> Result<Vec<u32>, Memory> {
+    let mut starts = Vec::new(alloc);
+    let mut start = part.first;
+    let mut goes_on = false;
+    for place in part.first..part.past {
+        let ins = match code.get(place as usize) {
+            Some(ins) => ins,
+            None => return Ok(starts),
+        };
+        if !goes_on {
+            start = place;
+        }
+        let is_in_run = may_run_to(ins, place);
+        starts.push(if is_in_run { start } else { place })?;
+        goes_on = is_in_run && may_run_to(ins, place.saturating_add(1));
+    }
+    Ok(starts)
 }
 
 /// The instructions from a place on, before another.

@@ -12,6 +12,7 @@ ghost use Rattle.fws_exec.specs.Sheets.{tops_in, IsSheet, stands};
 ghost use Rattle.fws_exec.specs.Stages.{Becomes, through_part, through_parts};
 
 use crate::errand::{Errand, Ground};
+use crate::run::run_starts;
 use crate::sheet::Sheet;
 use crate::spot::{Spot, Stage};
 use crate::turn::Turn;
@@ -84,11 +85,13 @@ impl Sheet {
             ways: purpose.ways,
             state: purpose.state,
         };
+        let starts = run_starts(alloc, purpose.code, part)?;
         let errand = Errand {
             ground,
             code: purpose.code,
             part,
             stage,
+            starts: starts.as_slice(),
         };
         self.cross(alloc, &errand)?;
         Ok(())
