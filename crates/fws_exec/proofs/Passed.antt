@@ -323,16 +323,18 @@ put_sheet number d old new used canvas hulls put sheet = record { used = put_use
 pub whole_kept : (e : Errand) (place : ℕ) (ins : Ins) (number : ℕ) (c d : Class) (old mid new : Sheet) → IsSheet old → tops_in old ≡ tops_of e.ground.site.now
     → ((p : List ℕ) → class_at mid p ≡ class_at old p) → mid.roll.classes.items ≡ old.roll.classes.items
     → IsUsed old.roll.classes.items number c → c.spot ≡ At place → Goes (goings.Behind e.ground.state e.stage place ins.act) 1 c.progress d → IsPut number d mid.roll.classes.items new.roll.classes.items
-    → new.canvas ≡ mid.canvas → new.reached.items ≡ mid.reached.items → ins.cond ≡ [] → ((aim : Aim) (p : List ℕ) → Obeys e aim p place ins)
+    → new.canvas ≡ mid.canvas → new.reached.items ≡ mid.reached.items
+    → ((p : List ℕ) → IsWithin (tops_in old) p → class_at old p ≡ number → holds ins.cond (sees e.ground.site.now (kind_of e.ground.state p) e.part (transit_of c.progress p)) ≡ true)
+    → ((aim : Aim) (p : List ℕ) → Obeys e aim p place ins)
     → AreNoted (says_at place) (among (number ∷ [])) (λ g p. 1) old mid → Keeps e old new
-whole_kept e place ins number c d old mid new sheet tops stays roll used spot goes put canvas same always obeys noted = record {
+whole_kept e place ins number c d old mid new sheet tops stays roll used spot goes put canvas same held obeys noted = record {
   kept = kept;
   tells = tells_by old.reached.items new.reached.items (IsSaid (says_at place) (among (number ∷ [])) (λ g p. 1) old) (Meets e old)
       (λ k got m. (
         m.0,
         subst (λ ts. IsWithin ts m.0) tops m.2,
         λ next. future_here (aim_at k next) m.0 (one_number (class_at old m.0) m.4)
-            ∙ acts (aim_at k next) m.0 ∙ used_caught e (aim_at k next) m.0 place ins (transit_of c.progress m.0) (eq-eqb k place (eqb-true k place m.5)),
+            ∙ acts (aim_at k next) m.0 m.2 (one_number (class_at old m.0) m.4) ∙ used_caught e (aim_at k next) m.0 place ins (transit_of c.progress m.0) (eq-eqb k place (eqb-true k place m.5)),
       ))
       (tells_equal old.reached.items old.reached.items mid.reached.items new.reached.items (IsSaid (says_at place) (among (number ∷ [])) (λ g p. 1) old) refl same noted.tells);
 }
@@ -347,10 +349,10 @@ whole_kept e place ins number c d old mid new sheet tops stays roll used spot go
     number_one : (n : ℕ) → n ≡ number → among (number ∷ []) n ≡ true
     number_one n e = ap (λ b. b || false) (eq-eqb n number e)
 
-    acts : (aim : Aim) (p : List ℕ) → course e aim p place (transit_of c.progress p) ≡ course_used e aim p place ins (transit_of c.progress p)
-    acts aim p =
+    acts : (aim : Aim) (p : List ℕ) → IsWithin (tops_in old) p → class_at old p ≡ number → course e aim p place (transit_of c.progress p) ≡ course_used e aim p place ins (transit_of c.progress p)
+    acts aim p inside here =
         obeys aim p (transit_of c.progress p)
-        ∙ ap (λ ls. cond (holds ls (sees e.ground.site.now (kind_of e.ground.state p) e.part (transit_of c.progress p))) (course_used e aim p place ins (transit_of c.progress p)) (course e aim p (place + 1) (transit_of c.progress p))) always
+        ∙ ap (λ b. cond b (course_used e aim p place ins (transit_of c.progress p)) (course e aim p (place + 1) (transit_of c.progress p))) (held p inside here)
 
     future_here : (aim : Aim) (p : List ℕ) → class_at old p ≡ number → future (course e aim p) aim.next old.roll.classes.items (class_at old p) p ≡ course e aim p place (transit_of c.progress p)
     future_here aim p here =
@@ -369,7 +371,7 @@ whole_kept e place ins number c d old mid new sheet tops stays roll used spot go
               (noted.noted place (p, (sheet.used p inside).0, inside, (sheet.used p inside).1, number_one (class_at old p) here, eq-eqb place place refl)) in
               ap (λ n. future (course e aim p) aim.next new.roll.classes.items n p) here
               ∙ future_of (course e aim p) aim.next new.roll.classes.items number d p put.0 ∙ goes.1 (course e aim p) aim.next p
-              ∙ sym (acts aim p ∙ used_free e aim p place ins (transit_of c.progress p) out)
+              ∙ sym (acts aim p inside here ∙ used_free e aim p place ins (transit_of c.progress p) out)
               ∙ sym (future_here aim p here))
           | inr away ↦ future_same (course e aim p) aim.next mid.roll.classes.items new.roll.classes.items (class_at old p) p (put.1 (class_at old p) away)
               ∙ ap (λ cs. future (course e aim p) aim.next cs (class_at old p) p) roll

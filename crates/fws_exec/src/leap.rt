@@ -3,7 +3,9 @@
 ghost use Rattle.std.specs.Prelude.{◌≡◌, ◌≢◌, ◌<◌, ◌≤◌, ◌+◌, ◌^◌, ℕ, List, true, false, slice_get, Some, IfOk, IfSome, OnOk};
 ghost use Rattle.fws_box.specs.Sides.{IsWithin};
 ghost use Rattle.fws_flat.specs.Soundness.{part_ok};
+ghost use Rattle.fws_flat.specs.declared.code.Ins.{Ins as AnyIns};
 ghost use Rattle.fws_flat.specs.declared.code.FlatAct.TheVariants as acts;
+ghost use Rattle.fws_net.specs.Conditions.{holds};
 ghost use Rattle.fws_net.specs.Points.{tops_of};
 ghost use Rattle.fws_exec.specs.declared.spot.Class.{Class as AnyClass};
 ghost use Rattle.fws_exec.specs.declared.spot.Spot.TheVariants.{At};
@@ -28,6 +30,7 @@ use fws_flat::{FlatAct, Ins};
 use fws_iv::Ivs;
 use fws_net::{Cond, End, Lit, Test};
 use fws_num::Memory;
+use std::alloc::Global;
 
 /// Where the act sends packets that it leaves as they are.
 fn jump_of(act: FlatAct) -> Option<u32>
@@ -127,17 +130,30 @@ impl Errand<'_, '_> {
         }
     }
 
-    /// Where packets of the look, to which rules did this, come from the place as they are: to where the run begins that has the
-    /// place which they come to, so that classes stay together that a run may take, or else to this place, which has an
-    /// instruction that may do something to them or is as far as is looked.
+    /// Whether the condition of the instruction at the place, if there is one, holds at all packets of the look, to which rules did
+    /// this. Nothing hangs on it but time.
+    fn is_held(&self, progress: &Progress, look: &Look, place: u32) -> bool {
+        match self.code.get(place as usize) {
+            Some(ins) => look.holds(progress, &ins.cond).is_held(),
+            None => false,
+        }
+    }
+
+    /// Where packets of the look, to which rules did this, come from the place as they are: to an instruction that acts on all of
+    /// them; or to where the run begins that has the place which they come to, so that classes stay together that a run may take; or
+    /// else to this place, which has an instruction that may do something to them or is as far as is looked.
     fn reached(&self, reached: &[bool], progress: &Progress, look: &Look, place: u32) -> u32
         requires part { part_ok self.now.code.now self.now.part ≡ true }
         requires low { self.now.part.first ≤ place }
         requires high { place < self.now.part.past }
-        ensures { GoesOn self.now reached.now look.now progress.now place result }
+        ensures low { place ≤ result }
+        ensures goes { GoesOn self.now reached.now look.now progress.now place result }
     {
         let limit = run_limit(place, self.part.past);
         let end = self.onward(reached, progress, look, place, limit);
+        if self.is_held(progress, look, end) {
+            return end;
+        }
         let start = self.run_start(place, end);
         if start == end || start == place && end >= limit {
             return end;
@@ -196,15 +212,16 @@ impl Sheet {
         requires part { part_ok errand.now.code.now errand.now.part ≡ true }
         requires low { errand.now.part.first ≤ place }
         requires high { place < errand.now.part.past }
-        ensures { IfOk result (λ to. ComesTo errand.now self.now number place to) }
+        ensures low { IfOk result (λ to. place ≤ to) }
+        ensures comes { IfOk result (λ to. ComesTo errand.now self.now number place to) }
     {
         let look = self.look(errand, number)?;
         let class = self.roll.used(number)?;
         Ok(errand.reached(self.reached.as_slice(), &class.progress, &look, place))
     }
 
-    /// The class with this number, which stands at the place, goes to where its packets come as they are.
-    fn go_on(&mut self, errand: &Errand<'_, '_>, number: u32, place: u32) -> Result<(), Memory>
+    /// The class with this number, which stands at the place, goes to where its packets come as they are. Gives that place.
+    fn go_on(&mut self, errand: &Errand<'_, '_>, number: u32, place: u32) -> Result<u32, Memory>
         requires sheet { IsSheet self.old }
         requires ground { IsGround errand.now.ground }
         requires tops { tops_in self.old ≡ tops_of errand.now.ground.site.now }
@@ -212,16 +229,59 @@ impl Sheet {
         requires low { errand.now.part.first ≤ place }
         requires high { place < errand.now.part.past }
         requires here { StandsAt (At place) self.old.roll.classes.items number }
+        ensures low { IfOk result (λ to. place ≤ to) }
         ensures sheet { OnOk result (IsSheet self.new) }
         ensures kept { OnOk result (Keeps errand.now self.old self.new) }
         ensures tops { tops_in self.new ≡ tops_in self.old }
     {
         let to = self.reached(errand, number, place)?;
         if to == place {
-            return Ok(());
+            return Ok(to);
         }
         self.roll.send(number, Spot::At(to));
         self.roll.arrive(number, Spot::At(to))?;
+        Ok(to)
+    }
+
+    /// Whether the condition of the instruction at the place holds for all packets of the class with this number. False tells nothing.
+    fn holds_whole(&self, errand: &Errand<'_, '_>, number: u32, place: u32) -> Result<bool, Memory>
+        requires sheet { IsSheet self.now }
+        requires ground { IsGround errand.now.ground }
+        requires part { part_ok errand.now.code.now errand.now.part ≡ true }
+        requires high { place < errand.now.part.past }
+        ensures { IfOk result (λ b. b ≡ true → (ins : AnyIns) (c : AnyClass) (p : List ℕ) → slice_get errand.now.code.now place ≡ Some ins → slice_get self.now.roll.classes.items number ≡ Some c → IsWithin (tops_in self.now) p → class_at self.now p ≡ number → holds ins.cond (seen_at errand.now.ground.site.now errand.now.ground.state errand.now.part c.progress p) ≡ true) }
+    {
+        let look = self.look(errand, number)?;
+        let class = self.roll.used(number)?;
+        let ins = &errand.code[place as usize];
+        Ok(look.holds(&class.progress, &ins.cond).is_held())
+    }
+
+    /// The class with this number, if it stands at the place, passes the instruction there as a whole, if the condition holds for all
+    /// of its packets as far as is known.
+    fn pass_held(
+        &mut self,
+        alloc: Global,
+        errand: &Errand<'_, '_>,
+        number: u32,
+        place: u32,
+    ) -> Result<(), Memory>
+        requires sheet { IsSheet self.old }
+        requires ground { IsGround errand.now.ground }
+        requires tops { tops_in self.old ≡ tops_of errand.now.ground.site.now }
+        requires part { part_ok errand.now.code.now errand.now.part ≡ true }
+        requires low { errand.now.part.first ≤ place }
+        ensures sheet { OnOk result (IsSheet self.new) }
+        ensures kept { OnOk result (Keeps errand.now self.old self.new) }
+        ensures tops { tops_in self.new ≡ tops_in self.old }
+    {
+        if place >= errand.part.past {
+            return Ok(());
+        }
+        if !self.holds_whole(errand, number, place)? {
+            return Ok(());
+        }
+        self.pass_whole(alloc, errand, number, place)?;
         Ok(())
     }
 
@@ -244,8 +304,15 @@ impl Sheet {
         }
     }
 
-    /// The class with this number, if it stands at the place and may leap, goes to where its packets come as they are.
-    fn leap_one(&mut self, errand: &Errand<'_, '_>, number: u32, place: u32) -> Result<(), Memory>
+    /// The class with this number, if it stands at the place and may leap, goes to where its packets come as they are, and passes the
+    /// instruction there if that acts on all of them.
+    fn leap_one(
+        &mut self,
+        alloc: Global,
+        errand: &Errand<'_, '_>,
+        number: u32,
+        place: u32,
+    ) -> Result<(), Memory>
         requires sheet { IsSheet self.old }
         requires ground { IsGround errand.now.ground }
         requires tops { tops_in self.old ≡ tops_of errand.now.ground.site.now }
@@ -262,13 +329,16 @@ impl Sheet {
         if !self.may_leap(errand, number, place) {
             return Ok(());
         }
-        self.go_on(errand, number, place)?;
+        let to = self.go_on(errand, number, place)?;
+        self.pass_held(alloc, errand, number, to)?;
         Ok(())
     }
 
-    /// Those of the classes with these numbers that stand at the place and may leap go to where their packets come as they are.
+    /// Those of the classes with these numbers that stand at the place and may leap go to where their packets come as they are, and
+    /// pass what acts on all of them there.
     pub(crate) fn leap(
         &mut self,
+        alloc: Global,
         errand: &Errand<'_, '_>,
         numbers: &[u32],
         place: u32,
@@ -284,7 +354,7 @@ impl Sheet {
         ensures tops { tops_in self.new ≡ tops_in self.old }
     {
         for number in numbers {
-            self.leap_one(errand, *number, place)?;
+            self.leap_one(alloc, errand, *number, place)?;
         }
         Ok(())
     }

@@ -1,16 +1,20 @@
 //! How classes pass instructions of a part.
 
-ghost use Rattle.std.specs.Prelude.{◌≡◌, ◌≢◌, ◌<◌, ◌≤◌, ◌+◌, ◌^◌, ℕ, true, false, [], length, slice_get, Some, OnOk};
+ghost use Rattle.std.specs.Prelude.{◌≡◌, ◌≢◌, ◌<◌, ◌≤◌, ◌+◌, ◌^◌, ℕ, List, true, false, [], length, slice_get, Some, OnOk};
 ghost use Rattle.std.specs.List.{list_all};
+ghost use Rattle.fws_box.specs.Sides.{IsWithin};
 ghost use Rattle.fws_flat.specs.Soundness.{part_ok};
+ghost use Rattle.fws_net.specs.Conditions.{holds};
 ghost use Rattle.fws_net.specs.Points.{tops_of};
 ghost use Rattle.fws_flat.specs.declared.code.Ins.{Ins as AnyIns};
+ghost use Rattle.fws_exec.specs.declared.spot.Class.{Class as AnyClass};
 ghost use Rattle.fws_exec.specs.declared.spot.Spot.TheVariants.{At};
+ghost use Rattle.fws_exec.specs.Divided.{seen_at};
 ghost use Rattle.fws_exec.specs.Courses.{Keeps};
 ghost use Rattle.fws_exec.specs.Grounds.{IsGround};
 ghost use Rattle.fws_exec.specs.Passing.{Passed, IsOnward};
 ghost use Rattle.fws_exec.specs.Runs.{leaves, run_of};
-ghost use Rattle.fws_exec.specs.Sheets.{among, tops_in, AllAt, IsPut, IsSheet};
+ghost use Rattle.fws_exec.specs.Sheets.{among, class_at, tops_in, AllAt, IsPut, IsSheet};
 ghost use Rattle.fws_exec.specs.Views.{is_tagless};
 
 use crate::errand::Errand;
@@ -174,9 +178,10 @@ impl Sheet {
         Ok(())
     }
 
-    /// The class with this number, if it stands at the place, passes the instruction there as a whole. If it is asked for uses of the
-    /// instruction and none is found, the class has no points: it is dropped, so that it isn't asked for its points again.
-    fn pass_whole(
+    /// The class with this number, if it stands at the place, passes the instruction there as a whole: the condition holds for all of
+    /// its packets. If it is asked for uses of the instruction and none is found, the class has no points: it is dropped, so that it
+    /// isn't asked for its points again.
+    pub(crate) fn pass_whole(
         &mut self,
         alloc: Global,
         errand: &Errand<'_, '_>,
@@ -188,7 +193,7 @@ impl Sheet {
         requires tops { tops_in self.old ≡ tops_of errand.now.ground.site.now }
         requires low { errand.now.part.first ≤ place }
         requires high { place < errand.now.part.past }
-        requires always { (ins : AnyIns) → slice_get errand.now.code.now place ≡ Some ins → ins.cond ≡ [] }
+        requires held { (ins : AnyIns) (c : AnyClass) (p : List ℕ) → slice_get errand.now.code.now place ≡ Some ins → slice_get self.old.roll.classes.items number ≡ Some c → IsWithin (tops_in self.old) p → class_at self.old p ≡ number → holds ins.cond (seen_at errand.now.ground.site.now errand.now.ground.state errand.now.part c.progress p) ≡ true }
         ensures sheet { OnOk result (IsSheet self.new) }
         ensures kept { OnOk result (Keeps errand.now self.old self.new) }
         ensures tops { tops_in self.new ≡ tops_in self.old }

@@ -70,4 +70,15 @@ impl Truth {
             Truth::Open => false,
         }
     }
+
+    /// Whether it is known to hold.
+    pub(crate) fn is_held(self) -> bool
+        ensures { result ≡ true → (b : Bool) → Tells self b → b ≡ true }
+    {
+        match self {
+            Truth::Holds => true,
+            Truth::Fails => false,
+            Truth::Open => false,
+        }
+    }
 }

@@ -113,7 +113,7 @@ impl Sheet {
     {
         self.meet(alloc, place)?;
         let came = self.roll.waiting_at(alloc, place)?;
-        self.leap(errand, came.as_slice(), place)?;
+        self.leap(alloc, errand, came.as_slice(), place)?;
         let here = self.roll.waiting_at(alloc, place)?;
         self.visit(alloc, errand, here.as_slice(), place)?;
         self.forget(alloc, place);

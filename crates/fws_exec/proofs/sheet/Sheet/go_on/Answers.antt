@@ -20,5 +20,5 @@ returns-clause-kept c =
     let here = c.requires.here in
     keeps_then c.args.errand.now c.args.self.now gone came
     (gone_kept c.args.errand.now c.args.place c.in_ok-to.to c.args.number (record { spot = At c.args.place; progress = here.0 }) c.args.self.now gone c.requires.tops (here.1, refl) refl
-    (c.send.ensures (record { spot = At c.args.place; progress = here.0 }) here.1) refl refl c.in_ok-to.ensures)
+    (c.send.ensures (record { spot = At c.args.place; progress = here.0 }) here.1) refl refl c.in_ok-to.ensures.comes)
     (keeps_by c.args.errand.now gone came c.requires.tops refl (same_futures gone came refl (ap (λ v. v.items) c.arrive.ensures)))

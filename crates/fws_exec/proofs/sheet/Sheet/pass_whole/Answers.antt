@@ -23,7 +23,8 @@ returns-clause-kept c =
     c.note_whole.ensures.same (ap (λ (r : Roll). r.classes.items) c.note_whole.ensures.roll) used
     (ap (λ k. k.spot) (same_Some gone.0 (record { spot = At c.args.place; progress = here.0 }) (sym used.0 ∙ here.1)))
     (subst (λ g. Goes g 1 gone.0.progress c.in_ok-class.class) c.going.ensures gone.2)
-    c.in_ok-put-2.ensures.put c.put-2.ensures.same (ap (λ v. v.items) c.put-2.ensures.reached) (c.requires.always (get_or c.args.errand.now.code.now c.args.place c.index-errand-place.result) got)
+    c.in_ok-put-2.ensures.put c.put-2.ensures.same (ap (λ v. v.items) c.put-2.ensures.reached)
+    (λ p. c.requires.held (get_or c.args.errand.now.code.now c.args.place c.index-errand-place.result) gone.0 p got used.0)
     (λ aim p. course_obeys c.args.errand.now aim p c.args.place (get_or c.args.errand.now.code.now c.args.place c.index-errand-place.result) c.requires.high got (part_jumps c.args.errand.now.code.now c.args.errand.now.part c.args.place (get_or c.args.errand.now.code.now c.args.place c.index-errand-place.result) c.requires.part c.requires.low c.requires.high got))
     c.in_ok-note_whole.ensures.noted
 
