@@ -156,7 +156,15 @@ fn redirect_passing(
     Ok(Redirected { behind, sendings })
 }
 
-/// What of the host's packets may be written over: where that is asked nothing over those that are dropped.
+/// Where packets pass or drop, of those that differ in flags and ICMP types alone: both where some pass. Rules that translate can't tell
+/// these apart.
+fn of_any_detail(policy: &mut Policy, verdict: Diagram) -> Result<Diagram, Stop> {
+    let wide = policy.space.project(verdict, FLAGS, Meeting::Either)?;
+    policy.space.project(wide, ICMP, Meeting::Either)
+}
+
+/// What of the host's packets may be written over: where that is asked nothing over those that are dropped whatever their flags
+/// and ICMP types are.
 fn own_sendings(
     policy: &mut Policy,
     free: &Free,
@@ -171,7 +179,8 @@ fn own_sendings(
     let mut table = Vec::new(policy.alloc);
     table.push(policy.space.only(0)?)?;
     table.push(Mask::ALL)?;
-    let kept = policy.translated(verdict, &table)?;
+    let wide = of_any_detail(policy, verdict)?;
+    let kept = policy.translated(wide, &table)?;
     policy.space.meet(own, kept)
 }
 
