@@ -366,22 +366,40 @@ fn redirected_behind(
     Ok(found)
 }
 
-/// How destinations are translated, and what is dropped ahead of it. It gives up where none of the ways is open.
+/// How no destination is translated.
+fn none_redirected(policy: &mut Policy) -> Result<Redirected, Stop> {
+    let behind = policy.direct()?;
+    Ok(Redirected {
+        arriving: Vec::new(policy.alloc),
+        own: Vec::new(policy.alloc),
+        is_tagged: false,
+        behind,
+    })
+}
+
+/// How destinations are translated of packets that pass alone. It gives up where two packets that must fare differently become one.
+fn redirected_strictly(policy: &mut Policy) -> Result<Redirected, Stop> {
+    match redirected_by(policy, Reach::Strict, false)? {
+        Some(found) => Ok(found),
+        None => Err(Stop::Late),
+    }
+}
+
+/// How destinations are translated, and what is dropped ahead of it: of packets that pass alone where that is asked. It gives up where
+/// none of the ways is open.
 pub(crate) fn redirected(
     policy: &mut Policy,
     original: Diagram,
     established: Option<Diagram>,
     before: &mut Ahead,
+    is_strict: bool,
     source: &Flat,
 ) -> Result<Redirected, Stop> {
     if policy.destinations.len() == 1 {
-        let behind = policy.direct()?;
-        return Ok(Redirected {
-            arriving: Vec::new(policy.alloc),
-            own: Vec::new(policy.alloc),
-            is_tagged: false,
-            behind,
-        });
+        return none_redirected(policy);
+    }
+    if is_strict {
+        return redirected_strictly(policy);
     }
     for reach in [Reach::Wide, Reach::Near] {
         if let Some(found) = redirected_by(policy, reach, false)? {
@@ -394,10 +412,7 @@ pub(crate) fn redirected(
     if let Some(found) = redirected_by(policy, Reach::Near, true)? {
         return Ok(found);
     }
-    match redirected_by(policy, Reach::Strict, false)? {
-        Some(found) => Ok(found),
-        None => Err(Stop::Late),
-    }
+    redirected_strictly(policy)
 }
 
 /// What sources may be written over those of packets that are forwarded.

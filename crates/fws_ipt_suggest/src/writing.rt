@@ -33,17 +33,25 @@ fn before_translations(
     })
 }
 
-/// How addresses are translated, and what is dropped ahead of it.
+/// How addresses are translated, and what is dropped ahead of it: destinations of packets that pass alone where that is asked.
 fn translations_of(
     policy: &mut Policy,
     site: &Site,
     established: Option<Diagram>,
     early: Early,
+    is_strict: bool,
     source: &Flat,
 ) -> Result<Translations, Stop> {
     let original = policy.fresh;
     let mut before = before_translations(policy, original, established, early, source)?;
-    let redirected = redirected(policy, original, established, &mut before, source)?;
+    let redirected = redirected(
+        policy,
+        original,
+        established,
+        &mut before,
+        is_strict,
+        source,
+    )?;
     let sent = sent(policy, site, redirected.behind)?;
     Ok(Translations {
         before,
@@ -240,17 +248,22 @@ struct Suggestion {
     text: Text,
     /// How many rules it has.
     count: usize,
+    /// Whether packets whose destination is written get a mark.
+    is_marked: bool,
 }
 
-/// The text that is found of a policy. It gives up where there is none.
+/// The text that is found of a policy, in which destinations of packets that pass alone are written where that is asked. It gives up
+/// where there is none.
 fn found(
     policy: &mut Policy,
     established: Established,
     site: &Site,
     hints: &Flat,
     early: Early,
+    is_strict: bool,
 ) -> Result<Suggestion, Stop> {
-    let translations = translations_of(policy, site, established.ahead, early, hints)?;
+    let ahead = established.ahead;
+    let translations = translations_of(policy, site, ahead, early, is_strict, hints)?;
     let behind = translations.redirected.behind;
     let versions = versions_of(policy, behind, established.behind, hints)?;
     let writer = Writer {
@@ -263,7 +276,11 @@ fn found(
     let mut text = Text::new(policy.alloc);
     put_head(&mut text, site)?;
     let count = put_tables(&writer, &mut text, policy, &translations, &versions)?;
-    Ok(Suggestion { text, count })
+    Ok(Suggestion {
+        text,
+        count,
+        is_marked: translations.redirected.is_tagged,
+    })
 }
 
 /// Puts a text among others by how many rules it has, behind those with as many; nothing where the search gave up.
@@ -311,7 +328,7 @@ fn put_whole(
     let established = policy.established(&tables.est, true)?;
     if established.ahead.is_some() {
         let early = early_of(policy, established);
-        let whole = found(policy, established, site, hints, early);
+        let whole = found(policy, established, site, hints, early, false);
         put_found(all, whole)?;
     }
     Ok(())
@@ -333,6 +350,29 @@ fn is_split(established: Established) -> bool {
     established.ahead.is_some() && established.behind.is_some()
 }
 
+/// Whether packets get marks in the text with fewest rules.
+fn is_marked(all: &[Suggestion]) -> bool {
+    match all.first() {
+        Some(first) => first.is_marked,
+        None => false,
+    }
+}
+
+/// Puts the text that is found in half of the steps that are left, where there is one.
+fn put_within(
+    all: &mut Vec<Suggestion>,
+    policy: &mut Policy,
+    established: Established,
+    site: &Site,
+    hints: &Flat,
+    is_strict: bool,
+) -> Result<(), Memory> {
+    let before = policy.hold_back(2);
+    let text = found(policy, established, site, hints, Early::May, is_strict);
+    policy.let_go(before);
+    put_found(all, text)
+}
+
 /// The texts that are found of tables, those with fewest rules first.
 fn all_found(
     alloc: Global,
@@ -346,12 +386,13 @@ fn all_found(
     let original = policy.fresh;
     let established = policy.established(&tables.est, false)?;
     let mut all = Vec::new(alloc);
-    let before = policy.hold_back(2);
-    let plain = found(&mut policy, established, site, hints, Early::May);
-    policy.let_go(before);
-    put_found(&mut all, plain)?;
+    put_within(&mut all, &mut policy, established, site, hints, false)?;
     if is_long(&all) && !is_split(established) {
         return Ok(all);
+    }
+    if is_marked(&all) {
+        policy.fresh = original;
+        put_within(&mut all, &mut policy, established, site, hints, true)?;
     }
     policy.fresh = original;
     match put_whole(&mut all, &mut policy, tables, site, hints) {
@@ -374,7 +415,11 @@ pub fn suggest(
     match all_found(alloc, tables, site, hints) {
         Ok(all) => {
             for found in all {
-                let Suggestion { text, count: _ } = found;
+                let Suggestion {
+                    text,
+                    count: _,
+                    is_marked: _,
+                } = found;
                 texts.push(text)?;
             }
         }
