@@ -566,6 +566,28 @@ struct Version {
     count: usize,
 }
 
+/// Whether so many rules are no more than those of the best version so far, or there is none.
+fn is_as_short(best: &Option<Version>, count: usize) -> bool {
+    match best {
+        Some(before) => count <= before.count,
+        None => true,
+    }
+}
+
+/// Takes a version where it has no more rules than the best one so far; nothing where it can't be written.
+fn take_shorter(best: &mut Option<Version>, found: Result<Version, Stop>) -> Result<(), Memory> {
+    match found {
+        Ok(version) => {
+            if is_as_short(best, version.count) {
+                *best = Some(version);
+            }
+            Ok(())
+        }
+        Err(Stop::Late) => Ok(()),
+        Err(Stop::Memory) => Err(Memory),
+    }
+}
+
 /// Appends the table filter in the version of its chains that has fewest rules, and gives their number.
 fn put_filter(
     writer: &Writer,
@@ -575,14 +597,8 @@ fn put_filter(
 ) -> Result<usize, Stop> {
     let mut best: Option<Version> = None;
     for filters in versions {
-        let version = filter_text(writer, policy, filters)?;
-        let is_shorter = match &best {
-            Some(before) => version.count <= before.count,
-            None => true,
-        };
-        if is_shorter {
-            best = Some(version);
-        }
+        let version = filter_text(writer, policy, filters);
+        take_shorter(&mut best, version)?;
     }
     match &best {
         Some(best) => {

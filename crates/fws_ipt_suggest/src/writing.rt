@@ -177,21 +177,72 @@ fn put_all_versions(
     put_versions(policy, plain, hints, versions)
 }
 
-/// Puts versions of the chains whose lists are sought as if nothing led to chains of its own; nothing where the search gave up.
-fn put_flat_versions(
+/// Puts versions of the chains whose lists are sought as if rules led to chains of their own, or as if none did.
+fn put_plain_versions(
+    policy: &mut Policy,
+    fresh: Diagram,
+    established: Option<Diagram>,
+    calls_chains: bool,
+    hints: &Flat,
+    versions: &mut Vec<Filters>,
+) -> Result<(), Stop> {
+    let questions = questions_of(policy, fresh, established, calls_chains)?;
+    let plain = base_of(policy, questions, hints)?;
+    put_all_versions(policy, plain, questions.output, hints, versions)?;
+    Ok(())
+}
+
+/// Puts versions of the chains whose lists begin with the source's own rules, where there is room; nothing where the search gave up.
+fn put_following_versions(
     policy: &mut Policy,
     fresh: Diagram,
     established: Option<Diagram>,
     hints: &Flat,
     versions: &mut Vec<Filters>,
 ) -> Result<(), Stop> {
-    let questions = questions_of(policy, fresh, established, false)?;
-    let plain = base_of(policy, questions, hints)?;
-    put_all_versions(policy, plain, questions.output, hints, versions)?;
-    Ok(())
+    if policy.space.size() > MOST_WORDS_PASSING {
+        return Ok(());
+    }
+    let lent = policy.lend(LENT);
+    policy.follows_source = true;
+    let put = put_plain_versions(policy, fresh, established, true, hints, versions);
+    policy.follows_source = false;
+    policy.give_back(lent);
+    put
 }
 
-/// Versions of the chains of the table filter: each by itself, and with what some have in common.
+/// Puts versions of the chains for which long rules count as much as short ones, where there is room; nothing where the search gave up.
+fn put_terse_versions(
+    policy: &mut Policy,
+    fresh: Diagram,
+    established: Option<Diagram>,
+    hints: &Flat,
+    versions: &mut Vec<Filters>,
+) -> Result<(), Stop> {
+    if policy.space.size() > MOST_WORDS_PASSING {
+        return Ok(());
+    }
+    let lent = policy.lend(LENT);
+    policy.counts_lines = true;
+    let put = put_plain_versions(policy, fresh, established, true, hints, versions);
+    policy.counts_lines = false;
+    policy.give_back(lent);
+    put
+}
+
+/// In how many parts steps are lent for further versions.
+const LENT: u64 = 4;
+
+/// Nothing where the search gave up.
+fn if_found(put: Result<(), Stop>) -> Result<(), Memory> {
+    match put {
+        Ok(()) | Err(Stop::Late) => Ok(()),
+        Err(Stop::Memory) => Err(Memory),
+    }
+}
+
+/// Versions of the chains of the table filter: each by itself, and with what some have in common. Of those that are as short the last
+/// one counts.
 fn versions_of(
     policy: &mut Policy,
     behind: Diagram,
@@ -199,18 +250,21 @@ fn versions_of(
     hints: &Flat,
 ) -> Result<Vec<Filters>, Stop> {
     let fresh = policy.verdict(behind)?;
+    let mut others = Vec::new(policy.alloc);
     let questions = questions_of(policy, fresh, established, true)?;
     let plain = base_of(policy, questions, hints)?;
-    let mut versions = Vec::new(policy.alloc);
     // what is left is for writing them
     let before = policy.hold_back(3);
-    put_all_versions(policy, plain, questions.output, hints, &mut versions)?;
-    let flat = put_flat_versions(policy, fresh, established, hints, &mut versions);
+    put_all_versions(policy, plain, questions.output, hints, &mut others)?;
+    if_found(put_plain_versions(policy, fresh, established, false, hints, &mut others))?;
     policy.let_go(before);
-    match flat {
-        Ok(()) | Err(Stop::Late) => Ok(versions),
-        Err(Stop::Memory) => Err(Stop::Memory),
+    let mut versions = Vec::new(policy.alloc);
+    if_found(put_terse_versions(policy, fresh, established, hints, &mut versions))?;
+    if_found(put_following_versions(policy, fresh, established, hints, &mut versions))?;
+    for filters in others {
+        versions.push(filters)?;
     }
+    Ok(versions)
 }
 
 /// Appends the head: what the text is, and which interface is which where the site has names of its own for them.

@@ -133,6 +133,22 @@ fn colours(alloc: Global) -> Result<Vec<Colour>, Memory> {
     Ok(colours)
 }
 
+/// The source's rules for packets that come in: of those that pass each puts a tag, too, where it has to.
+fn hints(policy: &Policy) -> Result<Vec<Rule>, Memory> {
+    let coming = policy.coming_hints()?;
+    let mut hints = Vec::new(policy.alloc);
+    for rule in &coming {
+        hints.push(*rule)?;
+        if rule.colour == ACCEPT {
+            hints.push(Rule {
+                region: rule.region,
+                colour: TAGGED,
+            })?;
+        }
+    }
+    Ok(hints)
+}
+
 /// The list for packets that come in, which puts a tag where that is needed.
 fn plain_list(policy: &mut Policy, coming: Diagram, later: Diagram) -> Result<List, Stop> {
     let passes = policy.space.mask(&[ACCEPT, TAGGED])?;
@@ -140,7 +156,7 @@ fn plain_list(policy: &mut Policy, coming: Diagram, later: Diagram) -> Result<Li
     let diagram = allowed_by(policy, coming, later, passes, surely)?;
     let all = colours(policy.alloc)?;
     let mut task = task_for(policy.alloc, diagram, all, &[DROP, ACCEPT, TAGGED])?;
-    task.hints = policy.coming_hints()?;
+    task.hints = hints(policy)?;
     let everywhere = policy.space.full(DST);
     solved_by(policy, Settings::pf(), everywhere, &task)
 }

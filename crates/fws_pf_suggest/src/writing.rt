@@ -194,6 +194,36 @@ fn put_within(
     put
 }
 
+/// Puts the texts whose lists begin with the source's own rules among the others.
+fn put_following(
+    all: &mut Vec<Tried>,
+    policy: &mut Policy,
+    site: &Site,
+    free: &Free,
+) -> Result<(), Memory> {
+    let lent = policy.lend(LENT);
+    policy.follows_source = true;
+    let put = put_if_found(all, policy, site, free, true);
+    policy.follows_source = false;
+    policy.give_back(lent);
+    put
+}
+
+/// Puts the texts for which long statements count as much as short ones among the others.
+fn put_terse(
+    all: &mut Vec<Tried>,
+    policy: &mut Policy,
+    site: &Site,
+    free: &Free,
+) -> Result<(), Memory> {
+    let lent = policy.lend(LENT);
+    policy.counts_lines = true;
+    let put = put_if_found(all, policy, site, free, true);
+    policy.counts_lines = false;
+    policy.give_back(lent);
+    put
+}
+
 /// Puts the texts that are found of a policy, with interfaces on which all passes and without.
 fn put_ways(all: &mut Vec<Tried>, policy: &mut Policy, site: &Site) -> Result<(), Stop> {
     let is_small = policy.space.size() < FEW_WORDS;
@@ -211,8 +241,15 @@ fn put_ways(all: &mut Vec<Tried>, policy: &mut Policy, site: &Site) -> Result<()
         let none = Free::none(policy);
         put_if_found(all, policy, site, &none, is_small)?;
     }
+    if is_small {
+        put_following(all, policy, site, &loopback)?;
+        put_terse(all, policy, site, &loopback)?;
+    }
     Ok(())
 }
+
+/// In how many parts steps are lent for further texts.
+const LENT: u64 = 3;
 
 /// The most words of diagrams with which more ways are tried once a text is found.
 const FEW_WORDS: usize = 20_000;

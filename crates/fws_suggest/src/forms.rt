@@ -27,6 +27,9 @@ pub struct Sought {
     pub wide: bool,
 }
 
+/// By what the words of a line are divided where they count little.
+const LITTLE: u64 = 4;
+
 /// What the rule costs that decides in a region, in thousandths of a line. Where lists may lead to others, sources, destinations,
 /// entries and services that take several lines each need not be written with one another.
 pub(crate) fn cost_of(style: &mut Style, space: &mut Space, region: &Region) -> Result<u64, Stop> {
@@ -52,6 +55,9 @@ pub(crate) fn cost_of(style: &mut Style, space: &mut Space, region: &Region) -> 
     }
     if style.settings.calls_chains && apart > 0 {
         lines = lines.min(apart);
+    }
+    if style.counts_lines {
+        words /= LITTLE;
     }
     Ok(lines.saturating_mul(1000).saturating_add(words))
 }

@@ -1,6 +1,7 @@
 //! Lists that begin with the source's own rules.
 
 use crate::best::Offers;
+use crate::forms::Sought;
 use crate::plan::{DEAR, Errand, NESTED, Place};
 use crate::rules::Rule;
 use crate::running::run;
@@ -32,9 +33,32 @@ fn widened(
         let needs_protocols = field == PROTO && style.protocols_for(space, &wide)?.is_some();
         if !needs_protocols && space.is_allowed(diagram, &wide, hint.colour)? {
             region = wide;
+        } else if field == ENTRY && style.follows_source {
+            region = by_fewer_entries(space, style, diagram, &region, hint.colour)?;
         }
     }
     Ok(region)
+}
+
+/// The region with the entries that are shorter to write, where more are allowed than it has.
+fn by_fewer_entries(
+    space: &mut Space,
+    style: &mut Style,
+    diagram: Diagram,
+    region: &Region,
+    colour: u32,
+) -> Result<Region, Stop> {
+    let side = region.side(ENTRY);
+    let allowed = space.allowed(diagram, region, ENTRY, colour)?;
+    let sought = Sought {
+        field: ENTRY,
+        least: side,
+        most: space.either(allowed, side)?,
+        wanted: side,
+        wide: false,
+    };
+    let chosen = style.chosen(space, sought)?;
+    Ok(region.with(ENTRY, chosen))
 }
 
 /// Puts the hints that are right where nothing was decided before, until a step, with the diagrams ahead of them, and gives what

@@ -46,6 +46,7 @@ pub use prefixes::{is_network, network_of};
 pub use problems::{ACCEPT, DROP, Established, Exit, Policy, Reach};
 pub use rules::{List, Rule};
 pub use settings::{Settings, System};
+pub use sizes::Lent;
 pub use solving::{Colour, Task};
 pub use style::{Address, AddressForm, Destination, Leaving, Ranges, Style};
 pub use tasks::{end_colours, plain_colour, solved, task_for, verdict_task};

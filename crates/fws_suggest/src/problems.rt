@@ -83,6 +83,10 @@ pub struct Policy {
     pub(crate) coming: Vec<Rule>,
     /// The source's rules for new packets of the host's own.
     pub(crate) sending: Vec<Rule>,
+    /// Whether lists begin with the source's own rules, where there are such, and no other lists are sought.
+    pub follows_source: bool,
+    /// Whether what lines have counts little beside how many there are.
+    pub counts_lines: bool,
 }
 
 impl Drop for Policy {
@@ -106,6 +110,8 @@ impl Drop for Policy {
             steps: _,
             coming,
             sending,
+            follows_source: _,
+            counts_lines: _,
         } = self;
         drop(space);
         drop(outcomes);
@@ -292,6 +298,8 @@ impl Policy {
             steps: u64::MAX,
             coming: Vec::new(alloc),
             sending: Vec::new(alloc),
+            follows_source: false,
+            counts_lines: false,
         })
     }
 
@@ -351,6 +359,8 @@ impl Policy {
     pub fn style(&self, settings: Settings, universe: Side) -> Result<Style, Memory> {
         let mut style = Style::new(self.alloc, &self.space, settings)?;
         style.universe = universe;
+        style.follows_source = self.follows_source;
+        style.counts_lines = self.counts_lines;
         self.tell(&mut style)?;
         Ok(style)
     }

@@ -20,6 +20,13 @@ const MOST: u64 = 150_000_000;
 /// Of how many of the others one is taken for shorter lists.
 const SHARE: u64 = 5;
 
+/// Steps that are lent: what was the last one, and the first of those that are lent.
+#[derive(Clone, Copy)]
+pub struct Lent {
+    last: u64,
+    first: u64,
+}
+
 /// How many nodes there are, and intervals of their parts.
 fn size_of(nodes: &[Node]) -> u64 {
     let mut size: u64 = 0;
@@ -70,5 +77,20 @@ impl Policy {
     /// Lets searches take the steps that were held back.
     pub fn let_go(&mut self, before: u64) {
         self.space.set_limit(before);
+    }
+
+    /// Lets searches take one of so many parts of all steps, whatever is left, until `give_back` is called with what this gives.
+    pub fn lend(&mut self, parts: u64) -> Lent {
+        let last = self.space.last_step();
+        let first = self.space.steps();
+        let more = self.steps.checked_div(parts).unwrap_or(0);
+        self.space.set_limit(first.saturating_add(more));
+        Lent { last, first }
+    }
+
+    /// Leaves searches what was left before steps were lent.
+    pub fn give_back(&mut self, lent: Lent) {
+        let taken = self.space.steps().saturating_sub(lent.first);
+        self.space.set_limit(lent.last.saturating_add(taken));
     }
 }

@@ -186,6 +186,25 @@ fn try_grounds(
     Ok(())
 }
 
+/// Offers the lists that begin with the source's own rules: once there is one, in so many steps.
+pub(crate) fn solve_by_hints(
+    space: &mut Space,
+    style: &mut Style,
+    task: &Task,
+    steps: u64,
+    offers: &mut Offers,
+) -> Result<(), Stop> {
+    let enough = space.steps().saturating_add(steps).min(space.last_step());
+    let errand = Errand {
+        task,
+        plan: Plan::thorough(enough),
+    };
+    for default in &task.defaults {
+        try_hints(space, style, &errand, *default, offers)?;
+    }
+    Ok(())
+}
+
 /// Offers lists for a diagram with few paths: once there is one, in so many steps.
 pub(crate) fn solve_small(
     space: &mut Space,

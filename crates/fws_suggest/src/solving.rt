@@ -3,7 +3,7 @@
 use crate::best::Offers;
 use crate::large::{fewest_paths, solve_large};
 use crate::rules::{List, Rule};
-use crate::small::{penalty, solve_small};
+use crate::small::{penalty, solve_by_hints, solve_small};
 use crate::style::Style;
 use fws_diagram::{Diagram, Space, Stop};
 use fws_num::Memory;
@@ -78,6 +78,9 @@ fn offer_lists(
             offers.offer(*default, cost);
             return Ok(());
         }
+    }
+    if style.follows_source && !task.hints.is_empty() {
+        return solve_by_hints(space, style, task, budget.enough, offers);
     }
     let paths = fewest_paths(space, task)?;
     if paths <= FEW_PATHS {

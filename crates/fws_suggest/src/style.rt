@@ -69,6 +69,10 @@ pub struct Style {
     pub local: Side,
     /// The host's own addresses, as sources.
     pub source_local: Side,
+    /// Whether lists begin with the source's own rules, where there are such, and no other lists are sought.
+    pub follows_source: bool,
+    /// Whether what lines have counts little beside how many there are.
+    pub counts_lines: bool,
     // The destinations that go out by each interface.
     pub(crate) exits: Vec<Leaving>,
     // The networks that the site or the policy names, rising.
@@ -95,6 +99,8 @@ impl Drop for Style {
             universe: _,
             local: _,
             source_local: _,
+            follows_source: _,
+            counts_lines: _,
             exits,
             networks,
             own: _,
@@ -134,6 +140,8 @@ impl Style {
             universe: space.full(DST),
             local: Side::EMPTY,
             source_local: Side::EMPTY,
+            follows_source: false,
+            counts_lines: false,
             exits: Vec::new(alloc),
             networks: Vec::new(alloc),
             own: Ranges(0),
