@@ -6,7 +6,7 @@ use crate::rules::Writer;
 use crate::sharing::{Common, common_part, split_by};
 use crate::text::{Lines, put_line};
 use fws_num::{Memory, Text, put_dec};
-use fws_suggest::{ACCEPT, Policy, Region, Rule, Stop, Style};
+use fws_suggest::{ACCEPT, FIELDS, Policy, Region, Rule, Stop, Style};
 use std::alloc::Global;
 use std::mem;
 
@@ -37,8 +37,49 @@ pub(crate) struct Sheet {
     /// Whether a chain of the user's has rules that lead to the chain of what leaves, so that a packet which that doesn't decide would
     /// come back.
     pub(crate) leads_within: bool,
+    /// Whether rules of one colour are gathered that others stand between, where these decide other packets.
+    gathers: bool,
     waiting: Vec<Waiting>,
     chains: usize,
+}
+
+/// Whether two rules decide on no packet that both meet.
+fn are_apart(policy: &mut Policy, one: &Region, other: &Region) -> Result<bool, Memory> {
+    for field in 0..FIELDS {
+        if !policy.space.meets(one.side(field), other.side(field))? {
+            return Ok(true);
+        }
+    }
+    Ok(false)
+}
+
+/// Where a rule may stand behind the rules: directly behind the last one of its colour, if those behind that decide other packets, and
+/// else behind all of them.
+fn place_for(policy: &mut Policy, rules: &[Rule], rule: &Rule) -> Result<usize, Memory> {
+    for place in (0..rules.len()).rev() {
+        let Some(before) = rules.get(place).copied() else {
+            break;
+        };
+        if before.colour == rule.colour {
+            return Ok(place.saturating_add(1));
+        }
+        if !are_apart(policy, &before.region, &rule.region)? {
+            break;
+        }
+    }
+    Ok(rules.len())
+}
+
+/// The rules with those of one colour beside one another, as far as that changes nothing.
+fn gathered(policy: &mut Policy, rules: &[Rule]) -> Result<Vec<Rule>, Memory> {
+    let mut all = Vec::new(policy.alloc);
+    for rule in rules {
+        let place = place_for(policy, &all, rule)?;
+        if place <= all.len() {
+            all.insert(place, *rule)?;
+        }
+    }
+    Ok(all)
 }
 
 /// The verdict that a colour is.
@@ -55,9 +96,17 @@ impl Sheet {
             body: Text::new(alloc),
             count: 0,
             leads_within: false,
+            gathers: false,
             waiting: Vec::new(alloc),
             chains: 0,
         }
+    }
+
+    /// No rule, where rules of one colour are gathered or stay where they are.
+    pub(crate) fn gathering(alloc: Global, gathers: bool) -> Sheet {
+        let mut sheet = Sheet::new(alloc);
+        sheet.gathers = gathers;
+        sheet
     }
 
     /// Appends lines behind a heading, if there are any.
@@ -155,8 +204,26 @@ impl Sheet {
         Ok(())
     }
 
-    /// Appends rules, of which those of one colour beside one another may stand in any order.
+    /// Appends rules, gathered where that is asked.
     pub(crate) fn put_rules(
+        &mut self,
+        writer: &Writer,
+        policy: &mut Policy,
+        style: &mut Style,
+        lines: &mut Lines,
+        chain: &[u8],
+        rules: &[Rule],
+    ) -> Result<(), Stop> {
+        if self.gathers {
+            let together = gathered(policy, rules)?;
+            self.put_runs(writer, policy, style, lines, chain, &together)
+        } else {
+            self.put_runs(writer, policy, style, lines, chain, rules)
+        }
+    }
+
+    /// Appends rules, of which those of one colour beside one another may stand in any order.
+    fn put_runs(
         &mut self,
         writer: &Writer,
         policy: &mut Policy,

@@ -497,9 +497,14 @@ fn put_policies(out: &mut Text, filters: &Filters) -> Result<(), Memory> {
     put_chain(out, b"OUTPUT", filters.output.list.default != DROP)
 }
 
-/// The rules of the table filter.
-fn filter_sheet(writer: &Writer, policy: &mut Policy, filters: &Filters) -> Result<Sheet, Stop> {
-    let mut sheet = Sheet::new(writer.alloc);
+/// The rules of the table filter, gathered by colours where that is asked.
+fn filter_sheet(
+    writer: &Writer,
+    policy: &mut Policy,
+    filters: &Filters,
+    gathers: bool,
+) -> Result<Sheet, Stop> {
+    let mut sheet = Sheet::gathering(writer.alloc, gathers);
     put_filter_chains(writer, &mut sheet, policy, filters)?;
     Ok(sheet)
 }
@@ -543,9 +548,14 @@ fn put_filter_chains(
     put_output(writer, sheet, policy, filters)
 }
 
-/// The text of the table filter.
-fn filter_text(writer: &Writer, policy: &mut Policy, filters: &Filters) -> Result<Version, Stop> {
-    let sheet = filter_sheet(writer, policy, filters)?;
+/// The text of the table filter, with rules gathered by colours where that is asked.
+fn filter_text(
+    writer: &Writer,
+    policy: &mut Policy,
+    filters: &Filters,
+    gathers: bool,
+) -> Result<Version, Stop> {
+    let sheet = filter_sheet(writer, policy, filters, gathers)?;
     let mut text = Text::new(writer.alloc);
     put_policies(&mut text, filters)?;
     text.put(sheet.heads.as_slice())?;
@@ -588,6 +598,39 @@ fn take_shorter(best: &mut Option<Version>, found: Result<Version, Stop>) -> Res
     }
 }
 
+/// The most rules of the chains of a version that are gathered.
+const MOST_GATHERED: usize = 200;
+
+/// Whether the chains of a version have so few rules that these are gathered.
+fn are_few(filters: &Filters) -> bool {
+    let arriving = filters.common.len();
+    let met = filters.input.list.rules.len();
+    let forwarded = filters.forward.list.rules.len();
+    let sent = filters.output.list.rules.len();
+    arriving
+        .saturating_add(met)
+        .saturating_add(forwarded)
+        .saturating_add(sent)
+        <= MOST_GATHERED
+}
+
+/// Takes the shortest of some versions where it has no more rules than the best one so far.
+fn take_shortest(
+    writer: &Writer,
+    policy: &mut Policy,
+    versions: &[Filters],
+    gathers: bool,
+    best: &mut Option<Version>,
+) -> Result<(), Memory> {
+    for filters in versions {
+        if !gathers || are_few(filters) {
+            let version = filter_text(writer, policy, filters, gathers);
+            take_shorter(best, version)?;
+        }
+    }
+    Ok(())
+}
+
 /// Appends the table filter in the version of its chains that has fewest rules, and gives their number.
 fn put_filter(
     writer: &Writer,
@@ -596,9 +639,8 @@ fn put_filter(
     versions: &[Filters],
 ) -> Result<usize, Stop> {
     let mut best: Option<Version> = None;
-    for filters in versions {
-        let version = filter_text(writer, policy, filters);
-        take_shorter(&mut best, version)?;
+    for gathers in [true, false] {
+        take_shortest(writer, policy, versions, gathers, &mut best)?;
     }
     match &best {
         Some(best) => {
