@@ -1,5 +1,5 @@
 pub mod Assembling
-pub mod Choosing
+pub mod ListsSay
 pub mod Chosen
 pub mod Counting
 pub mod Deciding
@@ -11,7 +11,7 @@ pub mod Laid
 pub mod Leaders
 pub mod Leaving
 pub mod ListNames
-pub mod Lists
+pub mod ListsApart
 pub mod NewTrees
 pub mod Parting
 pub mod Parts

@@ -3,7 +3,7 @@ pub mod EstWays
 pub mod FirstPass
 pub mod Fitting
 pub mod Gathers
-pub mod Names
+pub mod NamesApart
 pub mod NewWays
 pub mod Numbering
 pub mod Parts
