@@ -130,9 +130,10 @@ self_set site = with_range loopback_addr loopback_addr (with_ranges [] (all_own_
 abbrev pub modified : List ℕ → Cause
 modified text = if list_any (bytes_eq text) (codes "broadcast" ∷ codes "peer" ∷ codes "0" ∷ []) then LeftOut else Syntax
 
--- the networks of an interface
+-- the networks of an interface, whose name begins with no digit
 abbrev pub networks_part : Site → List ℕ → Result Part Cause
-networks_part site name = ok_or (option_map (λ entry. parts.Set (face_nets site entry)) (entry_named Pf site name)) NoInterface
+networks_part site name =
+    if begins_with_digit name then Err Syntax else ok_or (option_map (λ entry. parts.Set (face_nets site entry)) (entry_named Pf site name)) NoInterface
 
 abbrev pub modified_part : Site → List ℕ × List ℕ → Result Part Cause
 modified_part site halves =

@@ -38,11 +38,14 @@ pub fn modified(text: &[u8]) -> Cause
     }
 }
 
-/// The networks of an interface.
+/// The networks of an interface, whose name begins with no digit.
 fn networks_part(alloc: Global, site: &Site, name: &[u8]) -> Result<Part, ReadFault>
     requires { IsSound site.now }
     ensures { CauseGiven result (networks_part site.now name.now) }
 {
+    if begins_with_digit(name) {
+        return Err(ReadFault::Bad(Cause::Syntax));
+    }
     match entry_named(site, Lang::Pf, name) {
         Some(entry) => Ok(Part::Set(face_nets(alloc, site, entry)?)),
         None => Err(ReadFault::Bad(Cause::NoInterface)),
