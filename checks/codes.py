@@ -1,6 +1,6 @@
 """python3 codes.py PROGRAM [COUNT [SEED]]
 
-Makes COUNT random flat codes (2,000) and hands them to PROGRAM, the built crates/fws_walks/out/fws_walks: it executes each for new and
+Makes COUNT random flat codes (2,000) and hands them to PROGRAM, the built crates/fws_test_diagrams/out/fws_test_diagrams: it executes each for new and
 for established packets, and walks the packets at the ends of the intervals of every row. The codes put, test and take away tags,
 hold verdicts, jump, and write ends of all lengths, in up to eight parts. Prints how many points were walked. Exit status 1 where one differs from
 its row, and the file with the code stays then; or where more than one code in twenty takes over a minute, since its rows are many.
@@ -13,7 +13,7 @@ import subprocess
 import sys
 import tempfile
 
-SITE = os.path.join(os.path.dirname(os.path.abspath(__file__)), '..', 'crates', 'fws_walks', 'data', 'S')
+SITE = os.path.join(os.path.dirname(os.path.abspath(__file__)), '..', 'crates', 'fws_test_diagrams', 'data', 'S')
 ADDRESSES = ['10.0.0.1', '10.0.0.7', '10.0.0.8', '10.0.0.255', '203.0.113.1', '203.0.113.2', '198.51.100.9', '198.18.0.1', '127.0.0.1']
 PORTS = ['22', '53', '80', '4000', '65535']
 TAGS = range(6)

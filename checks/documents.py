@@ -359,8 +359,8 @@ def case_count():
 
 
 def read_count():
-    """The lines and texts that fws_rows reads, by what it has to print: `lines FILE FILE 35 of 35 agree`."""
-    with open('crates/fws_rows/stdout', encoding='utf-8') as file:
+    """The lines and texts that fws_test_configs reads, by what it has to print: `lines FILE FILE 35 of 35 agree`."""
+    with open('crates/fws_test_configs/stdout', encoding='utf-8') as file:
         return sum(int(line.split()[-2]) for line in file if line.startswith(('lines ', 'texts ')))
 
 
@@ -375,7 +375,7 @@ COUNTED = (
     (r'\blongest\s+chain\s+of\s+crates\s+is\s+(\d+)\s+long\b', chain_length),
     # `492 command lines`: those of checks/cases
     (r'(?<![\w.,])(\d[\d,]*)\s+command\s+lines\b', case_count),
-    # `reads 255 lines and texts`: what fws_rows reads of lines and texts that are accepted or refused
+    # `reads 255 lines and texts`: what fws_test_configs reads of lines and texts that are accepted or refused
     (r'\breads\s+(\d[\d,]*)\s+lines\s+and\s+texts\b', read_count),
 )
 

@@ -28,7 +28,7 @@ compare() { # a file with what is wanted
 }
 
 measure help 5 './fws --help'
-compare crates/fws_answers/data/help.text
+compare crates/fws_test_commands/data/help.text
 command=$(sed -n 's/^\$ \(\.\/fws .*\)/\1/p' README.md | head -n 1)
 sed -n '/^\$ \.\/fws /,/^```\|^\$ /p' README.md | sed '1d;/^```\|^\$ /,$d' >"$work/wanted"
 measure "$command" 120 "$command"

@@ -45,7 +45,7 @@ import quick
 
 TOP = quick.TOP
 SITE, ROUTER = 'examples/site.txt', 'examples/router.saved'
-TRACKED = ['crates/fws_answers/data/connections', 'crates/fws_answers/data/packets']
+TRACKED = ['crates/fws_test_commands/data/connections', 'crates/fws_test_commands/data/packets']
 OFFICE = ['examples/office.site', 'examples/office.ipfw']
 BRANCH = ['examples/branch.site', 'examples/branch.ios']
 GATEWAY = [SITE, 'examples/gateway.pf']
@@ -53,7 +53,7 @@ GATEWAY = [SITE, 'examples/gateway.pf']
 # Command lines for memory and devices. All files are read, in the order of the words.
 COMMANDS = [
     ['synth', 'iptables', SITE, 'examples/open.rules', 'new'],
-    ['synth', 'iptables', SITE, 'crates/fws_rows/data/port-forward.rules', 'new'],
+    ['synth', 'iptables', SITE, 'crates/fws_test_configs/data/port-forward.rules', 'new'],
     ['trace', 'iptables', SITE, ROUTER, *TRACKED],
     ['translate', 'iptables', 'pf', SITE, ROUTER],
     ['query', 'iptables', SITE, ROUTER, 'new', 'dst=10.0.0.5', 'dport=22'],

@@ -92,7 +92,7 @@ rm -- "$odd"
 check 'an odd name that is absent' "cannot read $odd"$'\nstatus 4' "$(told "$program" synth iptables S "$odd" new)"
 
 check 'an argument that is no UTF-8' $'\nstatus 2' "$(told "$program" synth iptables S $'\xff' new)"
-check 'no words' "$(cat "$top/crates/fws_answers/data/usage.text")"$'\nstatus 2' "$(told "$program")"
+check 'no words' "$(cat "$top/crates/fws_test_commands/data/usage.text")"$'\nstatus 2' "$(told "$program")"
 
 for rules in "$top"/examples/*.rules; do
     wanted=$("$program" synth iptables S "$rules" new | sed '1s/^table/query/')$'\nstatus 0'

@@ -16,7 +16,7 @@ completions and the page of the commands. It is a part of checks/documents.py.
 import re
 import subprocess
 
-PAGE = 'crates/fws_answers/data/%s.page'  # what `fws COMMAND --help` writes
+PAGE = 'crates/fws_test_commands/data/%s.page'  # what `fws COMMAND --help` writes
 COLUMNS = 80
 MANUAL = 'share/man/man1/fws.1'
 COMPLETIONS = ('share/bash-completion/completions/fws', 'share/zsh/site-functions/_fws')

@@ -1,6 +1,6 @@
 """python3 checks/translations.py, at the top of the repository; checks/translations.sh says how it is called
 
-Translates to iptables, ipfw, pf and Cisco IOS the configurations of examples/ and those of which crates/fws_rows/data/rows.jobs has a table, from the
+Translates to iptables, ipfw, pf and Cisco IOS the configurations of examples/ and those of which crates/fws_test_configs/data/rows.jobs has a table, from the
 language that each has, with the built program. What is checked of each:
 
 - The status is 0; or it is 1 with a line that names packets, where the target, the site and the configuration stand in UNPLACED.
@@ -33,7 +33,7 @@ import sys
 import tempfile
 
 TOP = os.path.dirname(os.path.dirname(os.path.abspath(__file__)))
-DATA = os.path.join(TOP, 'crates/fws_rows/data')
+DATA = os.path.join(TOP, 'crates/fws_test_configs/data')
 EXAMPLES = os.path.join(TOP, 'examples')
 PROGRAM = os.environ.get('FWS_PROGRAM', os.path.join(TOP, 'crates/fws/out/fws'))
 
@@ -109,7 +109,7 @@ def run(*words):
 
 
 def worked():
-    """The configurations of which fws_rows knows a table: language, site and file."""
+    """The configurations of which fws_test_configs knows a table: language, site and file."""
     with open(os.path.join(DATA, 'rows.jobs'), encoding='utf-8') as file:
         site, *jobs = file.read().splitlines()
     found = []

@@ -1,7 +1,7 @@
 """python3 checks/unused.py [SEED], at the top of the repository; checks/unused.sh says how it is called
 
 Takes out the rules of which the command `dead` says that no packet uses them. Of each configuration of examples/, of those of which
-crates/fws_rows/data/rows.jobs has a table, of those of the cases of `dead`, and of files that bench/make.py makes, at its site:
+crates/fws_test_configs/data/rows.jobs has a table, of those of the cases of `dead`, and of files that bench/make.py makes, at its site:
 
 - Each rule that is told is the one of the file that has this number and this label. Files of pf with lists are left out of this and
   of what follows, as a statement with lists stands for several rules.

@@ -113,7 +113,7 @@ class Package:
     def __init__(self, top, stage):
         self.top = top
         self.stage = stage
-        self.version = read(os.path.join(top, 'crates/fws_answers/data/version.text')).decode().split()[1]
+        self.version = read(os.path.join(top, 'crates/fws_test_commands/data/version.text')).decode().split()[1]
         self.time = self.time_of_commit()
         name, mail = os.environ.get('DEBFULLNAME', 'FWS'), os.environ.get('DEBEMAIL', 'fws@fws.invalid')
         self.maintainer = '%s <%s>' % (name, mail)

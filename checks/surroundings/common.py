@@ -58,11 +58,11 @@ def copy_checkout(folder):
     for name in ('fws', 'tools', 'share', 'docs/PROFILES.md', 'CHANGELOG.md'):
         source = os.path.join(TOP, name)
         (shutil.copytree if os.path.isdir(source) else shutil.copy2)(source, os.path.join(folder, name))
-    for crate in ('fws', 'fws_high', 'fws_low', 'fws_answers/data'):
+    for crate in ('fws', 'fws_high', 'fws_low', 'fws_test_commands/data'):
         os.makedirs(os.path.join(folder, 'crates', crate))
-    for name in os.listdir(os.path.join(TOP, 'crates/fws_answers/data')):
+    for name in os.listdir(os.path.join(TOP, 'crates/fws_test_commands/data')):
         if name.endswith(('.text', '.page')):
-            shutil.copy(os.path.join(TOP, 'crates/fws_answers/data', name), os.path.join(folder, 'crates/fws_answers/data'))
+            shutil.copy(os.path.join(TOP, 'crates/fws_test_commands/data', name), os.path.join(folder, 'crates/fws_test_commands/data'))
     write(os.path.join(folder, 'crates.txt'), 'fws: fws_high std\nfws_high: fws_low # the one above\nfws_low:\n')
     os.makedirs(os.path.join(folder, 'crates/fws/out'))
     shutil.copy(PROGRAM, os.path.join(folder, 'crates/fws/out/fws'))

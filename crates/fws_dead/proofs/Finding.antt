@@ -13,7 +13,7 @@ use Rattle.fws_tree.specs.declared.node.Kid.{Kid}
 use Rattle.fws_tree.specs.declared.node.Node.{Node}
 use Rattle.fws_tree.specs.Plain.{Plain, leaf, value}
 use Rattle.fws_tree.specs.Shared.{IsShared, subtree_of}
-use Rattle.fws_sight.specs.Cuts.{IsCutNode}
+use Rattle.fws_tree_seen.specs.Cuts.{IsCutNode}
 use Rattle.fws_dead.specs.Points.{bounds}
 use Rattle.fws_dead.specs.Rows.{IsRow, AreAlikeIn, IsApartIn}
 use Rattle.fws_dead.specs.Searched.{IsNarrowed, IsAlikeFor, AreAlikeFor, IsApartFor, AreAlikeBelow, IsApartBelow, AreAlikeWithin, IsApartWithin}

@@ -13,8 +13,8 @@ use Rattle.fws_tree.specs.declared.node.Node.{Node}
 use Rattle.fws_tree.specs.declared.node.Node.TheVariants.{Leaf, Cut}
 use Rattle.fws_tree.specs.Plain.{Plain, leaf, cut, Kids, kid_at, branch, value, value_from}
 use Rattle.fws_tree.specs.Shared.{IsShared, subtree_of}
-use Rattle.fws_sight.specs.Cuts.{kids_of, IsCutNode}
-use Rattle.fws_sight.specs.NodeLaws.{LeafNodesAreLeaves, CutNodesPartValues}
+use Rattle.fws_tree_seen.specs.Cuts.{kids_of, IsCutNode}
+use Rattle.fws_tree_seen.specs.NodeLaws.{LeafNodesAreLeaves, CutNodesPartValues}
 use Rattle.fws_dead.proofs.Sides.{within_at, within_length}
 
 -- ---- lists

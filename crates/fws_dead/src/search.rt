@@ -14,8 +14,8 @@ use fws_box::{Point, copy_sides, whole_sides};
 use fws_iv::Ivs;
 use fws_net::{Outcome, State};
 use fws_num::Memory;
-use fws_sight::{cut_nodes_part_values, kids_stand_before, leaf_nodes_are_leaves};
 use fws_tree::{Node, Tree};
+use fws_tree_seen::{cut_nodes_part_values, kids_stand_before, leaf_nodes_are_leaves};
 use std::alloc::Global;
 
 /// Two outcomes that aren't equal, if they aren't.

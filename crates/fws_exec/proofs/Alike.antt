@@ -20,7 +20,7 @@ use Rattle.fws_net.specs.Showing.{out_of, receiving}
 use Rattle.fws_flat.specs.declared.code.Part.{Part}
 use Rattle.fws_flat.specs.declared.code.Ins.{Ins}
 use Rattle.fws_flat.specs.Walk.{sees}
-use Rattle.fws_scene.specs.Scenes.{standing_addr, standing_port}
+use Rattle.fws_box_conditions.specs.Scenes.{standing_addr, standing_port}
 use Rattle.fws_exec.specs.declared.groups.Group.{Group}
 use Rattle.fws_exec.specs.declared.progress.Progress.{Progress}
 use Rattle.fws_exec.specs.declared.spot.Class.{Class}

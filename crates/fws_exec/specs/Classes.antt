@@ -13,10 +13,10 @@ use Rattle.fws_net.specs.declared.transit.Transit.{Transit}
 use Rattle.fws_net.specs.Transits.{nothing_written}
 use Rattle.fws_flat.specs.declared.step.Step.{Step}
 use Rattle.fws_flat.specs.declared.step.Step.TheVariants.{Leave, Onwards}
-use Rattle.fws_scene.specs.declared.scene.Standing.{Standing}
-use Rattle.fws_scene.specs.declared.scene.Standing.TheVariants.{Entered, Written, Tracked}
-use Rattle.fws_scene.specs.declared.scene.Scene.{Scene}
-use Rattle.fws_scene.specs.Scenes.{standing_packet}
+use Rattle.fws_box_conditions.specs.declared.scene.Standing.{Standing}
+use Rattle.fws_box_conditions.specs.declared.scene.Standing.TheVariants.{Entered, Written, Tracked}
+use Rattle.fws_box_conditions.specs.declared.scene.Scene.{Scene}
+use Rattle.fws_box_conditions.specs.Scenes.{standing_packet}
 use Rattle.fws_exec.specs.declared.progress.Progress.{Progress}
 use Rattle.fws_exec.specs.declared.spot.Stage.{Stage}
 use Rattle.fws_exec.specs.declared.spot.Stage.TheVariants.{Arrive, Deliver, Forward, Send}

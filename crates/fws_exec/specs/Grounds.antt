@@ -4,8 +4,8 @@ use Rattle.fws_box.specs.Boxes.{sides_of}
 use Rattle.fws_box.specs.Sides.{whole_sides}
 use Rattle.fws_net.specs.Points.{tops_of}
 use Rattle.fws_net.specs.Routes.{IsSound}
-use Rattle.fws_scene.specs.Areas.{IsOfSite}
-use Rattle.fws_scene.specs.Ways.{AreWaysOf}
+use Rattle.fws_box_conditions.specs.Areas.{IsOfSite}
+use Rattle.fws_box_conditions.specs.Ways.{AreWaysOf}
 use Rattle.fws_exec.specs.declared.errand.Ground.{Ground}
 
 -- the site is sound, the ways are its own, and the area is that of all its points

@@ -4,7 +4,7 @@ ghost use Rattle.std.specs.Prelude.{◌≡◌, ◌≢◌, ℕ, List, true, false
 ghost use Rattle.fws_box.specs.Boxes.{sides_of};
 ghost use Rattle.fws_box.specs.Sides.{sides_have, IsWithin};
 ghost use Rattle.fws_net.specs.Points.{tops_of};
-ghost use Rattle.fws_scene.specs.Areas.{IsOfSite};
+ghost use Rattle.fws_box_conditions.specs.Areas.{IsOfSite};
 ghost use Rattle.fws_exec.specs.declared.spot.Spot.{Spot as AnySpot};
 ghost use Rattle.fws_exec.specs.declared.views.Sides.{Sides as AnySides};
 ghost use Rattle.fws_exec.specs.Classes.{is_unused};

@@ -3,9 +3,9 @@
 use crate::spot::Stage;
 use bumpalo::Bump;
 use fws_box::PBox;
+use fws_box_conditions::Ways;
 use fws_flat::{Ins, Part};
 use fws_net::{Site, State};
-use fws_scene::Ways;
 
 /// What is the same for all parts.
 #[derive(Clone, Copy)]

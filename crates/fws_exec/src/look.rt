@@ -7,8 +7,8 @@ ghost use Rattle.fws_net.specs.Conditions.{holds, lit_holds, test_holds, is_show
 ghost use Rattle.fws_net.specs.Fates.{has_ports};
 ghost use Rattle.fws_net.specs.Routes.{exit_at, IsSound};
 ghost use Rattle.fws_net.specs.Showing.{out_of};
-ghost use Rattle.fws_scene.specs.Scenes.{standing_addr, standing_port};
-ghost use Rattle.fws_scene.specs.declared.scene.Standing.TheVariants.{Entered};
+ghost use Rattle.fws_box_conditions.specs.Scenes.{standing_addr, standing_port};
+ghost use Rattle.fws_box_conditions.specs.declared.scene.Standing.TheVariants.{Entered};
 ghost use Rattle.fws_exec.specs.declared.progress.Progress.{Progress as AnyProgress};
 ghost use Rattle.fws_exec.specs.Classes.{standing_by};
 ghost use Rattle.fws_exec.specs.Divided.{seen_at};

@@ -6,13 +6,13 @@ ghost use Rattle.fws_net.specs.declared.site.Site.{Site};
 ghost use Rattle.fws_net.specs.Points.{packet_of};
 ghost use Rattle.fws_net.specs.Transits.{entered, with_verdict, with_wrote, with_src, with_dst, with_tracked_src, with_tracked_dst, with_tag, with_only_tag, without_tag, outcome_of};
 ghost use Rattle.fws_flat.specs.Walk.{sees};
-ghost use Rattle.fws_scene.specs.Scenes.{view_of};
+ghost use Rattle.fws_box_conditions.specs.Scenes.{view_of};
 ghost use Rattle.fws_exec.specs.Classes.{kind_of, standing_by, transit_of, untouched};
 
+use fws_box_conditions::{Scene, Standing};
 use fws_flat::Part;
 use fws_net::{End, Outcome, Rewrite, State};
 use fws_num::{Items, Memory};
-use fws_scene::{Scene, Standing};
 use std::alloc::Global;
 
 /// What rules did so far to the packets of a class, alike to all of them.

@@ -3,7 +3,7 @@
 ghost use Rattle.std.specs.Prelude.{◌≡◌, ℕ, Some, true, false, length, slice_get, IfOk};
 ghost use Rattle.fws_flat.specs.Soundness.{flat_ok};
 ghost use Rattle.fws_net.specs.Routes.{IsSound};
-ghost use Rattle.fws_scene.specs.Ways.{AreWaysOf};
+ghost use Rattle.fws_box_conditions.specs.Ways.{AreWaysOf};
 ghost use Rattle.fws_exec.specs.Reaching.{AreReached, IsReached, IsUnreached};
 
 use crate::execution::executed;
@@ -11,10 +11,10 @@ use crate::idle::without_idle_tags;
 use crate::sheet::Sheet;
 use crate::stages::Purpose;
 use fws_box::whole_sides;
+use fws_box_conditions::Ways;
 use fws_flat::{Flat, Ins, Part};
 use fws_net::{Site, State, tops};
 use fws_num::Memory;
-use fws_scene::Ways;
 use std::alloc::Global;
 use std::mem;
 

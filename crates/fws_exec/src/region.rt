@@ -6,7 +6,7 @@ ghost use Rattle.fws_box.specs.Boxes.{sides_of};
 ghost use Rattle.fws_box.specs.Fields.{value_of};
 ghost use Rattle.fws_box.specs.Sides.{sides_have, IsWithin};
 ghost use Rattle.fws_net.specs.Points.{tops_of};
-ghost use Rattle.fws_scene.specs.Areas.{IsOfSite};
+ghost use Rattle.fws_box_conditions.specs.Areas.{IsOfSite};
 ghost use Rattle.fws_exec.specs.Grounds.{IsGround};
 ghost use Rattle.fws_exec.specs.Hulls.{HasPoint};
 ghost use Rattle.fws_exec.specs.Sheets.{tops_in, class_at, IsSheet};

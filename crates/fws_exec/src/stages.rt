@@ -5,7 +5,7 @@ ghost use Rattle.std.specs.List.{list_all};
 ghost use Rattle.fws_flat.specs.Soundness.{part_ok};
 ghost use Rattle.fws_net.specs.Points.{tops_of};
 ghost use Rattle.fws_net.specs.Routes.{IsSound};
-ghost use Rattle.fws_scene.specs.Ways.{AreWaysOf};
+ghost use Rattle.fws_box_conditions.specs.Ways.{AreWaysOf};
 ghost use Rattle.fws_exec.specs.Classes.{is_inside};
 ghost use Rattle.fws_exec.specs.Grounds.{IsGround};
 ghost use Rattle.fws_exec.specs.Sheets.{tops_in, IsSheet, stands};
@@ -17,10 +17,10 @@ use crate::sheet::Sheet;
 use crate::spot::{Spot, Stage};
 use crate::turn::Turn;
 use bumpalo::Bump;
+use fws_box_conditions::{Ways, whole_site};
 use fws_flat::{Ins, Part};
 use fws_net::{Site, State};
 use fws_num::Memory;
-use fws_scene::{Ways, whole_site};
 use std::alloc::Global;
 
 /// For which packets stages are executed.

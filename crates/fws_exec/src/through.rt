@@ -6,7 +6,7 @@ ghost use Rattle.fws_box.specs.Boxes.{sides_of};
 ghost use Rattle.fws_box.specs.Sides.{sides_have, IsWithin};
 ghost use Rattle.fws_flat.specs.Soundness.{part_ok};
 ghost use Rattle.fws_net.specs.Points.{tops_of};
-ghost use Rattle.fws_scene.specs.Areas.{IsOfSite};
+ghost use Rattle.fws_box_conditions.specs.Areas.{IsOfSite};
 ghost use Rattle.fws_exec.specs.declared.going.Going.TheVariants.{Leaving};
 ghost use Rattle.fws_exec.specs.declared.spot.Spot.TheVariants.{At};
 ghost use Rattle.fws_exec.specs.declared.views.Sides.{Sides as AnySides};

@@ -9,7 +9,7 @@ ghost use Rattle.fws_net.specs.declared.condition.Lit.{Lit as AnyLit};
 ghost use Rattle.fws_net.specs.declared.connection.Kind.{Kind};
 ghost use Rattle.fws_net.specs.declared.site.Site.{Site};
 ghost use Rattle.fws_net.specs.Conditions.{holds, lit_holds};
-ghost use Rattle.fws_scene.specs.Scenes.{standing_addr};
+ghost use Rattle.fws_box_conditions.specs.Scenes.{standing_addr};
 ghost use Rattle.fws_exec.specs.Classes.{standing_by, transit_of};
 ghost use Rattle.fws_exec.specs.Views.{is_of_src, is_of_dst, shows, shows_all, shows_code, end_if, is_of_network, seen_by, fits_tag, tags_fit};
 

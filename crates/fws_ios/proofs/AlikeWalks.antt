@@ -15,8 +15,8 @@ use Rattle.fws_net.specs.Ends.{host_end}
 use Rattle.fws_net.specs.Fates.{has_ports}
 use Rattle.fws_net.specs.Showing.{out_of, receiving, sending}
 use Rattle.fws_net.specs.Transits.{seen, with_dst, with_src}
-use Rattle.fws_rule.specs.Alike.{Alike}
-use Rattle.fws_rule.specs.AlikeWays.{AlikeKinds, AlikeTransits, AlikeWays, MakeAlike, LeadAlike, StayAlike}
+use Rattle.fws_rules.specs.Alike.{Alike}
+use Rattle.fws_rules.specs.AlikeWays.{AlikeKinds, AlikeTransits, AlikeWays, MakeAlike, LeadAlike, StayAlike}
 use Rattle.fws_ios.specs.declared.config.IosConfig.{IosConfig}
 use Rattle.fws_ios.specs.declared.config.IosEntry.{IosEntry}
 use Rattle.fws_ios.specs.declared.config.IosGroup.{IosGroup}

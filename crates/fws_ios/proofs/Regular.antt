@@ -9,8 +9,8 @@ use Rattle.fws_net.specs.declared.site.Site.{Site}
 use Rattle.fws_net.specs.declared.transit.Transit.{Transit}
 use Rattle.fws_net.specs.RegularWalks.{IsRegularWalk}
 use Rattle.fws_net.specs.Transits.{entered, with_dst, with_src}
-use Rattle.fws_rule.specs.AlikeWays.{AlikePacketsStayAlike}
-use Rattle.fws_rule.specs.Regular.{AlikeWalksAreRegular, StandsAsWritten, KeepsDestination, AreRegularParts, RegularPartsMakeAlikeWalks}
+use Rattle.fws_rules.specs.AlikeWays.{AlikePacketsStayAlike}
+use Rattle.fws_rules.specs.Regular.{AlikeWalksAreRegular, StandsAsWritten, KeepsDestination, AreRegularParts, RegularPartsMakeAlikeWalks}
 use Rattle.fws_ios.specs.declared.config.IosConfig.{IosConfig}
 use Rattle.fws_ios.specs.Soundness.{nat_fits, is_fitting}
 use Rattle.fws_ios.specs.Walk.{inner_end, first_end, source_end, arrived, forwarded, walk}

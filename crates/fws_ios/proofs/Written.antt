@@ -10,7 +10,7 @@ use Rattle.fws_net.specs.declared.site.Site.{Site}
 use Rattle.fws_net.specs.declared.transit.Transit.{Transit}
 use Rattle.fws_net.specs.Ends.{host_end}
 use Rattle.fws_net.specs.Fates.{has_ports}
-use Rattle.fws_rule.specs.Regular.{IsPortless}
+use Rattle.fws_rules.specs.Regular.{IsPortless}
 use Rattle.fws_ios.specs.declared.config.IosConfig.{IosConfig}
 use Rattle.fws_ios.specs.declared.config.IosNat.{IosNat}
 use Rattle.fws_ios.specs.declared.config.IosNat.TheVariants.{Static, List as Listed}

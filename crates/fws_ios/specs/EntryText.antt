@@ -11,7 +11,7 @@ use Rattle.fws_net.specs.declared.condition.Lit.{Lit}
 use Rattle.fws_net.specs.declared.condition.Test.TheVariants as tests
 use Rattle.fws_net.specs.Causes.{checked, words_read}
 use Rattle.fws_net.specs.Reading.{and_then}
-use Rattle.fws_rule.specs.Literals.{literals, one, positive, protocol_literal}
+use Rattle.fws_rules.specs.Literals.{literals, one, positive, protocol_literal}
 use Rattle.fws_ios.specs.declared.config.IosEntry.{IosEntry}
 use Rattle.fws_ios.specs.declared.draft.EntryDraft.{EntryDraft}
 use Rattle.fws_ios.specs.declared.draft.Expects.{Expects}

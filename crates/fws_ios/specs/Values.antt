@@ -10,7 +10,7 @@ use Rattle.fws_net.specs.declared.condition.Lit.{Lit}
 use Rattle.fws_net.specs.declared.condition.Test.{Test}
 use Rattle.fws_net.specs.declared.condition.Test.TheVariants as tests
 use Rattle.fws_net.specs.Faces.{block}
-use Rattle.fws_rule.specs.Literals.{negative, one, positive}
+use Rattle.fws_rules.specs.Literals.{negative, one, positive}
 use Rattle.fws_ios.specs.declared.draft.Place.{Place}
 use Rattle.fws_ios.specs.declared.draft.Place.TheVariants.{Source, Destination}
 use Rattle.fws_ios.specs.declared.words.PortWord.{PortWord}

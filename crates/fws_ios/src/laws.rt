@@ -3,7 +3,9 @@
 ghost use Rattle.fws_ios.specs.Regular.{FittingWalksAreRegular, SpelledWalksAreRegular};
 ghost use Rattle.fws_ios.specs.Soundness.{SpelledFits};
 
-use fws_rule::{alike_packets_stay_alike, alike_walks_are_regular, regular_parts_make_alike_walks};
+use fws_rules::{
+    alike_packets_stay_alike, alike_walks_are_regular, regular_parts_make_alike_walks,
+};
 
 /// Every configuration that a text spells is fitting: a law, with nothing to do.
 pub fn spelled_fits()

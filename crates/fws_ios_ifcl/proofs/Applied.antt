@@ -11,8 +11,8 @@ use Rattle.fws_ifcl.specs.declared.diagram.Rule.{Rule}
 use Rattle.fws_ifcl.specs.declared.step.ChainEnd.{ChainEnd}
 use Rattle.fws_ifcl.specs.declared.step.ChainEnd.TheVariants.{Accepted, Dropped, Through}
 use Rattle.fws_ifcl.specs.Walk.{rules_walk, stage_end}
-use Rattle.fws_draw.specs.Places.{run, sight, Stands}
-use Rattle.fws_draw.specs.Rules.{ruled, guard, guarded}
+use Rattle.fws_ifcl_rules.specs.Places.{run, sight, Stands}
+use Rattle.fws_ifcl_rules.specs.Rules.{ruled, guard, guarded}
 use Rattle.fws_ios.specs.declared.config.IosConfig.{IosConfig}
 use Rattle.fws_ios.specs.declared.config.IosGroup.{IosGroup}
 use Rattle.fws_ios.specs.declared.config.IosList.{IosList}

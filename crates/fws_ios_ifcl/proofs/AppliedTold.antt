@@ -6,9 +6,9 @@ use Rattle.fws_net.specs.declared.transit.Transit.{Transit}
 use Rattle.fws_net.specs.Conditions.{holds}
 use Rattle.fws_ifcl.specs.declared.diagram.Act.TheVariants.{Accept, Drop}
 use Rattle.fws_ifcl.specs.declared.diagram.Rule.{Rule}
-use Rattle.fws_draw.specs.Places.{sight, Stands}
-use Rattle.fws_draw.specs.Rules.{ruled, guard, guarded}
-use Rattle.fws_draw.specs.UsedPlaces.{tell, Bears}
+use Rattle.fws_ifcl_rules.specs.Places.{sight, Stands}
+use Rattle.fws_ifcl_rules.specs.Rules.{ruled, guard, guarded}
+use Rattle.fws_ifcl_rules.specs.UsedPlaces.{tell, Bears}
 use Rattle.fws_ios.specs.declared.config.IosConfig.{IosConfig}
 use Rattle.fws_ios.specs.declared.config.IosGroup.{IosGroup}
 use Rattle.fws_ios.specs.declared.config.IosList.{IosList}

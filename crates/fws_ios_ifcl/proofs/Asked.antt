@@ -7,7 +7,7 @@ use Rattle.fws_net.specs.declared.packet.Packet.{Packet}
 use Rattle.fws_net.specs.declared.site.Site.{Site}
 use Rattle.fws_net.specs.declared.transit.Transit.{Transit}
 use Rattle.fws_ifcl.specs.Walk.{means}
-use Rattle.fws_draw.specs.Places.{WalksGoByPlaces, run, Stands}
+use Rattle.fws_ifcl_rules.specs.Places.{WalksGoByPlaces, run, Stands}
 use Rattle.fws_ios.specs.declared.config.IosConfig.{IosConfig}
 use Rattle.fws_ios.specs.declared.config.IosNat.{IosNat}
 use Rattle.fws_ios.specs.declared.config.IosNat.TheVariants.{Static, List as Listed}

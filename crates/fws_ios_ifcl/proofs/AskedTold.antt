@@ -6,9 +6,9 @@ use Rattle.fws_net.specs.declared.transit.Transit.{Transit}
 use Rattle.fws_net.specs.Ends.{host_end}
 use Rattle.fws_ifcl.specs.declared.diagram.Act.TheVariants.{Accept, Skip, Src}
 use Rattle.fws_ifcl.specs.declared.diagram.Rule.{Rule}
-use Rattle.fws_draw.specs.Places.{Stands}
-use Rattle.fws_draw.specs.Rules.{always}
-use Rattle.fws_draw.specs.UsedPlaces.{tell, Bears}
+use Rattle.fws_ifcl_rules.specs.Places.{Stands}
+use Rattle.fws_ifcl_rules.specs.Rules.{always}
+use Rattle.fws_ifcl_rules.specs.UsedPlaces.{tell, Bears}
 use Rattle.fws_ios.specs.declared.config.IosConfig.{IosConfig}
 use Rattle.fws_ios.specs.declared.config.IosEntry.{IosEntry}
 use Rattle.fws_ios.specs.declared.config.IosList.{IosList}

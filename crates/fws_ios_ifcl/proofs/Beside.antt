@@ -7,8 +7,8 @@ use Rattle.std.specs.Option.{option_map_or}
 use Rattle.fws_ifcl.specs.declared.diagram.Act.TheVariants.{Accept, Drop}
 use Rattle.fws_ifcl.specs.declared.diagram.Spot.{Spot}
 use Rattle.fws_ifcl.specs.Spots.{are_spots_of}
-use Rattle.fws_draw.specs.Rules.{ruled, guarded}
-use Rattle.fws_draw.specs.UsedPlaces.{spots_from, chain_spots, are_below, FitBeside, TellsOfUses}
+use Rattle.fws_ifcl_rules.specs.Rules.{ruled, guarded}
+use Rattle.fws_ifcl_rules.specs.UsedPlaces.{spots_from, chain_spots, are_below, FitBeside, TellsOfUses}
 use Rattle.fws_ios.specs.declared.config.IosConfig.{IosConfig}
 use Rattle.fws_ios.specs.declared.config.IosEntry.{IosEntry}
 use Rattle.fws_ios.specs.declared.config.IosGroup.{IosGroup}

@@ -17,8 +17,8 @@ use Rattle.fws_ifcl.specs.declared.diagram.Act.TheVariants.{Accept, Skip, Src}
 use Rattle.fws_ifcl.specs.declared.diagram.Rule.{Rule}
 use Rattle.fws_ifcl.specs.declared.step.ChainEnd.{ChainEnd}
 use Rattle.fws_ifcl.specs.declared.step.ChainEnd.TheVariants.{Accepted}
-use Rattle.fws_draw.specs.Places.{run, Stands}
-use Rattle.fws_draw.specs.Rules.{always}
+use Rattle.fws_ifcl_rules.specs.Places.{run, Stands}
+use Rattle.fws_ifcl_rules.specs.Rules.{always}
 use Rattle.fws_ios.specs.declared.config.IosConfig.{IosConfig}
 use Rattle.fws_ios.specs.declared.config.IosEntry.{IosEntry}
 use Rattle.fws_ios.specs.declared.config.IosList.{IosList}

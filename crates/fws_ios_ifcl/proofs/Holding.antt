@@ -10,7 +10,7 @@ use Rattle.fws_net.specs.declared.outcome.End.{End}
 use Rattle.fws_net.specs.declared.view.View.{View}
 use Rattle.fws_net.specs.Conditions.{holds, is_shown}
 use Rattle.fws_net.specs.Fates.{has_ports}
-use Rattle.fws_rule.specs.Literals.{literals, one, positive, protocol_literal}
+use Rattle.fws_rules.specs.Literals.{literals, one, positive, protocol_literal}
 use Rattle.fws_ios.specs.Walk.{is_end, is_of_proto}
 use Rattle.fws_ios_ifcl.specs.Blocks.{static_cond}
 

@@ -7,7 +7,7 @@ use Rattle.fws_ifcl.specs.declared.diagram.Act.{Act}
 use Rattle.fws_ifcl.specs.declared.diagram.Act.TheVariants.{Accept, Drop}
 use Rattle.fws_ifcl.specs.declared.step.ChainEnd.{ChainEnd}
 use Rattle.fws_ifcl.specs.declared.step.ChainEnd.TheVariants.{Accepted, Dropped}
-use Rattle.fws_draw.specs.Places.{IsForward, AreForward, Walk, behind_act, run, sight, Stands, walk_through}
+use Rattle.fws_ifcl_rules.specs.Places.{IsForward, AreForward, Walk, behind_act, run, sight, Stands, walk_through}
 use Rattle.fws_ios.specs.declared.config.IosEntry.{IosEntry}
 use Rattle.fws_ios.specs.Walk.{permits}
 use Rattle.fws_ios_ifcl.specs.Blocks.{listing}

@@ -9,8 +9,8 @@ use Rattle.fws_ifcl.specs.declared.diagram.Act.TheVariants.{Accept, Drop}
 use Rattle.fws_ifcl.specs.declared.diagram.Rule.{Rule}
 use Rattle.fws_ifcl.specs.Spots.{told}
 use Rattle.fws_ifcl.specs.Uses.{rules_used}
-use Rattle.fws_draw.specs.Places.{IsForward, sight, Stands}
-use Rattle.fws_draw.specs.UsedPlaces.{Telling, tell, Bears, told_act, told_through}
+use Rattle.fws_ifcl_rules.specs.Places.{IsForward, sight, Stands}
+use Rattle.fws_ifcl_rules.specs.UsedPlaces.{Telling, tell, Bears, told_act, told_through}
 use Rattle.fws_ios.specs.declared.config.IosEntry.{IosEntry}
 use Rattle.fws_ios.specs.Uses.{entries_used}
 use Rattle.fws_ios.specs.Walk.{permits}

@@ -9,9 +9,9 @@ use Rattle.fws_ifcl.specs.declared.diagram.Act.{Act}
 use Rattle.fws_ifcl.specs.declared.diagram.Act.TheVariants as acts
 use Rattle.fws_ifcl.specs.declared.diagram.Rule.{Rule}
 use Rattle.fws_ifcl.specs.Soundness.{act_ok, rules_ok, chain_ok, ifcl_ok}
-use Rattle.fws_draw.specs.Right.{RightAmong, RightByParts, RulesAreRightByParts}
-use Rattle.fws_draw.specs.Rules.{ruled, always, guard, guarded}
-use Rattle.fws_draw.specs.Straight.{is_straight}
+use Rattle.fws_ifcl_rules.specs.Right.{RightAmong, RightByParts, RulesAreRightByParts}
+use Rattle.fws_ifcl_rules.specs.Rules.{ruled, always, guard, guarded}
+use Rattle.fws_ifcl_rules.specs.Straight.{is_straight}
 use Rattle.fws_ios.specs.declared.config.IosConfig.{IosConfig}
 use Rattle.fws_ios.specs.declared.config.IosEntry.{IosEntry}
 use Rattle.fws_ios.specs.declared.config.IosGroup.{IosGroup}

@@ -20,7 +20,7 @@ use Rattle.fws_ifcl.specs.declared.diagram.Stage.{Stage}
 use Rattle.fws_ifcl.specs.declared.step.ChainEnd.{ChainEnd}
 use Rattle.fws_ifcl.specs.declared.step.ChainEnd.TheVariants.{Accepted}
 use Rattle.fws_ifcl.specs.Walk.{chain_walk, stage_end, stage_walk, stages_walk, means}
-use Rattle.fws_draw.specs.Places.{Walk, WalksGoByPlaces, walk_of, run, Stands}
+use Rattle.fws_ifcl_rules.specs.Places.{Walk, WalksGoByPlaces, walk_of, run, Stands}
 use Rattle.fws_ios.specs.declared.config.IosConfig.{IosConfig}
 use Rattle.fws_ios.specs.Walk.{first_end, inner_end, outer_end, listed_end, source_end, passes, met, routed_as, sent_as, arrived, forwarded, walk}
 use Rattle.fws_ios_ifcl.specs.Blocks.{choosing_from, statics_from}

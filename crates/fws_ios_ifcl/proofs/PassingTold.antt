@@ -21,8 +21,8 @@ use Rattle.fws_ifcl.specs.declared.step.ChainEnd.{ChainEnd}
 use Rattle.fws_ifcl.specs.Spots.{told}
 use Rattle.fws_ifcl.specs.Uses.{chain_used, stage_used, used_places}
 use Rattle.fws_ifcl.specs.Walk.{chain_walk, stage_walk, stages_walk}
-use Rattle.fws_draw.specs.Places.{Walk, WalksGoByPlaces, walk_of, Stands}
-use Rattle.fws_draw.specs.UsedPlaces.{AreBeside, Bears, Telling, TellsOfUses, stages_told, tell}
+use Rattle.fws_ifcl_rules.specs.Places.{Walk, WalksGoByPlaces, walk_of, Stands}
+use Rattle.fws_ifcl_rules.specs.UsedPlaces.{AreBeside, Bears, Telling, TellsOfUses, stages_told, tell}
 use Rattle.fws_ios.specs.declared.config.IosConfig.{IosConfig}
 use Rattle.fws_ios.specs.Uses.{first_translation, met_used, routed_used, sent_used, source_used, static_used, lists_used, arrived_used, forwarded_used, used}
 use Rattle.fws_ios.specs.Walk.{inner_end, outer_end, passes, routed_as, sent_as}

@@ -12,8 +12,8 @@ use Rattle.fws_ifcl.specs.declared.diagram.Act.{Act}
 use Rattle.fws_ifcl.specs.declared.diagram.Act.TheVariants.{Accept, Dst, Src}
 use Rattle.fws_ifcl.specs.declared.step.ChainEnd.{ChainEnd}
 use Rattle.fws_ifcl.specs.declared.step.ChainEnd.TheVariants.{Accepted}
-use Rattle.fws_draw.specs.Places.{behind_act, IsForward, run, sight, Stands, walk_through}
-use Rattle.fws_draw.specs.Rules.{always, guard, guarded}
+use Rattle.fws_ifcl_rules.specs.Places.{behind_act, IsForward, run, sight, Stands, walk_through}
+use Rattle.fws_ifcl_rules.specs.Rules.{always, guard, guarded}
 use Rattle.fws_ios.specs.declared.config.IosNat.{IosNat}
 use Rattle.fws_ios.specs.declared.config.IosNat.TheVariants.{Static, List as Listed}
 use Rattle.fws_ios.specs.Walk.{first_end, inner_end, outer_end}

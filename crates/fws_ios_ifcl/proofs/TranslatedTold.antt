@@ -9,9 +9,9 @@ use Rattle.fws_net.specs.Conditions.{holds}
 use Rattle.fws_net.specs.Transits.{with_dst, with_src}
 use Rattle.fws_ifcl.specs.declared.diagram.Act.{Act}
 use Rattle.fws_ifcl.specs.declared.diagram.Act.TheVariants.{Accept, Dst, Src}
-use Rattle.fws_draw.specs.Places.{IsForward, sight, Stands}
-use Rattle.fws_draw.specs.Rules.{always, guard, guarded}
-use Rattle.fws_draw.specs.UsedPlaces.{tell, Bears}
+use Rattle.fws_ifcl_rules.specs.Places.{IsForward, sight, Stands}
+use Rattle.fws_ifcl_rules.specs.Rules.{always, guard, guarded}
+use Rattle.fws_ifcl_rules.specs.UsedPlaces.{tell, Bears}
 use Rattle.fws_ios.specs.declared.config.IosNat.{IosNat}
 use Rattle.fws_ios.specs.declared.config.IosNat.TheVariants.{Static, List as Listed}
 use Rattle.fws_ios.specs.Uses.{static_used}

@@ -10,8 +10,8 @@ use Rattle.fws_net.specs.Ends.{host_end}
 use Rattle.fws_ifcl.specs.declared.diagram.Act.{Act}
 use Rattle.fws_ifcl.specs.declared.diagram.Act.TheVariants.{Accept, Drop, Skip, Src, Dst}
 use Rattle.fws_ifcl.specs.declared.diagram.Rule.{Rule}
-use Rattle.fws_rule.specs.Literals.{literals, one, positive, protocol_literal}
-use Rattle.fws_draw.specs.Rules.{ruled, always, guarded}
+use Rattle.fws_rules.specs.Literals.{literals, one, positive, protocol_literal}
+use Rattle.fws_ifcl_rules.specs.Rules.{ruled, always, guarded}
 use Rattle.fws_ios.specs.declared.config.IosEntry.{IosEntry}
 use Rattle.fws_ios.specs.declared.config.IosList.{IosList}
 use Rattle.fws_ios.specs.declared.config.IosGroup.{IosGroup}

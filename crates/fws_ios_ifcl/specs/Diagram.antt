@@ -6,8 +6,8 @@ use Rattle.fws_ifcl.specs.declared.diagram.Rule.{Rule}
 use Rattle.fws_ifcl.specs.declared.diagram.Chain.{Chain}
 use Rattle.fws_ifcl.specs.declared.diagram.Stage.{Stage}
 use Rattle.fws_ifcl.specs.declared.diagram.Ifcl.{Ifcl}
-use Rattle.fws_rule.specs.Literals.{negative, positive}
-use Rattle.fws_draw.specs.Rules.{ruled}
+use Rattle.fws_rules.specs.Literals.{negative, positive}
+use Rattle.fws_ifcl_rules.specs.Rules.{ruled}
 use Rattle.fws_ios.specs.declared.config.IosConfig.{IosConfig}
 use Rattle.fws_ios_ifcl.specs.Blocks.{applied_from, choosing_from, statics_from}
 

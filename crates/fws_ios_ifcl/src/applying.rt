@@ -6,13 +6,13 @@ ghost use Rattle.fws_ios_ifcl.specs.Blocks.{applied, applied_from, applying, at_
 
 use crate::listing::put_listing;
 use crate::names::Lists;
-use fws_draw::{put_guard, put_rule, sum};
 use fws_ifcl::{Act, Rule};
+use fws_ifcl_rules::{put_guard, put_rule, sum};
 use fws_ios::IosGroup;
 use fws_iv::one;
 use fws_net::{Cond, Test};
 use fws_num::Memory;
-use fws_rule::positive;
+use fws_rules::positive;
 use std::alloc::Global;
 
 /// The condition of packets that come in by an interface, or go out by it. An error is want of memory.

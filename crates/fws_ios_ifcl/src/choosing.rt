@@ -5,8 +5,8 @@ ghost use Rattle.fws_ios_ifcl.specs.Blocks.{choosing, choosing_from, choosing_ru
 
 use crate::listing::put_listing;
 use crate::names::Lists;
-use fws_draw::{place_behind, put_always, sum};
 use fws_ifcl::{Act, Rule};
+use fws_ifcl_rules::{place_behind, put_always, sum};
 use fws_ios::{IosEntry, IosNat};
 use fws_net::End;
 use fws_num::{Memory, Text};

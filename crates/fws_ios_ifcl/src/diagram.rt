@@ -6,8 +6,8 @@ ghost use Rattle.fws_net.specs.declared.packet.Packet.{Packet};
 ghost use Rattle.fws_ifcl.specs.Refusals.{refusal_of};
 ghost use Rattle.fws_ifcl.specs.Soundness.{ifcl_ok};
 ghost use Rattle.fws_ifcl.specs.Walk.{means};
-ghost use Rattle.fws_draw.specs.Rules.{ruled};
-ghost use Rattle.fws_draw.specs.Straight.{is_straight};
+ghost use Rattle.fws_ifcl_rules.specs.Rules.{ruled};
+ghost use Rattle.fws_ifcl_rules.specs.Straight.{is_straight};
 ghost use Rattle.fws_ios.specs.Walk.{walk};
 ghost use Rattle.fws_ios_ifcl.specs.Diagram.{chains_of, destination_rules, diagram_of, kept_destinations, kept_sources, list_rules, source_rules, stage_of};
 
@@ -15,12 +15,14 @@ use crate::applying::put_all_applied;
 use crate::choosing::put_all_choosing;
 use crate::names::Lists;
 use crate::statics::put_statics;
-use fws_draw::{ruled_by, rules_are_right_by_parts, straight_diagrams_unfold, walks_go_by_places};
 use fws_ifcl::{Act, Chain, Ifcl, Rule, Stage};
+use fws_ifcl_rules::{
+    ruled_by, rules_are_right_by_parts, straight_diagrams_unfold, walks_go_by_places,
+};
 use fws_ios::IosConfig;
 use fws_net::{Lit, Site, Test};
 use fws_num::{Items, Memory, Text};
-use fws_rule::{negative, positive};
+use fws_rules::{negative, positive};
 use std::alloc::Global;
 
 /// Puts a rule behind the others that acts where the literal holds. An error is want of memory.

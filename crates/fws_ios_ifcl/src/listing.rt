@@ -3,8 +3,8 @@
 ghost use Rattle.std.specs.Prelude.{◌≡◌, ◌++◌, ◌∷◌, [], OnOk};
 ghost use Rattle.fws_ios_ifcl.specs.Blocks.{entry_rule, listing};
 
-use fws_draw::{put_always, put_rule};
 use fws_ifcl::{Act, Rule};
+use fws_ifcl_rules::{put_always, put_rule};
 use fws_ios::IosEntry;
 use fws_num::Memory;
 use std::alloc::Global;

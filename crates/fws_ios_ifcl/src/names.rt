@@ -8,7 +8,7 @@ ghost use Rattle.fws_ios.specs.declared.config.IosList.{IosList as AnyList};
 ghost use Rattle.fws_ios.specs.Walk.{list_named};
 ghost use Rattle.fws_ios_ifcl.specs.Placed.{first_entries, first_entry};
 
-use fws_draw::sum;
+use fws_ifcl_rules::sum;
 use fws_ios::IosList;
 use fws_num::{Memory, Text};
 use indexmap::IndexMap;

@@ -8,7 +8,7 @@ ghost use Rattle.fws_ifcl.specs.Soundness.{ifcl_ok};
 ghost use Rattle.fws_ifcl.specs.Spots.{are_spots_of, told};
 ghost use Rattle.fws_ifcl.specs.Uses.{used_places};
 ghost use Rattle.fws_ifcl.specs.Walk.{means};
-ghost use Rattle.fws_draw.specs.Straight.{is_straight};
+ghost use Rattle.fws_ifcl_rules.specs.Straight.{is_straight};
 ghost use Rattle.fws_ios.specs.Uses.{first_translation, used};
 ghost use Rattle.fws_ios.specs.Walk.{walk};
 ghost use Rattle.fws_ios_ifcl.specs.Blocks.{applied_from, statics_from};
@@ -21,11 +21,11 @@ use crate::diagram::{kept_destinations, kept_sources, put_chain, two_stages};
 use crate::names::{Counted, entry_count};
 use crate::spots::{put_applied_spots, put_asking_spots, put_static_spots};
 use crate::statics::put_static;
-use fws_draw::{
+use fws_ifcl::{Chain, Ifcl, Rule, Spot};
+use fws_ifcl_rules::{
     rules_are_right_by_parts, straight_diagrams_unfold, sum, uses_are_told_by_places,
     walks_go_by_places,
 };
-use fws_ifcl::{Chain, Ifcl, Rule, Spot};
 use fws_ios::{IosConfig, IosGroup, IosNat};
 use fws_net::Site;
 use fws_num::{Items, Memory};

@@ -8,8 +8,8 @@ ghost use Rattle.fws_ios_ifcl.specs.Placed.{applied_spots, asking_spots, choosin
 
 use crate::applying::is_directed;
 use crate::names::Counted;
-use fws_draw::sum;
 use fws_ifcl::{Place, Spot};
+use fws_ifcl_rules::sum;
 use fws_ios::{IosEntry, IosGroup, IosNat};
 use fws_num::{Memory, Text};
 

@@ -1,17 +1,17 @@
 //! The rules to which static translations are unfolded.
 
 ghost use Rattle.std.specs.Prelude.{◌≡◌, ◌++◌, ◌∷◌, [], length, if◌then◌else◌, IfOk, OnOk};
-ghost use Rattle.fws_draw.specs.Rules.{always, guarded};
-ghost use Rattle.fws_rule.specs.Literals.{one, positive};
+ghost use Rattle.fws_ifcl_rules.specs.Rules.{always, guarded};
+ghost use Rattle.fws_rules.specs.Literals.{one, positive};
 ghost use Rattle.fws_ios_ifcl.specs.Blocks.{at_end, static_cond, static_rules, statics_from};
 
-use fws_draw::{put_always, put_guard};
 use fws_ifcl::{Act, Rule};
+use fws_ifcl_rules::{put_always, put_guard};
 use fws_ios::IosNat;
 use fws_iv::one;
 use fws_net::{Cond, End, Lit, Test};
 use fws_num::Memory;
-use fws_rule::{positive, protocol_literal, put_literals};
+use fws_rules::{positive, protocol_literal, put_literals};
 use std::alloc::Global;
 
 /// The literal of packets that come from an address, or go to it. An error is want of memory.

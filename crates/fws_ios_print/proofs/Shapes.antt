@@ -6,7 +6,7 @@ use Rattle.fws_iv.specs.declared.iv.Iv.{Iv}
 use Rattle.fws_net.specs.declared.condition.Lit.{Lit}
 use Rattle.fws_net.specs.declared.condition.Test.{Test}
 use Rattle.fws_net.specs.declared.condition.Test.TheVariants.{Src, Dst, Sport, Dport, Proto, Icmp, Flags, AnyFlag, Recv, Xmit, Via, Outward, Est, Tag, Never}
-use Rattle.fws_rule.specs.Literals.{one, positive}
+use Rattle.fws_rules.specs.Literals.{one, positive}
 use Rattle.fws_print.specs.Sets.{first_number, is_number, is_range}
 use Rattle.fws_ios_print.specs.Printable.{ascend, is_block, is_port_protocol, is_printed_cond, is_printed_literal, is_printed_test, place_of, protocol_tested, test_set, tested}
 use Rattle.fws_ios_print.specs.PrintedText.{option_words, options_words}

@@ -14,7 +14,7 @@ use Rattle.fws_num.specs.Services.{port_of, service_names, service_of}
 use Rattle.fws_num.specs.Written.{is_plain, is_plain_byte}
 use Rattle.fws_iv.specs.declared.iv.Iv.{Iv}
 use Rattle.fws_net.specs.Faces.{block}
-use Rattle.fws_rule.specs.Literals.{one}
+use Rattle.fws_rules.specs.Literals.{one}
 use Rattle.fws_ios.specs.Keywords.{is, port_word, port_words}
 use Rattle.fws_ios.specs.Values.{icmp_type_named, icmp_type_of, protocol_value, wildcard_len, wildcard_of}
 use Rattle.fws_print.specs.Sets.{is_network}

@@ -18,7 +18,7 @@ use fws_num::{
     Memory, Text, addresses_are_dotted, decimals_are_read, lines_are_read, numbers_are_digits,
     quads_are_dotted, words_are_read,
 };
-use fws_rule::orderly_sites_are_named;
+use fws_rules::orderly_sites_are_named;
 use std::alloc::Global;
 
 /// The text of a printable configuration is read as that configuration.

@@ -12,8 +12,8 @@ use Rattle.fws_net.specs.Fates.{has_ports}
 use Rattle.fws_net.specs.Points.{packet_of, tops_of}
 use Rattle.fws_tree.specs.Changed.{Agree, IsTrueSomewhere}
 use Rattle.fws_tree.specs.Plain.{Plain, value}
-use Rattle.fws_sight.specs.declared.seen.Seen.TheVariants.{Entered}
-use Rattle.fws_sight.specs.Shown.{IsTold}
+use Rattle.fws_tree_seen.specs.declared.seen.Seen.TheVariants.{Entered}
+use Rattle.fws_tree_seen.specs.Shown.{IsTold}
 use Rattle.fws_ios_put_entries.specs.Seen.{IsListed}
 use Rattle.fws_place.specs.Meaning.{point_of, rec_of}
 use Rattle.fws_ios_put.specs.Choices.{IsNowhere, framed, truth}

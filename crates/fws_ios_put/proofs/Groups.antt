@@ -5,7 +5,7 @@ use Rattle.std.specs.List.{list_all, range_with_len}
 use Rattle.std.specs.Prelude.{nat_le, is_some}
 use Rattle.fws_net.specs.declared.site.Site.{Site}
 use Rattle.fws_net.specs.declared.packet.Lang.TheVariants.{Ios}
-use Rattle.fws_rule.specs.Names.{AreNamed}
+use Rattle.fws_rules.specs.Names.{AreNamed}
 use Rattle.fws_ios.specs.declared.config.IosGroup.{IosGroup}
 use Rattle.fws_ios.specs.Walk.{group_at}
 use Rattle.fws_ios_print.specs.Printable.{face_count, group_place, groups_ascend, is_list_name, is_printed_group}

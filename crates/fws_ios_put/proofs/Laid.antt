@@ -6,7 +6,7 @@ use Rattle.std.specs.Option.{option_map_or}
 use Rattle.std.specs.Prelude.{◌^◌, ◌-◌, nat_lt, unwrap_or}
 use Rattle.fws_net.specs.declared.site.Site.{Site}
 use Rattle.fws_net.specs.declared.packet.Lang.TheVariants.{Ios}
-use Rattle.fws_rule.specs.Names.{AreNamed}
+use Rattle.fws_rules.specs.Names.{AreNamed}
 use Rattle.fws_ios.specs.declared.config.IosConfig.{IosConfig}
 use Rattle.fws_ios.specs.declared.config.IosList.{IosList}
 use Rattle.fws_ios.specs.declared.config.IosNat.{IosNat}

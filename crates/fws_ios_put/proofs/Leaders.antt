@@ -7,7 +7,7 @@ use Rattle.fws_tree.specs.declared.node.Kid.{Kid}
 use Rattle.fws_tree.specs.declared.node.Node.{Node}
 use Rattle.fws_tree.specs.Plain.{Plain, branch, cut, kid_at, leaf}
 use Rattle.fws_tree.specs.Shared.{IsShared, subtree_of}
-use Rattle.fws_sight.specs.Cuts.{IsCutNode, kids_of}
+use Rattle.fws_tree_seen.specs.Cuts.{IsCutNode, kids_of}
 use Rattle.fws_ios_put.specs.Layout.{AreAlike, AreLeaders, HasLeader, MayLead, leader}
 
 -- a kid that passes a test stands at some place

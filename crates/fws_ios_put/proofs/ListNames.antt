@@ -10,7 +10,7 @@ use Rattle.fws_net.specs.declared.site.Site.{Site}
 use Rattle.fws_net.specs.SiteWords.{is_name_byte}
 use Rattle.fws_net.specs.Faces.{entry_named}
 use Rattle.fws_net.specs.declared.packet.Lang.TheVariants.{Ios}
-use Rattle.fws_rule.specs.Names.{interface_name, is_own_byte, AreNamed}
+use Rattle.fws_rules.specs.Names.{interface_name, is_own_byte, AreNamed}
 use Rattle.fws_ios.specs.Values.{is_number as are_digits}
 use Rattle.fws_ios_print.specs.Printable.{is_list_name, state_name}
 use Rattle.fws_ios_put.specs.Layout.{ending, has_followers, list_name}

@@ -7,7 +7,7 @@ use Rattle.std.specs.List.{AllByRecursion, list_all, list_any}
 use Rattle.std.specs.Str.{bytes_eq}
 use Rattle.fws_net.specs.declared.site.Site.{Site}
 use Rattle.fws_net.specs.declared.packet.Lang.TheVariants.{Ios}
-use Rattle.fws_rule.specs.Names.{AreNamed}
+use Rattle.fws_rules.specs.Names.{AreNamed}
 use Rattle.fws_ios.specs.declared.config.IosList.{IosList}
 use Rattle.fws_ios.specs.Soundness.{are_apart}
 use Rattle.fws_ios.specs.Walk.{list_named}

@@ -6,9 +6,9 @@ use Rattle.fws_net.specs.declared.outcome.Outcome.{Outcome}
 use Rattle.fws_net.specs.declared.outcome.Outcome.TheVariants.{Drop}
 use Rattle.fws_net.specs.declared.site.Site.{Site}
 use Rattle.fws_net.specs.Points.{tops_of}
-use Rattle.fws_sight.specs.declared.seen.Seen.TheVariants.{Entered}
-use Rattle.fws_sight.specs.Shown.{IsTold}
-use Rattle.fws_sight.specs.SightLaws.{RelabelledTreesAreTold}
+use Rattle.fws_tree_seen.specs.declared.seen.Seen.TheVariants.{Entered}
+use Rattle.fws_tree_seen.specs.Shown.{IsTold}
+use Rattle.fws_tree_seen.specs.SightLaws.{RelabelledTreesAreTold}
 use Rattle.fws_tree.specs.declared.tables.Tables.{Tables}
 use Rattle.fws_tree.specs.Plain.{Plain, value}
 use Rattle.fws_tree.specs.Regular.{AreRegular}

@@ -10,8 +10,8 @@ use Rattle.fws_net.specs.Points.{packet_of, tops_of}
 use Rattle.fws_net.specs.Routes.{exit_at, is_local}
 use Rattle.fws_tree.specs.declared.tables.Tables.{Tables}
 use Rattle.fws_tree.specs.Plain.{Plain, value}
-use Rattle.fws_sight.specs.declared.seen.Seen.TheVariants.{Entered}
-use Rattle.fws_sight.specs.Shown.{IsTold}
+use Rattle.fws_tree_seen.specs.declared.seen.Seen.TheVariants.{Entered}
+use Rattle.fws_tree_seen.specs.Shown.{IsTold}
 use Rattle.fws_ios_put_entries.specs.Entries.{acknowledges}
 use Rattle.fws_ios_put_entries.specs.Seen.{IsListed}
 use Rattle.fws_place.specs.Meaning.{IsPairOf, new_of, point_of, rec_of}

@@ -3,8 +3,8 @@
 ghost use Rattle.std.specs.Prelude.{◌≡◌, ◌&&◌, ◌||◌, ◌+◌, ◌≤◌, length, IfOk};
 ghost use Rattle.fws_net.specs.Points.{tops_of};
 ghost use Rattle.fws_net.specs.Routes.{IsSound};
-ghost use Rattle.fws_sight.specs.declared.seen.Seen.TheVariants.{Entered};
-ghost use Rattle.fws_sight.specs.Shown.{IsTold};
+ghost use Rattle.fws_tree_seen.specs.declared.seen.Seen.TheVariants.{Entered};
+ghost use Rattle.fws_tree_seen.specs.Shown.{IsTold};
 ghost use Rattle.fws_ios_put.specs.Choices.{framed, is_tcp, truth, AreAskable, AreMadeOf, IsAskable, HasTruth, is_acked_stray, acked_truth};
 
 use crate::choices::Choices;

@@ -4,8 +4,8 @@ ghost use Rattle.std.specs.Prelude.{◌≡◌, ◌&&◌, not, ◌+◌, ◌-◌, 
 ghost use Rattle.fws_iv.specs.Ivs.{has};
 ghost use Rattle.fws_net.specs.Points.{tops_of};
 ghost use Rattle.fws_net.specs.Routes.{is_local, IsSound};
-ghost use Rattle.fws_sight.specs.declared.seen.Seen.TheVariants.{Entered};
-ghost use Rattle.fws_sight.specs.Shown.{IsTold};
+ghost use Rattle.fws_tree_seen.specs.declared.seen.Seen.TheVariants.{Entered};
+ghost use Rattle.fws_tree_seen.specs.Shown.{IsTold};
 ghost use Rattle.fws_tree.specs.Plain.{value};
 ghost use Rattle.fws_ios_put.specs.Choices.{framed, is_stray, is_tcp, truth, IsAskable, IsNowhere, HasTruth, is_framed};
 ghost use Rattle.fws_place.specs.Kept.{HaveWhere, IsKeptWhere};

@@ -7,8 +7,8 @@ ghost use Rattle.fws_tree.specs.Plain.{branch};
 ghost use Rattle.fws_ios_put.specs.Layout.{AreLeaders, MayLead};
 
 use fws_num::{Items, Memory};
-use fws_sight::{cut_nodes_part_values, leaf_nodes_are_leaves};
 use fws_tree::{Kid, Node, Tree};
+use fws_tree_seen::{cut_nodes_part_values, leaf_nodes_are_leaves};
 use std::alloc::Global;
 
 // Whether a kid has both values.

@@ -4,9 +4,9 @@ ghost use Rattle.std.specs.Prelude.{◌≡◌, ◌≤◌, ◌+◌, length, IfOk,
 ghost use Rattle.fws_net.specs.Points.{tops_of};
 ghost use Rattle.fws_net.specs.Routes.{IsSound};
 ghost use Rattle.fws_net.specs.declared.packet.Lang.TheVariants.{Ios};
-ghost use Rattle.fws_rule.specs.Names.{AreNamed};
-ghost use Rattle.fws_sight.specs.declared.seen.Seen.TheVariants.{Entered};
-ghost use Rattle.fws_sight.specs.Shown.{IsTold};
+ghost use Rattle.fws_rules.specs.Names.{AreNamed};
+ghost use Rattle.fws_tree_seen.specs.declared.seen.Seen.TheVariants.{Entered};
+ghost use Rattle.fws_tree_seen.specs.Shown.{IsTold};
 ghost use Rattle.fws_ios_put.specs.Layout.{groups_of, leader, AreLeaders, AreLists, IsEntryList, IsOwnList, IsPut, LeadEarly};
 
 use crate::blocks::list_of;

@@ -6,7 +6,7 @@ ghost use Rattle.fws_ios_put.specs.Layout.{ending, has_followers, list_name};
 
 use fws_net::{Lang, Site};
 use fws_num::{Memory, Text};
-use fws_rule::interface_name;
+use fws_rules::interface_name;
 use std::alloc::Global;
 
 // Whether the entry is one of these.

@@ -20,7 +20,7 @@ use fws_place::{
     ios_host_passes, ios_keeps_new_packets, ios_new_by_ack, ios_pairs_are_told,
     lost_pairs_are_dropped,
 };
-use fws_rule::orderly_sites_are_named;
+use fws_rules::orderly_sites_are_named;
 use fws_tree::{Tables, Tree};
 use std::alloc::Global;
 

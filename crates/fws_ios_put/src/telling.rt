@@ -7,8 +7,8 @@ ghost use Rattle.fws_tree.specs.Regular.{AreRegular};
 use fws_net::{Outcome, Site};
 use fws_num::Memory;
 use fws_place::{accepted_somewhere, views_are_told};
-use fws_sight::relabelled_trees_are_told;
 use fws_tree::{Relabelling, Tables, Tree};
+use fws_tree_seen::relabelled_trees_are_told;
 use std::alloc::Global;
 
 /// Whether an outcome accepts.

@@ -17,7 +17,7 @@ use Rattle.fws_net.specs.declared.view.View.{View}
 use Rattle.fws_net.specs.Conditions.{holds, lit_holds}
 use Rattle.fws_net.specs.Faces.{prefix_parts}
 use Rattle.fws_net.specs.Fates.{has_ports}
-use Rattle.fws_rule.specs.Literals.{one}
+use Rattle.fws_rules.specs.Literals.{one}
 use Rattle.fws_print.specs.Sets.{first_number, is_network, is_range}
 use Rattle.fws_ios_print.specs.Printable.{ascend, is_block, is_class, is_port_protocol, is_prefix, is_printed_cond, is_printed_entry, is_printed_literal, is_state, place_of, protocol_tested, tested}
 use Rattle.fws_ios_put_entries.specs.declared.act.Act.{Act}

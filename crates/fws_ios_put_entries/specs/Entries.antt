@@ -9,7 +9,7 @@ use Rattle.fws_net.specs.declared.packet.Packet.{Packet}
 use Rattle.fws_net.specs.declared.view.View.{View}
 use Rattle.fws_net.specs.Conditions.{holds}
 use Rattle.fws_net.specs.Faces.{prefix_parts}
-use Rattle.fws_rule.specs.Literals.{one, positive}
+use Rattle.fws_rules.specs.Literals.{one, positive}
 use Rattle.fws_ios.specs.declared.config.IosEntry.{IosEntry}
 use Rattle.fws_ios_print.specs.Printable.{is_printed_entry, is_state}
 use Rattle.fws_ios_put_entries.specs.declared.act.Act.{Act}

@@ -3,7 +3,7 @@
 ghost use Rattle.std.specs.Prelude.{◌≡◌, ◌≤◌, ◌++◌, ◌∷◌, [], true, Some, option_map, IfOk, IfSome, OnOk};
 ghost use Rattle.fws_iv.specs.declared.iv.Iv.{Iv};
 ghost use Rattle.fws_net.specs.Faces.{prefix_parts};
-ghost use Rattle.fws_rule.specs.Literals.{one, positive};
+ghost use Rattle.fws_rules.specs.Literals.{one, positive};
 ghost use Rattle.fws_ios_put_entries.specs.Entries.{behind_source, cond_of, flag_lits, lits_of, test_of, IsEntryOf, IsStateEntry, behind_front};
 ghost use Rattle.fws_ios_put_entries.specs.Paths.{IsWritable};
 

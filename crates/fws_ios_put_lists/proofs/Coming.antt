@@ -7,7 +7,7 @@ use Rattle.fws_iv.specs.Ivs.{has}
 use Rattle.fws_net.specs.Fates.{has_ports}
 use Rattle.fws_tree.specs.declared.node.Kid.{Kid}
 use Rattle.fws_tree.specs.Plain.{leaf, value}
-use Rattle.fws_sight.specs.Cuts.{IsCutNode}
+use Rattle.fws_tree_seen.specs.Cuts.{IsCutNode}
 use Rattle.fws_ios_put_entries.specs.Seen.{IsListed, LookSame}
 use Rattle.fws_ios_put_lists.specs.Blocks.{below, Comes, IsPlanned, Scene}
 use Rattle.fws_ios_put_lists.proofs.Laws.{NodeLaws}

@@ -15,7 +15,7 @@ use Rattle.fws_net.specs.Fates.{has_ports}
 use Rattle.fws_tree.specs.declared.node.Kid.{Kid}
 use Rattle.fws_tree.specs.declared.node.Node.TheVariants.{Cut}
 use Rattle.fws_tree.specs.Plain.{leaf}
-use Rattle.fws_sight.specs.Cuts.{IsCutNode}
+use Rattle.fws_tree_seen.specs.Cuts.{IsCutNode}
 use Rattle.fws_ios_put_entries.specs.declared.path.Path.{Path}
 use Rattle.fws_ios_put_entries.specs.declared.side.Side.{Side}
 use Rattle.fws_ios_put_entries.specs.declared.side.Side.TheVariants.{Proto, Dst, Dport, Src, Sport, Icmp}

@@ -10,8 +10,8 @@ use crate::sheet::Sheet;
 use crate::sizes::{kid_size, size_at};
 use fws_ios_put_entries::Side;
 use fws_num::Memory;
-use fws_sight::leaf_nodes_are_leaves;
 use fws_tree::{Kid, Node};
+use fws_tree_seen::leaf_nodes_are_leaves;
 use std::alloc::Global;
 
 /// Whether packets fall to the value.

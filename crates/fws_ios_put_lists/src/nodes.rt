@@ -30,8 +30,8 @@ use crate::turns::cut_turns;
 use fws_ios::IosEntry;
 use fws_ios_put_entries::{Act, Path, entry_of};
 use fws_num::{Items, Memory};
-use fws_sight::{cut_nodes_part_values, leaf_nodes_are_leaves};
 use fws_tree::Node;
+use fws_tree_seen::{cut_nodes_part_values, leaf_nodes_are_leaves};
 use std::alloc::Global;
 
 // What the entry does.

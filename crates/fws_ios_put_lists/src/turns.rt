@@ -6,7 +6,7 @@ ghost use Rattle.fws_ios_put_lists.specs.Turns.{turns_to, AreKidTests, AreTests,
 ghost use Rattle.fws_ios_put_lists.specs.declared.turn.Turn.{Turn};
 ghost use Rattle.fws_ios_put_entries.specs.Paths.{number_of, top_of};
 ghost use Rattle.fws_iv.specs.Ivs.{has};
-ghost use Rattle.fws_sight.specs.Cuts.{IsCutNode};
+ghost use Rattle.fws_tree_seen.specs.Cuts.{IsCutNode};
 ghost use Rattle.fws_tree.specs.declared.node.Node.{Node};
 ghost use Rattle.fws_print.specs.Appended.{Appends};
 ghost use Rattle.fws_ios_put_lists.specs.Sheets.{scene_of};
@@ -16,8 +16,8 @@ use crate::sheet::Sheet;
 use crate::turn::Turn;
 use fws_ios_put_entries::{Path, Side, narrowed, side_at};
 use fws_num::{Items, Memory};
-use fws_sight::{cut_nodes_part_values, leaf_nodes_are_leaves};
 use fws_tree::Kid;
+use fws_tree_seen::{cut_nodes_part_values, leaf_nodes_are_leaves};
 use std::alloc::Global;
 
 // Appends a turn to the node on each path.

@@ -3,7 +3,7 @@ use Rattle.std.specs.Prelude.{ℕ, List}
 use Rattle.fws_iv.specs.declared.iv.Iv.{Iv}
 use Rattle.fws_net.specs.declared.condition.Lit.{Lit}
 use Rattle.fws_net.specs.declared.condition.Test.{Test}
-use Rattle.fws_rule.specs.Literals.{negative, one, positive}
+use Rattle.fws_rules.specs.Literals.{negative, one, positive}
 use Rattle.fws_ios.specs.declared.words.PortWord.{PortWord}
 use Rattle.fws_ios.specs.declared.words.PortWord.TheVariants as ports
 use Rattle.fws_ios.specs.Values.{ports_above, ports_below}

@@ -6,7 +6,7 @@ ghost use Rattle.fws_ios.specs.FileText.{alone, begins, begins_with_any, left_ou
 
 use fws_net::{Cause, ReadFault};
 use fws_num::Word;
-use fws_rule::is;
+use fws_rules::is;
 
 /// Whether the word is this one, and can be judged.
 pub(crate) fn says(word: &Word, text: &[u8]) -> bool

@@ -16,7 +16,7 @@ use crate::values::{has_ports, is_number};
 use fws_ios::{EntryDraft, Expects, IosEntry, Place};
 use fws_net::{Cause, Checks, Cond, ReadFault, Test};
 use fws_num::{Memory, Word};
-use fws_rule::{is, positive};
+use fws_rules::{is, positive};
 use std::alloc::Global;
 use std::mem;
 

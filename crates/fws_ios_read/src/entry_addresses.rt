@@ -9,7 +9,7 @@ use crate::values::{address_literal, read_protocol_value, wildcard_len};
 use fws_ios::{EntryDraft, Expects, Place};
 use fws_net::{Cause, Lit, ReadFault};
 use fws_num::{Memory, read_quad};
-use fws_rule::{is, protocol_literal, put_literals};
+use fws_rules::{is, protocol_literal, put_literals};
 use std::alloc::Global;
 
 /// Adds a literal.

@@ -11,7 +11,7 @@ use fws_ios::{EntryDraft, Expects, Place};
 use fws_iv::one;
 use fws_net::{Cause, Cond, ReadFault, Test};
 use fws_num::{Memory, read_quad};
-use fws_rule::{is, positive};
+use fws_rules::{is, positive};
 use std::alloc::Global;
 
 /// RST and ACK.

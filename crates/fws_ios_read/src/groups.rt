@@ -11,7 +11,7 @@ use crate::progress::{Progress, open_alone};
 use fws_ios::{Block, IosGroup, Marked};
 use fws_net::{Cause, Lang, ReadFault, Site, entry_named};
 use fws_num::{Text, Word};
-use fws_rule::is;
+use fws_rules::is;
 use std::alloc::Global;
 
 /// Takes the words behind `interface`.

@@ -6,7 +6,7 @@ ghost use Rattle.fws_ios.specs.Keywords.{begins_with_digit, is_keyword, is_other
 use fws_ios::PortWord;
 use fws_net::Cause;
 use fws_num::value_named;
-use fws_rule::is_one_of;
+use fws_rules::is_one_of;
 
 /// How ports are compared.
 const PORT_WORDS: [(&[u8], PortWord); 5] = [

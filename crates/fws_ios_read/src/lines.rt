@@ -17,7 +17,7 @@ use crate::progress::{Progress, open_alone};
 use fws_ios::Block;
 use fws_net::{Cause, ReadFault, Site};
 use fws_num::{Line, Memory, Text, Word, put_dec};
-use fws_rule::is;
+use fws_rules::is;
 use std::alloc::Global;
 
 /// The name of the list with a number.

@@ -11,7 +11,7 @@ use crate::pools::Pools;
 use fws_ios::{IosNat, NatDraft, NatExpects};
 use fws_net::{Cause, End, Lang, ReadFault, Site, entry_named, face_addr};
 use fws_num::{Memory, Text, Word, read_port, read_quad, value_named};
-use fws_rule::{demand, is};
+use fws_rules::{demand, is};
 use std::alloc::Global;
 
 /// A translation ahead of its first word.

@@ -10,7 +10,7 @@ use crate::values::{is_netmask, is_prefix_length};
 use fws_ios::PoolExpects;
 use fws_net::{Cause, ReadFault};
 use fws_num::{Word, read_quad};
-use fws_rule::is;
+use fws_rules::is;
 
 /// Takes the first address.
 fn first_step(text: &[u8]) -> Result<PoolExpects, ReadFault>

@@ -3,7 +3,7 @@
 ghost use Rattle.std.specs.Prelude.{◌≡◌, ◌≤◌, IfOk};
 ghost use Rattle.std.specs.List.{list_all};
 ghost use Rattle.fws_num.specs.Numbers.{is_digit};
-ghost use Rattle.fws_rule.specs.Literals.{one};
+ghost use Rattle.fws_rules.specs.Literals.{one};
 ghost use Rattle.fws_ios.specs.Values.{address_literal, address_test, has_ports, icmp_type_named, icmp_type_of, is_netmask, is_number, is_prefix_length, port_literal, port_test, ports_above, ports_below, protocol_value, range_literal, wildcard_len, wildcard_of};
 ghost use Rattle.fws_ios_read.specs.Ports.{compared_literal, compared_ports};
 
@@ -11,7 +11,7 @@ use fws_ios::{Place, PortWord};
 use fws_iv::{Ivs, one};
 use fws_net::{Lit, Test, agreeing_set};
 use fws_num::{Memory, read_dec, read_ios_protocol, read_quad, value_named};
-use fws_rule::{is, negative, positive};
+use fws_rules::{is, negative, positive};
 use std::alloc::Global;
 
 /// Whether each byte is a digit.

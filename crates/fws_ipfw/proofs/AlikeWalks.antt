@@ -13,7 +13,7 @@ use Rattle.fws_net.specs.Conditions.{holds}
 use Rattle.fws_net.specs.Connections.{is_est}
 use Rattle.fws_net.specs.Ends.{host_end}
 use Rattle.fws_net.specs.Transits.{seen, with_src, with_dst}
-use Rattle.fws_rule.specs.AlikeWays.{AlikeKinds, AlikeTransits, AlikeWays, MakeAlike, LeadAlike, StayAlike}
+use Rattle.fws_rules.specs.AlikeWays.{AlikeKinds, AlikeTransits, AlikeWays, MakeAlike, LeadAlike, StayAlike}
 use Rattle.fws_ipfw.specs.declared.config.IpfwAct.{IpfwAct}
 use Rattle.fws_ipfw.specs.declared.config.IpfwAct.TheVariants.{Allow, Deny, Count, Skip, Check, Nat}
 use Rattle.fws_ipfw.specs.declared.config.IpfwTag.{IpfwTag}

@@ -6,7 +6,7 @@ use Rattle.std.proofs.lemmas.Bool.{false≢true, both_ways, and_parts, or_cases,
 use Rattle.fws_net.specs.declared.packet.Packet.{Packet}
 use Rattle.fws_net.specs.declared.outcome.End.{End}
 use Rattle.fws_net.specs.Fates.{has_ports}
-use Rattle.fws_rule.specs.Alike.{Alike}
+use Rattle.fws_rules.specs.Alike.{Alike}
 use Rattle.fws_ipfw.specs.declared.config.Redirect.{Redirect}
 use Rattle.fws_ipfw.specs.RuleText as rules
 use Rattle.fws_ipfw.specs.Soundness.{redirect_fits}

@@ -9,7 +9,7 @@ use Rattle.fws_net.specs.declared.transit.Transit.{Transit}
 use Rattle.fws_net.specs.Ends.{host_end}
 use Rattle.fws_net.specs.Fates.{has_ports}
 use Rattle.fws_net.specs.Transits.{with_dst}
-use Rattle.fws_rule.specs.Regular.{IsPortless}
+use Rattle.fws_rules.specs.Regular.{IsPortless}
 use Rattle.fws_ipfw.specs.declared.config.IpfwConfig.{IpfwConfig}
 use Rattle.fws_ipfw.specs.declared.config.IpfwNat.{IpfwNat}
 use Rattle.fws_ipfw.specs.declared.config.Redirect.{Redirect}

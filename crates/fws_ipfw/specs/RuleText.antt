@@ -16,7 +16,7 @@ use Rattle.fws_net.specs.declared.site.Site.{Site}
 use Rattle.fws_net.specs.Causes.{words_read}
 use Rattle.fws_net.specs.Ports.{ports_of}
 use Rattle.fws_net.specs.Reading.{and_then}
-use Rattle.fws_rule.specs.Literals.{positive, literals, protocol_literal}
+use Rattle.fws_rules.specs.Literals.{positive, literals, protocol_literal}
 use Rattle.fws_ipfw.specs.declared.config.IpfwAct.{IpfwAct}
 use Rattle.fws_ipfw.specs.declared.config.IpfwAct.TheVariants as acts
 use Rattle.fws_ipfw.specs.declared.config.IpfwTag.TheVariants as tags

@@ -19,8 +19,8 @@ use Rattle.fws_net.specs.declared.site.Site.{Site}
 use Rattle.fws_net.specs.Faces.{block, local_parts}
 use Rattle.fws_net.specs.Ports.{ports_of}
 use Rattle.fws_net.specs.Reading.{and_then}
-use Rattle.fws_rule.specs.Interfaces.{interfaces_of}
-use Rattle.fws_rule.specs.Literals.{positive}
+use Rattle.fws_rules.specs.Interfaces.{interfaces_of}
+use Rattle.fws_rules.specs.Literals.{positive}
 use Rattle.fws_ipfw.specs.declared.draft.Flags.{Flags}
 use Rattle.fws_ipfw.specs.declared.words.TestOption.{TestOption}
 use Rattle.fws_ipfw.specs.declared.words.TestOption.TheVariants as options

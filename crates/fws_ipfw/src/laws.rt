@@ -3,7 +3,9 @@
 ghost use Rattle.fws_ipfw.specs.Regular.{FittingWalksAreRegular, SpelledWalksAreRegular};
 ghost use Rattle.fws_ipfw.specs.Soundness.{SpelledFits};
 
-use fws_rule::{alike_packets_stay_alike, alike_walks_are_regular, regular_parts_make_alike_walks};
+use fws_rules::{
+    alike_packets_stay_alike, alike_walks_are_regular, regular_parts_make_alike_walks,
+};
 
 /// Every configuration that a text spells is fitting, and its rules stand by their numbers: a law, with
 /// nothing to do.

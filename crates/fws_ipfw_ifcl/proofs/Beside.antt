@@ -9,8 +9,8 @@ use Rattle.fws_ifcl.specs.declared.diagram.Act.TheVariants as rules
 use Rattle.fws_ifcl.specs.declared.diagram.Rule.{Rule}
 use Rattle.fws_ifcl.specs.declared.diagram.Spot.{Spot}
 use Rattle.fws_ifcl.specs.Spots.{are_spots_of}
-use Rattle.fws_draw.specs.Rules.{always}
-use Rattle.fws_draw.specs.UsedPlaces.{spots_from, untold, first_told, are_below, TellsOfUses}
+use Rattle.fws_ifcl_rules.specs.Rules.{always}
+use Rattle.fws_ifcl_rules.specs.UsedPlaces.{spots_from, untold, first_told, are_below, TellsOfUses}
 use Rattle.fws_ipfw.specs.declared.config.IpfwConfig.{IpfwConfig}
 use Rattle.fws_ipfw.specs.declared.config.IpfwNat.{IpfwNat}
 use Rattle.fws_ipfw.specs.declared.config.IpfwRule.{IpfwRule}

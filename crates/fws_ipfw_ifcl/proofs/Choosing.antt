@@ -10,7 +10,7 @@ use Rattle.fws_net.specs.Conditions.{holds}
 use Rattle.fws_net.specs.Ends.{host_end}
 use Rattle.fws_net.specs.Transits.{with_src, with_dst}
 use Rattle.fws_ifcl.specs.declared.diagram.Act.TheVariants.{Skip}
-use Rattle.fws_draw.specs.Rules.{ruled, always}
+use Rattle.fws_ifcl_rules.specs.Rules.{ruled, always}
 use Rattle.fws_ipfw.specs.declared.config.IpfwNat.{IpfwNat}
 use Rattle.fws_ipfw.specs.declared.config.Redirect.{Redirect}
 use Rattle.fws_ipfw.specs.Soundness.{redirect_fits}

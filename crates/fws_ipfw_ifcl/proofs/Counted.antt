@@ -11,8 +11,8 @@ use Rattle.fws_ifcl.specs.declared.diagram.Place.{Place}
 use Rattle.fws_ifcl.specs.declared.diagram.Rule.{Rule}
 use Rattle.fws_ifcl.specs.declared.diagram.Spot.{Spot}
 use Rattle.fws_ifcl.specs.declared.step.ChainEnd.{ChainEnd}
-use Rattle.fws_draw.specs.Places.{WalksGoByPlaces}
-use Rattle.fws_draw.specs.UsedPlaces.{AreBeside, TellsOfUses}
+use Rattle.fws_ifcl_rules.specs.Places.{WalksGoByPlaces}
+use Rattle.fws_ifcl_rules.specs.UsedPlaces.{AreBeside, TellsOfUses}
 use Rattle.fws_ipfw.specs.declared.config.IpfwConfig.{IpfwConfig}
 use Rattle.fws_ipfw.specs.declared.config.IpfwRule.{IpfwRule}
 use Rattle.fws_ipfw.specs.declared.pass.Pass.{Pass}

@@ -14,8 +14,8 @@ use Rattle.fws_ifcl.specs.declared.step.ChainEnd.{ChainEnd}
 use Rattle.fws_ifcl.specs.declared.step.Step.{Step}
 use Rattle.fws_ifcl.specs.declared.step.Step.TheVariants as steps
 use Rattle.fws_ifcl.specs.Walk.{sees, step_of}
-use Rattle.fws_draw.specs.Places.{AreForward}
-use Rattle.fws_draw.specs.UsedPlaces.{untold}
+use Rattle.fws_ifcl_rules.specs.Places.{AreForward}
+use Rattle.fws_ifcl_rules.specs.UsedPlaces.{untold}
 use Rattle.fws_ipfw_ifcl.specs.Diagram.{pass_stage}
 
 -- What is kept

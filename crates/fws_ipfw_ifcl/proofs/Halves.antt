@@ -10,8 +10,8 @@ use Rattle.fws_net.specs.Connections.{is_est}
 use Rattle.fws_ifcl.specs.declared.diagram.Act.TheVariants as rules
 use Rattle.fws_ifcl.specs.declared.diagram.Rule.{Rule}
 use Rattle.fws_ifcl.specs.declared.step.ChainEnd.TheVariants.{Accepted, Dropped}
-use Rattle.fws_draw.specs.Rules.{always}
-use Rattle.fws_draw.specs.UsedPlaces.{untold}
+use Rattle.fws_ifcl_rules.specs.Rules.{always}
+use Rattle.fws_ifcl_rules.specs.UsedPlaces.{untold}
 use Rattle.fws_ipfw.specs.declared.config.IpfwAct.{IpfwAct}
 use Rattle.fws_ipfw.specs.declared.config.IpfwAct.TheVariants as acts
 use Rattle.fws_ipfw.specs.declared.config.IpfwRule.{IpfwRule}

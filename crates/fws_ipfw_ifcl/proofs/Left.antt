@@ -13,8 +13,8 @@ use Rattle.fws_ifcl.specs.declared.diagram.Rule.{Rule}
 use Rattle.fws_ifcl.specs.declared.step.ChainEnd.{ChainEnd}
 use Rattle.fws_ifcl.specs.declared.step.ChainEnd.TheVariants.{Accepted, Dropped, Through}
 use Rattle.fws_ifcl.specs.Walk.{sees, back}
-use Rattle.fws_draw.specs.Places.{StandAt, WalksGoByPlaces, walk_from, behind_act, walk_through}
-use Rattle.fws_draw.specs.UsedPlaces.{untold}
+use Rattle.fws_ifcl_rules.specs.Places.{StandAt, WalksGoByPlaces, walk_from, behind_act, walk_through}
+use Rattle.fws_ifcl_rules.specs.UsedPlaces.{untold}
 use Rattle.fws_ipfw.specs.declared.config.IpfwConfig.{IpfwConfig}
 use Rattle.fws_ipfw.specs.declared.config.IpfwRule.{IpfwRule}
 use Rattle.fws_ipfw.specs.declared.pass.Pass.{Pass}

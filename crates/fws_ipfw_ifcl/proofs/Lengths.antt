@@ -2,7 +2,7 @@
 use Rattle.std.proofs.Common.{◌≡◌, ℕ, suc, ◌+◌, ◌*◌, Bool, true, false, Option, Some, None, List, [], ◌∷◌, ◌++◌, length, arith, refl, ap, length-append}
 use Rattle.fws_net.specs.declared.condition.Lit.{Lit}
 use Rattle.fws_ifcl.specs.declared.diagram.Act.TheVariants.{Skip, AddTag, DelTag}
-use Rattle.fws_draw.specs.Rules.{always, guard, guarded}
+use Rattle.fws_ifcl_rules.specs.Rules.{always, guard, guarded}
 use Rattle.fws_ipfw.specs.declared.config.IpfwAct.{IpfwAct}
 use Rattle.fws_ipfw.specs.declared.config.IpfwAct.TheVariants as acts
 use Rattle.fws_ipfw.specs.declared.config.IpfwTag.{IpfwTag}

@@ -8,7 +8,7 @@ use Rattle.fws_net.specs.declared.condition.Test.TheVariants as tests
 use Rattle.fws_net.specs.declared.view.View.{View}
 use Rattle.fws_net.specs.Conditions.{holds}
 use Rattle.fws_net.specs.Fates.{has_ports}
-use Rattle.fws_rule.specs.Literals.{one}
+use Rattle.fws_rules.specs.Literals.{one}
 use Rattle.fws_ipfw.specs.declared.config.Redirect.{Redirect}
 use Rattle.fws_ipfw.specs.RuleText.{has_ports as names_ports}
 use Rattle.fws_ipfw.specs.Soundness.{redirect_fits}

@@ -8,10 +8,10 @@ use Rattle.fws_net.specs.declared.site.Site.{Site}
 use Rattle.fws_ifcl.specs.declared.diagram.Act.TheVariants as rules
 use Rattle.fws_ifcl.specs.declared.diagram.Rule.{Rule}
 use Rattle.fws_ifcl.specs.Soundness.{act_ok, rules_ok, ifcl_ok}
-use Rattle.fws_rule.specs.Literals.{positive, negative}
-use Rattle.fws_draw.specs.Right.{RightAmong, RightByParts, RulesAreRightByParts}
-use Rattle.fws_draw.specs.Rules.{ruled, always, guarded}
-use Rattle.fws_draw.specs.Straight.{is_straight}
+use Rattle.fws_rules.specs.Literals.{positive, negative}
+use Rattle.fws_ifcl_rules.specs.Right.{RightAmong, RightByParts, RulesAreRightByParts}
+use Rattle.fws_ifcl_rules.specs.Rules.{ruled, always, guarded}
+use Rattle.fws_ifcl_rules.specs.Straight.{is_straight}
 use Rattle.fws_ipfw.specs.declared.config.IpfwAct.{IpfwAct}
 use Rattle.fws_ipfw.specs.declared.config.IpfwAct.TheVariants as acts
 use Rattle.fws_ipfw.specs.declared.config.IpfwTag.{IpfwTag}

@@ -16,7 +16,7 @@ use Rattle.fws_net.specs.Transits.{with_verdict, with_dst, with_tracked_dst, has
 use Rattle.fws_ifcl.specs.declared.diagram.Stage.{Stage}
 use Rattle.fws_ifcl.specs.declared.step.ChainEnd.{ChainEnd}
 use Rattle.fws_ifcl.specs.Walk.{chain_walk, stage_end, stage_walk, stages_walk, means}
-use Rattle.fws_draw.specs.Places.{WalksGoByPlaces}
+use Rattle.fws_ifcl_rules.specs.Places.{WalksGoByPlaces}
 use Rattle.fws_ipfw.specs.declared.config.IpfwAct.{IpfwAct}
 use Rattle.fws_ipfw.specs.declared.config.IpfwAct.TheVariants as acts
 use Rattle.fws_ipfw.specs.declared.config.IpfwTag.{IpfwTag}

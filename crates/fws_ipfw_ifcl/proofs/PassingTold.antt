@@ -16,8 +16,8 @@ use Rattle.fws_ifcl.specs.declared.step.ChainEnd.{ChainEnd}
 use Rattle.fws_ifcl.specs.Spots.{told}
 use Rattle.fws_ifcl.specs.Uses.{chain_used, stage_used, used_places}
 use Rattle.fws_ifcl.specs.Walk.{chain_walk, stage_walk, stages_walk}
-use Rattle.fws_draw.specs.Places.{WalksGoByPlaces}
-use Rattle.fws_draw.specs.UsedPlaces.{AreBeside, stages_told, TellsOfUses}
+use Rattle.fws_ifcl_rules.specs.Places.{WalksGoByPlaces}
+use Rattle.fws_ifcl_rules.specs.UsedPlaces.{AreBeside, stages_told, TellsOfUses}
 use Rattle.fws_ipfw.specs.declared.config.IpfwConfig.{IpfwConfig}
 use Rattle.fws_ipfw.specs.Soundness.{nat_fits}
 use Rattle.fws_ipfw.specs.Uses.{pass_used, used}

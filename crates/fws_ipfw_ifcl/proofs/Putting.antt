@@ -5,7 +5,7 @@ use Rattle.std.specs.Prelude.{not, is_some, is_none}
 use Rattle.fws_net.specs.declared.condition.Lit.{Lit}
 use Rattle.fws_ifcl.specs.declared.diagram.Act.{Act}
 use Rattle.fws_ifcl.specs.declared.diagram.Rule.{Rule}
-use Rattle.fws_draw.specs.Rules.{always, guard, guarded}
+use Rattle.fws_ifcl_rules.specs.Rules.{always, guard, guarded}
 use Rattle.fws_ipfw.specs.declared.config.IpfwAct.{IpfwAct}
 use Rattle.fws_ipfw.specs.declared.config.IpfwNat.{IpfwNat}
 use Rattle.fws_ipfw.specs.declared.config.IpfwRule.{IpfwRule}

@@ -15,8 +15,8 @@ use Rattle.fws_ifcl.specs.declared.step.ChainEnd.{ChainEnd}
 use Rattle.fws_ifcl.specs.declared.step.ChainEnd.TheVariants.{Accepted, Dropped, Through}
 use Rattle.fws_ifcl.specs.Spots.{told}
 use Rattle.fws_ifcl.specs.Walk.{sees}
-use Rattle.fws_draw.specs.Places.{StandAt, WalksGoByPlaces}
-use Rattle.fws_draw.specs.UsedPlaces.{untold, StandBeside, AreBeside, TellsOfUses, told_back, told_from, told_act, told_through}
+use Rattle.fws_ifcl_rules.specs.Places.{StandAt, WalksGoByPlaces}
+use Rattle.fws_ifcl_rules.specs.UsedPlaces.{untold, StandBeside, AreBeside, TellsOfUses, told_back, told_from, told_act, told_through}
 use Rattle.fws_ipfw_ifcl.specs.Diagram.{pass_stage}
 use Rattle.fws_ipfw_ifcl.proofs.Courses.{Course, noting, headed, kept_act, kept_through}
 

@@ -3,7 +3,7 @@ use Rattle.std.proofs.Common.{◌≡◌, ℕ, ◌+◌, Bool, true, false, cond, 
 use Rattle.fws_net.specs.declared.site.Site.{Site}
 use Rattle.fws_ifcl.specs.declared.diagram.Act.TheVariants.{Drop}
 use Rattle.fws_ifcl.specs.declared.diagram.Rule.{Rule}
-use Rattle.fws_draw.specs.Rules.{always}
+use Rattle.fws_ifcl_rules.specs.Rules.{always}
 use Rattle.fws_ipfw.specs.declared.config.IpfwConfig.{IpfwConfig}
 use Rattle.fws_ipfw_ifcl.specs.Blocks.{widths}
 use Rattle.fws_ipfw_ifcl.specs.Diagram.{goes_on, second_width, second_place, ending_place, half, second_half, ending, all_rules}

@@ -8,8 +8,8 @@ use Rattle.fws_ifcl.specs.declared.diagram.Rule.{Rule}
 use Rattle.fws_ifcl.specs.declared.diagram.Chain.{Chain}
 use Rattle.fws_ifcl.specs.declared.diagram.Stage.{Stage}
 use Rattle.fws_ifcl.specs.declared.diagram.Ifcl.{Ifcl}
-use Rattle.fws_rule.specs.Literals.{positive, negative}
-use Rattle.fws_draw.specs.Rules.{ruled, always}
+use Rattle.fws_rules.specs.Literals.{positive, negative}
+use Rattle.fws_ifcl_rules.specs.Rules.{ruled, always}
 use Rattle.fws_ipfw.specs.declared.config.IpfwAct.{IpfwAct}
 use Rattle.fws_ipfw.specs.declared.config.IpfwAct.TheVariants as acts
 use Rattle.fws_ipfw.specs.declared.config.IpfwRule.{IpfwRule}

@@ -6,8 +6,8 @@ use Rattle.fws_net.specs.declared.site.Site.{Site}
 use Rattle.fws_ifcl.specs.declared.diagram.Act.TheVariants.{Drop}
 use Rattle.fws_ifcl.specs.declared.diagram.Ifcl.{Ifcl}
 use Rattle.fws_ifcl.specs.declared.diagram.Spot.{Spot}
-use Rattle.fws_draw.specs.Rules.{always}
-use Rattle.fws_draw.specs.UsedPlaces.{untold, chain_spots}
+use Rattle.fws_ifcl_rules.specs.Rules.{always}
+use Rattle.fws_ifcl_rules.specs.UsedPlaces.{untold, chain_spots}
 use Rattle.fws_ipfw.specs.declared.config.IpfwAct.TheVariants as acts
 use Rattle.fws_ipfw.specs.declared.config.IpfwTag.TheVariants as tags
 use Rattle.fws_ipfw.specs.declared.config.IpfwNat.{IpfwNat}

@@ -10,8 +10,8 @@ use Rattle.fws_net.specs.Ends.{host_end}
 use Rattle.fws_ifcl.specs.declared.diagram.Act.{Act}
 use Rattle.fws_ifcl.specs.declared.diagram.Act.TheVariants.{Skip, Src, Dst, RecSrc, RecDst}
 use Rattle.fws_ifcl.specs.declared.diagram.Rule.{Rule}
-use Rattle.fws_rule.specs.Literals.{one, positive, negative}
-use Rattle.fws_draw.specs.Rules.{ruled, always}
+use Rattle.fws_rules.specs.Literals.{one, positive, negative}
+use Rattle.fws_ifcl_rules.specs.Rules.{ruled, always}
 use Rattle.fws_ipfw.specs.declared.config.IpfwNat.{IpfwNat}
 use Rattle.fws_ipfw.specs.declared.config.Redirect.{Redirect}
 

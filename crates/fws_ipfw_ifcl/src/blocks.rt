@@ -1,7 +1,7 @@
 //! The rules to which a rule is unfolded.
 
 ghost use Rattle.std.specs.Prelude.{◌≡◌, ◌+◌, ◌++◌, ◌∷◌, [], true, false, Some, length, IfOk, OnOk};
-ghost use Rattle.fws_draw.specs.Rules.{always, guarded, ruled};
+ghost use Rattle.fws_ifcl_rules.specs.Rules.{always, guarded, ruled};
 ghost use Rattle.fws_ipfw.specs.Soundness.{are_apart};
 ghost use Rattle.fws_ipfw.specs.Walk.{nat_numbered};
 ghost use Rattle.fws_ipfw_ifcl.specs.Blocks.{accepting, acting, block, keeping, tagging_first, translating_once};
@@ -9,12 +9,12 @@ ghost use Rattle.fws_ipfw_ifcl.specs.Blocks.{accepting, acting, block, keeping, 
 use crate::instances::Instances;
 use crate::translating::{put_skip, put_translating};
 use crate::widths::{acting_width, translating_width};
-use fws_draw::{narrowed, place_behind, put_always, put_guard, put_rule, ruled_by, sum};
 use fws_ifcl::{Act, Rule};
+use fws_ifcl_rules::{narrowed, place_behind, put_always, put_guard, put_rule, ruled_by, sum};
 use fws_ipfw::{IpfwAct, IpfwNat, IpfwRule, IpfwTag};
 use fws_net::{Cond, Test};
 use fws_num::Memory;
-use fws_rule::positive;
+use fws_rules::positive;
 use std::alloc::Global;
 
 /// Where the rules of a rule lead.

@@ -9,7 +9,7 @@ ghost use Rattle.fws_ifcl.specs.Soundness.{ifcl_ok};
 ghost use Rattle.fws_ifcl.specs.Spots.{are_spots_of, told};
 ghost use Rattle.fws_ifcl.specs.Uses.{used_places};
 ghost use Rattle.fws_ifcl.specs.Walk.{means};
-ghost use Rattle.fws_draw.specs.Straight.{is_straight};
+ghost use Rattle.fws_ifcl_rules.specs.Straight.{is_straight};
 ghost use Rattle.fws_ipfw.specs.Soundness.{are_apart, are_ordered};
 ghost use Rattle.fws_ipfw.specs.Uses.{used};
 ghost use Rattle.fws_ipfw.specs.Walk.{walk};
@@ -23,15 +23,15 @@ use crate::counts::with_counts;
 use crate::instances::Instances;
 use crate::layout::{skipping_to, starts_from};
 use crate::spots::spots_of;
-use fws_draw::{
+use fws_ifcl::{Act, Chain, Ifcl, Rule, Spot, Stage};
+use fws_ifcl_rules::{
     always, put_always, ruled_by, rules_are_right_by_parts, straight_diagrams_unfold, sum,
     uses_are_told_by_places, walks_go_by_places,
 };
-use fws_ifcl::{Act, Chain, Ifcl, Rule, Spot, Stage};
 use fws_ipfw::{IpfwAct, IpfwConfig, IpfwRule};
 use fws_net::{Site, Test};
 use fws_num::{Items, Memory, Text};
-use fws_rule::{negative, positive};
+use fws_rules::{negative, positive};
 use std::alloc::Global;
 
 /// Whether an act translates.

@@ -9,7 +9,7 @@ ghost use Rattle.fws_ipfw_ifcl.specs.Blocks.{place_from, skipping_to, starts_fro
 
 use crate::instances::Instances;
 use crate::widths::width;
-use fws_draw::sum;
+use fws_ifcl_rules::sum;
 use fws_ipfw::{IpfwAct, IpfwNat, IpfwRule};
 use fws_num::Memory;
 use std::alloc::Global;

@@ -4,14 +4,14 @@ ghost use Rattle.std.specs.Prelude.{◌≡◌, ◌++◌, ◌∷◌, [], IfOk, On
 ghost use Rattle.std.specs.List.{filter};
 ghost use Rattle.fws_net.specs.declared.condition.Test.TheVariants.{Proto};
 ghost use Rattle.fws_ipfw_ifcl.specs.Translating.{asking, by_trial, comes_from, goes_to, is_of_address, is_of_ports, just, writing};
-ghost use Rattle.fws_rule.specs.Literals.{one};
+ghost use Rattle.fws_rules.specs.Literals.{one};
 
 use fws_ifcl::Act;
 use fws_ipfw::Redirect;
 use fws_iv::{Ivs, one};
 use fws_net::{Cond, Test};
 use fws_num::Memory;
-use fws_rule::positive;
+use fws_rules::positive;
 use std::alloc::Global;
 
 /// Puts those that redirect ports behind the others. An error is want of memory.

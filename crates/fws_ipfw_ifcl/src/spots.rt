@@ -1,7 +1,7 @@
 //! Where the rules of a configuration stand in the diagram that tells which of them are used.
 
 ghost use Rattle.std.specs.Prelude.{◌≡◌, ◌++◌, true, IfOk, OnOk};
-ghost use Rattle.fws_draw.specs.UsedPlaces.{spots_from};
+ghost use Rattle.fws_ifcl_rules.specs.UsedPlaces.{spots_from};
 ghost use Rattle.fws_ipfw.specs.Soundness.{are_apart};
 ghost use Rattle.fws_ipfw_ifcl.specs.Diagram.{goes_on};
 ghost use Rattle.fws_ipfw_ifcl.specs.Placed.{half_told, placed_width, second_told, spots_of, with_counts};
@@ -10,8 +10,8 @@ use crate::counts::looks_up;
 use crate::diagram::laid_out;
 use crate::instances::Instances;
 use crate::widths::width;
-use fws_draw::{put_spot, sum, uses_are_told_by_places};
 use fws_ifcl::Spot;
+use fws_ifcl_rules::{put_spot, sum, uses_are_told_by_places};
 use fws_ipfw::{IpfwConfig, IpfwNat, IpfwRule};
 use fws_net::Site;
 use fws_num::Memory;

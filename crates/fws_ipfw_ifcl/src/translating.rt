@@ -1,16 +1,16 @@
 //! The rules that translate a packet by an instance.
 
 ghost use Rattle.std.specs.Prelude.{◌≡◌, ◌+◌, ◌*◌, ◌++◌, ◌∷◌, [], length, IfOk, OnOk};
-ghost use Rattle.fws_draw.specs.Rules.{always};
+ghost use Rattle.fws_ifcl_rules.specs.Rules.{always};
 ghost use Rattle.fws_ipfw_ifcl.specs.Translating.{aliasing, aliasing_width, choosing_all, redirecting, tracking, translating_by, writing_all};
 
 use crate::redirects::{asking, by_trial, writing};
-use fws_draw::{place_behind, put_always, put_rule, ruled_by, sum};
 use fws_ifcl::{Act, Rule};
+use fws_ifcl_rules::{place_behind, put_always, put_rule, ruled_by, sum};
 use fws_ipfw::{IpfwNat, Redirect};
 use fws_net::{End, Test};
 use fws_num::Memory;
-use fws_rule::{negative, positive};
+use fws_rules::{negative, positive};
 use std::alloc::Global;
 
 /// Puts a rule that skips to a place behind the others. An error is want of memory.

@@ -7,7 +7,7 @@ ghost use Rattle.fws_ipfw_ifcl.specs.Translating.{translating_width};
 
 use crate::instances::Instances;
 use crate::translating::redirecting_width;
-use fws_draw::sum;
+use fws_ifcl_rules::sum;
 use fws_ipfw::{IpfwAct, IpfwNat, IpfwRule, IpfwTag};
 use fws_num::Memory;
 

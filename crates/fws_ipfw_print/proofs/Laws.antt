@@ -3,7 +3,7 @@ use Rattle.fws_num.specs.Numbers.{AddressesAreDotted, DecimalsAreRead, NumbersAr
 use Rattle.fws_num.specs.Pieces.{JoinedAreDivided}
 use Rattle.fws_num.specs.Written.{LinesAreRead}
 use Rattle.fws_iv.specs.Ivs.{ManyRangesAddMembers, SameMembersSameList}
-use Rattle.fws_rule.specs.Names.{OrderlySitesAreNamed}
+use Rattle.fws_rules.specs.Names.{OrderlySitesAreNamed}
 
 pub record Laws : Type 0 where
   pub decimals : DecimalsAreRead

@@ -15,8 +15,8 @@ use Rattle.fws_net.specs.declared.condition.Test.TheVariants.{Src, Dst, Sport, D
 use Rattle.fws_net.specs.declared.site.Site.{Site}
 use Rattle.fws_net.specs.SiteLaws.{IsOrderly}
 use Rattle.fws_net.specs.declared.packet.Lang.TheVariants.{Ipfw}
-use Rattle.fws_rule.specs.Literals.{one, positive}
-use Rattle.fws_rule.specs.Names.{interface_name}
+use Rattle.fws_rules.specs.Literals.{one, positive}
+use Rattle.fws_rules.specs.Names.{interface_name}
 use Rattle.fws_ipfw.specs.declared.draft.Defined.{Defined}
 use Rattle.fws_ipfw.specs.declared.draft.RuleDraft.{RuleDraft}
 use Rattle.fws_ipfw.specs.declared.words.TestOption.TheVariants as options

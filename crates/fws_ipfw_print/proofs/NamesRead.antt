@@ -14,9 +14,9 @@ use Rattle.fws_net.specs.declared.site.Site.{Site}
 use Rattle.fws_net.specs.Faces.{entries_beginning, with_entries}
 use Rattle.fws_net.specs.Reading.{and_then}
 use Rattle.fws_net.specs.SiteWords.{is_name_byte}
-use Rattle.fws_rule.specs.Interfaces.{before_mark, interface_named}
-use Rattle.fws_rule.specs.Literals.{one, positive}
-use Rattle.fws_rule.specs.Names.{interface_name, is_own_byte, AreNamed}
+use Rattle.fws_rules.specs.Interfaces.{before_mark, interface_named}
+use Rattle.fws_rules.specs.Literals.{one, positive}
+use Rattle.fws_rules.specs.Names.{interface_name, is_own_byte, AreNamed}
 use Rattle.fws_ipfw.specs.Values.{interface_meaning}
 use Rattle.fws_ipfw_print.proofs.Basics.{all_weaker, if_false}
 use Rattle.fws_ipfw_print.proofs.LineWords.{is_inner, is_writable}

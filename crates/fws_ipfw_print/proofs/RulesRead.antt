@@ -11,7 +11,7 @@ use Rattle.fws_net.specs.declared.condition.Lit.{Lit}
 use Rattle.fws_net.specs.declared.condition.Test.{Test}
 use Rattle.fws_net.specs.declared.condition.Test.TheVariants.{Src, Dst, Sport, Dport, Proto, Icmp, Flags, AnyFlag, Recv, Xmit, Via, Outward, Est, Tag, Never}
 use Rattle.fws_net.specs.declared.site.Site.{Site}
-use Rattle.fws_rule.specs.Literals.{literals, positive, protocol_literal}
+use Rattle.fws_rules.specs.Literals.{literals, positive, protocol_literal}
 use Rattle.fws_ipfw.specs.declared.config.IpfwAct.{IpfwAct}
 use Rattle.fws_ipfw.specs.declared.config.IpfwAct.TheVariants as acts
 use Rattle.fws_ipfw.specs.declared.config.IpfwTag.{IpfwTag}

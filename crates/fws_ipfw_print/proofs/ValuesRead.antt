@@ -21,7 +21,7 @@ use Rattle.fws_net.specs.declared.cause.Cause.TheVariants.{Syntax}
 use Rattle.fws_net.specs.declared.condition.Test.TheVariants as tests
 use Rattle.fws_net.specs.Faces.{local_parts}
 use Rattle.fws_net.specs.Ports.{in_order, port_range, ports_of, with_ports}
-use Rattle.fws_rule.specs.Literals.{positive}
+use Rattle.fws_rules.specs.Literals.{positive}
 use Rattle.fws_ipfw.specs.declared.draft.Flags.{Flags}
 use Rattle.fws_ipfw.specs.Options.{begins_with_digit}
 use Rattle.fws_ipfw.specs.Values.{addresses_of, counted, flag_of, flags_meaning, flags_test, protocol_value, with_flags, with_networks, with_types}

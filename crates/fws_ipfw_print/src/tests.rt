@@ -5,7 +5,7 @@ ghost use Rattle.std.specs.Fmt.{decimal};
 ghost use Rattle.std.specs.List.{flat_map};
 ghost use Rattle.fws_num.specs.Written.{has_slashes};
 ghost use Rattle.fws_net.specs.declared.packet.Lang.TheVariants.{Ipfw};
-ghost use Rattle.fws_rule.specs.Names.{interface_name};
+ghost use Rattle.fws_rules.specs.Names.{interface_name};
 ghost use Rattle.fws_ipfw_print.specs.Printable.{place_of};
 ghost use Rattle.fws_print.specs.Sets.{first_number};
 ghost use Rattle.fws_print.specs.Words.{behind_blanks};
@@ -17,7 +17,7 @@ use fws_iv::Ivs;
 use fws_net::{Lang, Lit, Site, Test};
 use fws_num::{Memory, Text};
 use fws_print::{first_number, put_number, put_protocol, put_word};
-use fws_rule::interface_name;
+use fws_rules::interface_name;
 use std::alloc::Global;
 
 /// The place of a test in a rule.

@@ -21,8 +21,8 @@ use Rattle.fws_ipfw.specs.RuleText.{allows}
 use Rattle.fws_ipfw.specs.Walk.{rules_walk, step_of, stepped, tagged}
 use Rattle.fws_ipfw_put_rules.specs.declared.choice.Section.{Section}
 use Rattle.fws_ipfw_put_rules.specs.Lists.{NeverAllows, act_of, is_of, tag_of}
-use Rattle.fws_sight.specs.declared.seen.Seen.TheVariants.{Entered, Routed}
-use Rattle.fws_sight.specs.Shown.{IsSeenAs}
+use Rattle.fws_tree_seen.specs.declared.seen.Seen.TheVariants.{Entered, Routed}
+use Rattle.fws_tree_seen.specs.Shown.{IsSeenAs}
 use Rattle.fws_ipfw_put.specs.Guards.{IsFullGuard, IsGuard, IsImageList, IsNoGuard}
 use Rattle.fws_ipfw_put.specs.Layout.{arrived_tag, inward, known_arriving, known_forwarded, known_sent, leaving_rules, lookup_number, lookup_rules, outwards, passing, plain_rule, source_number, tagged_with, unreceived}
 use Rattle.fws_ipfw_put.proofs.Nats.{some_is}

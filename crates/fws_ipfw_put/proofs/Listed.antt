@@ -16,10 +16,10 @@ use Rattle.fws_ipfw_put_rules.specs.declared.choice.Choice.{Choice}
 use Rattle.fws_ipfw_put_rules.specs.declared.choice.Choice.TheVariants as choices
 use Rattle.fws_ipfw_put_rules.specs.declared.choice.Section.{Section}
 use Rattle.fws_ipfw_put_rules.specs.Lists.{FitsAt, IsList, fits_at, is_tag}
-use Rattle.fws_sight.specs.declared.seen.Seen.{Seen}
-use Rattle.fws_sight.specs.declared.seen.Seen.TheVariants.{Routed}
-use Rattle.fws_sight.specs.Shown.{IsTold, has_field, shown}
-use Rattle.fws_sight.specs.SightLaws.{HasImages, RelabelledTreesAreTold}
+use Rattle.fws_tree_seen.specs.declared.seen.Seen.{Seen}
+use Rattle.fws_tree_seen.specs.declared.seen.Seen.TheVariants.{Routed}
+use Rattle.fws_tree_seen.specs.Shown.{IsTold, has_field, shown}
+use Rattle.fws_tree_seen.specs.SightLaws.{HasImages, RelabelledTreesAreTold}
 use Rattle.fws_ipfw_put.specs.Guards.{IsFullGuard, IsGuard, IsImageList, IsMet, is_unmet}
 use Rattle.fws_ipfw_put.specs.Laid.{AreRules}
 use Rattle.fws_ipfw_put.specs.Layout.{arriving_choice, destination_rules, destined, known_arriving, known_forwarded, known_sent, leaving_rules, lookup_rules, new_arriving, new_sent, passing, place_of, sent_by, sent_choice, source_rules, tag_of}

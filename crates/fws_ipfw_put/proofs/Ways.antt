@@ -28,8 +28,8 @@ use Rattle.fws_ipfw_put_rules.specs.Lists.{act_of, tag_for, tag_of as rule_tag}
 use Rattle.fws_place.specs.Counts.{redirect_of}
 use Rattle.fws_place.specs.Meaning.{IsPacketOf, IsPairOf, new_of, no_ends, point_of}
 use Rattle.fws_place.specs.Rewritings.{is_delivered, new_exit}
-use Rattle.fws_sight.specs.declared.seen.Seen.TheVariants.{Routed}
-use Rattle.fws_sight.specs.Shown.{IsSeenAs}
+use Rattle.fws_tree_seen.specs.declared.seen.Seen.TheVariants.{Routed}
+use Rattle.fws_tree_seen.specs.Shown.{IsSeenAs}
 use Rattle.fws_ipfw_put.specs.Ends.{IsAmong}
 use Rattle.fws_ipfw_put.specs.Layout.{arriving_choice, destination_instance, destination_number, destination_rules, destined, sent_by, sent_choice, source_instance, source_tag, tag_of}
 use Rattle.fws_ipfw_put.proofs.Guarded.{numbered_below}

@@ -10,7 +10,7 @@ use Rattle.fws_ipfw.specs.declared.config.IpfwRule.{IpfwRule}
 use Rattle.fws_ipfw_put_rules.specs.declared.choice.Choice.{Choice}
 use Rattle.fws_ipfw_put_rules.specs.declared.choice.Section.{Section}
 use Rattle.fws_ipfw_put_rules.specs.Lists.{IsList}
-use Rattle.fws_sight.specs.SightLaws.{HasImages}
+use Rattle.fws_tree_seen.specs.SightLaws.{HasImages}
 use Rattle.fws_ipfw_put.specs.Layout.{known_arriving, known_forwarded, known_sent, leaving_rules, passing}
 use Rattle.fws_box.specs.Fields.{value_of}
 

@@ -9,8 +9,8 @@ use Rattle.fws_net.specs.Routes.{is_local}
 use Rattle.fws_net.specs.Transits.{nothing_written, with_rec_dst}
 use Rattle.fws_place.specs.Meaning.{IsPairOf, est_of, new_of, point_of}
 use Rattle.fws_place.specs.Pairs.{IsLost, is_host, with_destination}
-use Rattle.fws_sight.specs.declared.seen.Seen.TheVariants.{Entered, Routed}
-use Rattle.fws_sight.specs.Shown.{IsSeenAs, IsTold}
+use Rattle.fws_tree_seen.specs.declared.seen.Seen.TheVariants.{Entered, Routed}
+use Rattle.fws_tree_seen.specs.Shown.{IsSeenAs, IsTold}
 use Rattle.fws_tree.specs.declared.tables.Tables.{Tables}
 use Rattle.fws_tree.specs.Plain.{Plain, value}
 

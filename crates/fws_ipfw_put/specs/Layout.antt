@@ -15,7 +15,7 @@ use Rattle.fws_ipfw_put_rules.specs.declared.choice.Choice.{Choice}
 use Rattle.fws_ipfw_put_rules.specs.declared.choice.Choice.TheVariants as choices
 use Rattle.fws_ipfw_put_rules.specs.declared.choice.Origin.TheVariants as origins
 use Rattle.fws_ipfw_put_rules.specs.declared.choice.Section.{Section}
-use Rattle.fws_sight.specs.declared.seen.Seen.TheVariants as seens
+use Rattle.fws_tree_seen.specs.declared.seen.Seen.TheVariants as seens
 
 -- Where sections stand
 

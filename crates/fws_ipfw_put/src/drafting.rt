@@ -4,8 +4,8 @@ ghost use Rattle.std.specs.Prelude.{◌≡◌, ◌≤◌, ◌<◌, ◌^◌, ◌+
 ghost use Rattle.fws_net.specs.Points.{tops_of};
 ghost use Rattle.fws_net.specs.Routes.{IsSound};
 ghost use Rattle.fws_ipfw.specs.declared.config.IpfwRule.{IpfwRule};
-ghost use Rattle.fws_sight.specs.Shown.{IsTold};
-ghost use Rattle.fws_sight.specs.declared.seen.Seen.TheVariants.{Entered, Routed};
+ghost use Rattle.fws_tree_seen.specs.Shown.{IsTold};
+ghost use Rattle.fws_tree_seen.specs.declared.seen.Seen.TheVariants.{Entered, Routed};
 ghost use Rattle.fws_ipfw_put.specs.Guards.{IsImageList};
 ghost use Rattle.fws_ipfw_put.specs.Laid.{AreRules, nats_for, AreArriving};
 ghost use Rattle.fws_ipfw_put.specs.Layout.{destination_rules, new_sent, sent_choice, source_rules};
@@ -21,8 +21,8 @@ use fws_ipfw_put_rules::{Choice, put_rules};
 use fws_net::{End, Outcome, Site};
 use fws_num::{Items, Memory};
 use fws_place::Redirect;
-use fws_sight::relabelled_trees_are_told;
 use fws_tree::Tree;
+use fws_tree_seen::relabelled_trees_are_told;
 use indexmap::IndexSet;
 use std::alloc::Global;
 

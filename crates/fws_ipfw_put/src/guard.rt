@@ -6,8 +6,8 @@ ghost use Rattle.fws_iv.specs.Ivs.{has};
 ghost use Rattle.fws_net.specs.Points.{tops_of};
 ghost use Rattle.fws_net.specs.Routes.{IsSound, is_local};
 ghost use Rattle.fws_ipfw.specs.declared.config.IpfwRule.{IpfwRule};
-ghost use Rattle.fws_sight.specs.Shown.{IsTold};
-ghost use Rattle.fws_sight.specs.declared.seen.Seen.TheVariants.{Entered, Routed};
+ghost use Rattle.fws_tree_seen.specs.Shown.{IsTold};
+ghost use Rattle.fws_tree_seen.specs.declared.seen.Seen.TheVariants.{Entered, Routed};
 ghost use Rattle.fws_tree.specs.Plain.{leaf, value};
 ghost use Rattle.fws_tree.specs.Shared.{subtree_of};
 ghost use Rattle.fws_ipfw_put.specs.Guards.{IsFullGuard, IsGuard, IsImageList, IsMet, is_unmet};
@@ -23,8 +23,8 @@ use fws_ipfw_put_rules::{Choice, Section, put_rules};
 use fws_iv::{Ivs, one};
 use fws_net::{Site, local_set, tops};
 use fws_num::{Items, Memory};
-use fws_sight::relabelled_trees_are_told;
 use fws_tree::{Node, Tree};
+use fws_tree_seen::relabelled_trees_are_told;
 use std::alloc::Global;
 
 /// The destinations for which an arriving packet makes no out pass. An error is want of memory.

@@ -1,7 +1,7 @@
 //! Where the rules of a policy stand.
 
 use fws_ipfw_put_rules::{Origin, Section};
-use fws_sight::Seen;
+use fws_tree_seen::Seen;
 
 /// Packets of connections, as they arrive.
 pub(crate) const KNOWN_ARRIVING: Section = Section {

@@ -19,11 +19,11 @@ use Rattle.fws_tree.specs.declared.node.Node.{Node}
 use Rattle.fws_tree.specs.declared.node.Node.TheVariants.{Leaf, Cut}
 use Rattle.fws_tree.specs.Plain.{Plain, cut, branch, kid_at, value, IsReduced}
 use Rattle.fws_tree.specs.Shared.{IsShared, subtree_of}
-use Rattle.fws_sight.specs.Cuts.{kids_of}
-use Rattle.fws_sight.specs.NodeLaws.{CutNodesPartValues, LeafNodesAreLeaves}
-use Rattle.fws_sight.specs.Reached.{Reaches}
-use Rattle.fws_sight.specs.Shown.{IsTold}
-use Rattle.fws_sight.specs.SightLaws.{ReachedValuesAreTold, SeenPointsAreTopped}
+use Rattle.fws_tree_seen.specs.Cuts.{kids_of}
+use Rattle.fws_tree_seen.specs.NodeLaws.{CutNodesPartValues, LeafNodesAreLeaves}
+use Rattle.fws_tree_seen.specs.Reached.{Reaches}
+use Rattle.fws_tree_seen.specs.Shown.{IsTold}
+use Rattle.fws_tree_seen.specs.SightLaws.{ReachedValuesAreTold, SeenPointsAreTopped}
 use Rattle.fws_ipfw_put_rules.specs.declared.choice.Choice.{Choice}
 use Rattle.fws_ipfw_put_rules.specs.declared.choice.Section.{Section}
 use Rattle.fws_ipfw_put_rules.specs.declared.turn.Turn.{Turn}

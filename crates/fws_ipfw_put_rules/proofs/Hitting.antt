@@ -16,10 +16,10 @@ use Rattle.fws_net.specs.declared.site.Site.{Site}
 use Rattle.fws_net.specs.declared.view.View.{View}
 use Rattle.fws_net.specs.Conditions.{lit_holds, test_holds}
 use Rattle.fws_print.specs.Sets.{are_ranges}
-use Rattle.fws_sight.specs.declared.field.PacketField.{PacketField}
-use Rattle.fws_sight.specs.declared.field.PacketField.TheVariants.{Proto, Dst, Dport, Src, Sport, Flags, Icmp}
-use Rattle.fws_sight.specs.Fields.{suits}
-use Rattle.fws_sight.specs.Shown.{value_of}
+use Rattle.fws_tree_seen.specs.declared.field.PacketField.{PacketField}
+use Rattle.fws_tree_seen.specs.declared.field.PacketField.TheVariants.{Proto, Dst, Dport, Src, Sport, Flags, Icmp}
+use Rattle.fws_tree_seen.specs.Fields.{suits}
+use Rattle.fws_tree_seen.specs.Shown.{value_of}
 use Rattle.fws_ipfw_put_rules.specs.Groups.{are_addresses, are_ports, AreGroups}
 use Rattle.fws_ipfw_put_rules.specs.Literals.{is_printed_at}
 use Rattle.fws_ipfw_put_rules.specs.Pieces.{cube_lit, place_at, set_lit, set_test, AreProtocolsBelow, ArePieces, IsProper}

@@ -15,13 +15,13 @@ use Rattle.fws_tree.specs.declared.node.Kid.{Kid}
 use Rattle.fws_tree.specs.declared.node.Node.{Node}
 use Rattle.fws_tree.specs.Plain.{Plain}
 use Rattle.fws_tree.specs.Shared.{subtree_of}
-use Rattle.fws_sight.specs.declared.field.PacketField.{PacketField}
-use Rattle.fws_sight.specs.declared.seen.Seen.{Seen}
-use Rattle.fws_sight.specs.Cuts.{kids_of, IsCutNode, PartValues}
-use Rattle.fws_sight.specs.Fields.{hits, suits, top_of}
-use Rattle.fws_sight.specs.Reached.{IsOpen, IsTopped, Reaches, ReachesKid}
-use Rattle.fws_sight.specs.Shown.{seen_field, value_of}
-use Rattle.fws_sight.specs.SightLaws.{Agrees, LeftSetsAreOpen, OpenKidsAreReached, SeenFieldsAgree, UnseenFieldsAreOpen}
+use Rattle.fws_tree_seen.specs.declared.field.PacketField.{PacketField}
+use Rattle.fws_tree_seen.specs.declared.seen.Seen.{Seen}
+use Rattle.fws_tree_seen.specs.Cuts.{kids_of, IsCutNode, PartValues}
+use Rattle.fws_tree_seen.specs.Fields.{hits, suits, top_of}
+use Rattle.fws_tree_seen.specs.Reached.{IsOpen, IsTopped, Reaches, ReachesKid}
+use Rattle.fws_tree_seen.specs.Shown.{seen_field, value_of}
+use Rattle.fws_tree_seen.specs.SightLaws.{Agrees, LeftSetsAreOpen, OpenKidsAreReached, SeenFieldsAgree, UnseenFieldsAreOpen}
 use Rattle.fws_ipfw_put_rules.specs.declared.choice.Choice.{Choice}
 use Rattle.fws_ipfw_put_rules.specs.declared.turn.Turn.{Turn}
 use Rattle.fws_ipfw_put_rules.specs.Literals.{holds_or_none}

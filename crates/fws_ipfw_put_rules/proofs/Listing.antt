@@ -18,9 +18,9 @@ use Rattle.fws_tree.specs.declared.node.Node.TheVariants.{Leaf}
 use Rattle.fws_tree.specs.Plain.{Plain, leaf}
 use Rattle.fws_tree.specs.Shared.{subtree_of}
 use Rattle.fws_tree.specs.Subtrees.{IsSubtree}
-use Rattle.fws_sight.specs.declared.seen.Seen.{Seen}
-use Rattle.fws_sight.specs.Cuts.{IsCutNode}
-use Rattle.fws_sight.specs.Reached.{Reaches}
+use Rattle.fws_tree_seen.specs.declared.seen.Seen.{Seen}
+use Rattle.fws_tree_seen.specs.Cuts.{IsCutNode}
+use Rattle.fws_tree_seen.specs.Reached.{Reaches}
 use Rattle.fws_ipfw_put_rules.specs.declared.choice.Choice.{Choice}
 use Rattle.fws_ipfw_put_rules.specs.declared.choice.Section.{Section}
 use Rattle.fws_ipfw_put_rules.specs.declared.turn.Turn.{Turn}

@@ -13,12 +13,12 @@ use Rattle.fws_ipfw_print.specs.Printable.{is_printed_cond, is_printed_literal, 
 use Rattle.fws_tree.specs.declared.node.Kid.{Kid}
 use Rattle.fws_tree.specs.declared.node.Node.{Node}
 use Rattle.fws_tree.specs.declared.node.Node.TheVariants.{Cut}
-use Rattle.fws_sight.specs.declared.field.PacketField.{PacketField}
-use Rattle.fws_sight.specs.declared.field.PacketField.TheVariants.{Proto, Dst, Dport, Src, Sport, Flags, Icmp}
-use Rattle.fws_sight.specs.declared.seen.Seen.{Seen}
-use Rattle.fws_sight.specs.declared.seen.Seen.TheVariants.{Entered, Routed}
-use Rattle.fws_sight.specs.Cuts.{IsCutNode}
-use Rattle.fws_sight.specs.Shown.{field_of, seen_field}
+use Rattle.fws_tree_seen.specs.declared.field.PacketField.{PacketField}
+use Rattle.fws_tree_seen.specs.declared.field.PacketField.TheVariants.{Proto, Dst, Dport, Src, Sport, Flags, Icmp}
+use Rattle.fws_tree_seen.specs.declared.seen.Seen.{Seen}
+use Rattle.fws_tree_seen.specs.declared.seen.Seen.TheVariants.{Entered, Routed}
+use Rattle.fws_tree_seen.specs.Cuts.{IsCutNode}
+use Rattle.fws_tree_seen.specs.Shown.{field_of, seen_field}
 use Rattle.fws_ipfw_put_rules.specs.declared.choice.Choice.{Choice}
 use Rattle.fws_ipfw_put_rules.specs.declared.turn.Turn.{Turn}
 use Rattle.fws_ipfw_put_rules.specs.Blocks.{IsGoodCond}

@@ -15,14 +15,14 @@ use Rattle.fws_tree.specs.declared.node.Node.{Node}
 use Rattle.fws_tree.specs.declared.node.Node.TheVariants.{Cut}
 use Rattle.fws_tree.specs.Plain.{Plain, branch, kid_at}
 use Rattle.fws_tree.specs.Shared.{IsShared, subtree_of}
-use Rattle.fws_sight.specs.declared.field.PacketField.{PacketField}
-use Rattle.fws_sight.specs.declared.seen.Seen.{Seen}
-use Rattle.fws_sight.specs.Cuts.{kids_of, IsCutNode, PartValues}
-use Rattle.fws_sight.specs.Fields.{top_of}
-use Rattle.fws_sight.specs.NodeLaws.{CutNodesPartValues}
-use Rattle.fws_sight.specs.Reached.{Reaches}
-use Rattle.fws_sight.specs.Shown.{seen_field}
-use Rattle.fws_sight.specs.SightLaws.{SeenFieldsAgree}
+use Rattle.fws_tree_seen.specs.declared.field.PacketField.{PacketField}
+use Rattle.fws_tree_seen.specs.declared.seen.Seen.{Seen}
+use Rattle.fws_tree_seen.specs.Cuts.{kids_of, IsCutNode, PartValues}
+use Rattle.fws_tree_seen.specs.Fields.{top_of}
+use Rattle.fws_tree_seen.specs.NodeLaws.{CutNodesPartValues}
+use Rattle.fws_tree_seen.specs.Reached.{Reaches}
+use Rattle.fws_tree_seen.specs.Shown.{seen_field}
+use Rattle.fws_tree_seen.specs.SightLaws.{SeenFieldsAgree}
 use Rattle.fws_ipfw_put_rules.specs.declared.choice.Choice.{Choice}
 use Rattle.fws_ipfw_put_rules.specs.declared.choice.Origin.TheVariants.{Arriving, Host}
 use Rattle.fws_ipfw_put_rules.specs.declared.choice.Section.{Section}

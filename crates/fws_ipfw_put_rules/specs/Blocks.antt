@@ -25,10 +25,10 @@ use Rattle.fws_tree.specs.declared.node.Node.{Node}
 use Rattle.fws_tree.specs.declared.node.Node.TheVariants.{Leaf, Cut}
 use Rattle.fws_tree.specs.Plain.{Plain, branch}
 use Rattle.fws_tree.specs.Shared.{IsShared, subtree_of}
-use Rattle.fws_sight.specs.declared.field.PacketField.{PacketField}
-use Rattle.fws_sight.specs.declared.seen.Seen.{Seen}
-use Rattle.fws_sight.specs.Reached.{IsTopped, Reaches}
-use Rattle.fws_sight.specs.Shown.{seen_field}
+use Rattle.fws_tree_seen.specs.declared.field.PacketField.{PacketField}
+use Rattle.fws_tree_seen.specs.declared.seen.Seen.{Seen}
+use Rattle.fws_tree_seen.specs.Reached.{IsTopped, Reaches}
+use Rattle.fws_tree_seen.specs.Shown.{seen_field}
 use Rattle.fws_ipfw_put_rules.specs.declared.choice.Choice.{Choice}
 use Rattle.fws_ipfw_put_rules.specs.declared.choice.Section.{Section}
 use Rattle.fws_ipfw_put_rules.specs.declared.turn.Turn.{Turn}

@@ -20,7 +20,7 @@ use Rattle.fws_ipfw.specs.declared.pass.Pass.{Pass}
 use Rattle.fws_ipfw.specs.RuleText.{allows}
 use Rattle.fws_ipfw.specs.Walk.{rules_walk, step_of, stepped, tagged}
 use Rattle.fws_ipfw_print.specs.Printable.{is_printed_rule}
-use Rattle.fws_sight.specs.Shown.{IsSeenAs}
+use Rattle.fws_tree_seen.specs.Shown.{IsSeenAs}
 use Rattle.fws_tree.specs.Plain.{Plain, value}
 use Rattle.fws_ipfw_put_rules.specs.declared.choice.Choice.{Choice}
 use Rattle.fws_ipfw_put_rules.specs.declared.choice.Choice.TheVariants.{Deny, Allow, Skip}

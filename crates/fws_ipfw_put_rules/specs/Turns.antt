@@ -9,9 +9,9 @@ use Rattle.fws_net.specs.declared.view.View.{View}
 use Rattle.fws_net.specs.Conditions.{lit_holds}
 use Rattle.fws_tree.specs.declared.node.Kid.{Kid}
 use Rattle.fws_tree.specs.Plain.{Plain}
-use Rattle.fws_sight.specs.declared.seen.Seen.{Seen}
-use Rattle.fws_sight.specs.Reached.{Reaches}
-use Rattle.fws_sight.specs.Shown.{seen_field}
+use Rattle.fws_tree_seen.specs.declared.seen.Seen.{Seen}
+use Rattle.fws_tree_seen.specs.Reached.{Reaches}
+use Rattle.fws_tree_seen.specs.Shown.{seen_field}
 use Rattle.fws_ipfw_put_rules.specs.declared.choice.Choice.{Choice}
 use Rattle.fws_ipfw_put_rules.specs.declared.turn.Turn.{Turn}
 use Rattle.fws_ipfw_put_rules.specs.Literals.{holds_or_none, is_printed_at}

@@ -3,8 +3,8 @@
 ghost use Rattle.std.specs.Prelude.{◌≡◌, ◌↔◌, IsTrue, IfOk};
 
 use fws_num::Memory;
-use fws_sight::Seen;
 use fws_tree::Leaf;
+use fws_tree_seen::Seen;
 use std::alloc::Global;
 
 /// What a rule does with a packet. It is the leaf of a decision tree that is written as a list.

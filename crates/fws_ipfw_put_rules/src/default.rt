@@ -2,12 +2,12 @@
 
 ghost use Rattle.std.specs.Prelude.{◌≡◌, ◌<◌, length, Some, All, IfOk};
 ghost use Rattle.fws_ipfw_put_rules.specs.Pieces.{IsProper};
-ghost use Rattle.fws_sight.specs.declared.field.PacketField.{PacketField};
+ghost use Rattle.fws_tree_seen.specs.declared.field.PacketField.{PacketField};
 
 use fws_iv::{Ivs, cubes, prefixes};
 use fws_num::Memory;
-use fws_sight::PacketField;
 use fws_tree::Kid;
+use fws_tree_seen::PacketField;
 use std::alloc::Global;
 
 // How many numbers a set has.

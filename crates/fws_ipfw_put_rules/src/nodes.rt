@@ -14,11 +14,11 @@ use crate::turns::cut_turns;
 use fws_ipfw::{IpfwAct, IpfwRule, IpfwTag};
 use fws_net::Cond;
 use fws_num::{Items, Memory};
-use fws_sight::{
+use fws_tree::Node;
+use fws_tree_seen::{
     cut_nodes_part_values, leaf_nodes_are_leaves, left_sets_are_open, open_kids_are_reached,
     seen_fields_agree, unseen_fields_are_open,
 };
-use fws_tree::Node;
 use std::alloc::Global;
 
 // What the rule of a choice does.

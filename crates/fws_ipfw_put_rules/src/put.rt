@@ -23,7 +23,7 @@ ghost use Rattle.std.specs.Prelude.{◌≡◌, ◌<◌, ◌≤◌, ◌-◌, ◌�
 ghost use Rattle.fws_ipfw.specs.declared.config.IpfwRule.{IpfwRule};
 ghost use Rattle.fws_net.specs.Points.{tops_of};
 ghost use Rattle.fws_net.specs.Routes.{IsSound};
-ghost use Rattle.fws_sight.specs.Shown.{IsTold};
+ghost use Rattle.fws_tree_seen.specs.Shown.{IsTold};
 ghost use Rattle.fws_tree.specs.declared.node.Node.{Node};
 ghost use Rattle.fws_ipfw_put_rules.specs.Blocks.{KeepsEntry};
 ghost use Rattle.fws_ipfw_put_rules.specs.Lists.{FitsAt, IsList};
@@ -40,10 +40,10 @@ use crate::turn::Turn;
 use fws_ipfw::IpfwRule;
 use fws_net::{Cond, Site};
 use fws_num::{Items, Memory};
-use fws_sight::{
+use fws_tree::{Kid, Node, Tree};
+use fws_tree_seen::{
     cut_nodes_part_values, leaf_nodes_are_leaves, reached_values_are_told, seen_points_are_topped,
 };
-use fws_tree::{Kid, Node, Tree};
 use std::alloc::Global;
 
 // Appends the rules of turns for packets on the pass of the section.

@@ -13,8 +13,8 @@ use crate::entries::entry_turns;
 use crate::plan::Plan;
 use crate::turn::Turn;
 use fws_num::{Items, Memory};
-use fws_sight::cut_nodes_part_values;
 use fws_tree::Kid;
+use fws_tree_seen::cut_nodes_part_values;
 use std::alloc::Global;
 
 // The place of the kid that has the host's own packets.

@@ -4,8 +4,8 @@ ghost use Rattle.std.specs.Prelude.{◌≡◌, ◌+◌, ◌<◌, [], ◌++◌, S
 ghost use Rattle.fws_ipfw_put_rules.specs.Pieces.{ArePieces, IsProper};
 ghost use Rattle.fws_ipfw_put_rules.specs.Turns.{turns_for, AreCutTurns, AreKidTurns};
 ghost use Rattle.fws_ipfw_put_rules.specs.declared.turn.Turn.{Turn};
-ghost use Rattle.fws_sight.specs.Shown.{seen_field};
-ghost use Rattle.fws_sight.specs.declared.field.PacketField.{PacketField};
+ghost use Rattle.fws_tree_seen.specs.Shown.{seen_field};
+ghost use Rattle.fws_tree_seen.specs.declared.field.PacketField.{PacketField};
 ghost use Rattle.fws_print.specs.Appended.{Appends};
 
 use crate::default::default_kid;
@@ -13,8 +13,8 @@ use crate::pieces::pieces;
 use crate::turn::Turn;
 use fws_net::Lit;
 use fws_num::{Items, Memory};
-use fws_sight::{PacketField, Seen, packet_field};
 use fws_tree::Kid;
+use fws_tree_seen::{PacketField, Seen, packet_field};
 use std::alloc::Global;
 
 /// Appends a turn to the node for each literal. An error is want of memory.

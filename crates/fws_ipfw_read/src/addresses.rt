@@ -8,7 +8,7 @@ ghost use Rattle.fws_ipfw.specs.Values.{addresses_of, masked_network, network_of
 use fws_iv::{Iv, Ivs};
 use fws_net::{Site, local_set, prefix_set};
 use fws_num::{Memory, Prefix, Text, pieces, read_prefix, read_protocol, read_quad, split_once};
-use fws_rule::is;
+use fws_rules::is;
 use std::alloc::Global;
 
 /// The protocol; none for every one, which is spelled `ip` or `all`.

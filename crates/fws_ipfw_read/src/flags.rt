@@ -7,7 +7,7 @@ ghost use Rattle.fws_ipfw.specs.Values.{flag_of, flags_meaning, flags_test, with
 use fws_ipfw::Flags;
 use fws_net::{Cause, Lit, ReadFault, Test};
 use fws_num::{Text, pieces, value_named};
-use fws_rule::positive;
+use fws_rules::positive;
 use std::alloc::Global;
 
 /// TCP flags and their bits.

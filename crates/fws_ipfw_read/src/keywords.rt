@@ -6,7 +6,7 @@ ghost use Rattle.fws_ipfw.specs.Options.{action_word, begins_with_digit, is_keyw
 use fws_ipfw::{ActionWord, NatWord, TestOption};
 use fws_net::Cause;
 use fws_num::value_named;
-use fws_rule::is_one_of;
+use fws_rules::is_one_of;
 
 /// Actions of rules.
 const ACTION_WORDS: [(&[u8], ActionWord); 13] = [

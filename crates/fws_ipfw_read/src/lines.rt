@@ -21,7 +21,7 @@ use crate::rule::{fresh_rule, rule_checks, take_rule};
 use fws_ipfw::{Defined, IpfwAct, IpfwRule, RuleDraft};
 use fws_net::{Cause, Cond, ReadFault, Site};
 use fws_num::{Line, Memory, Word};
-use fws_rule::is;
+use fws_rules::is;
 use std::alloc::Global;
 use std::mem;
 

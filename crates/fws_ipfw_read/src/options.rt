@@ -4,7 +4,7 @@ ghost use Rattle.std.specs.Prelude.{◌≡◌, option_map, OnOk};
 ghost use Rattle.fws_net.specs.declared.condition.Test.TheVariants as tests;
 ghost use Rattle.fws_net.specs.Reading.{StepGiven};
 ghost use Rattle.fws_net.specs.Routes.{IsSound};
-ghost use Rattle.fws_rule.specs.Literals.{literals, positive};
+ghost use Rattle.fws_rules.specs.Literals.{literals, positive};
 ghost use Rattle.fws_ipfw.specs.RuleText.{address_step, allows, destination_ports_step, destination_step, keep_step, kept_flow_step, negated_destination_ports_step, negated_source_ports_step, once, option_step, source_ports_step, source_step, test_begun, test_step, value_step, with_literals, with_ports};
 
 use crate::addresses::read_addresses;
@@ -14,7 +14,7 @@ use fws_ipfw::{Expects, IpfwAct, RuleDraft, TestOption};
 use fws_iv::Ivs;
 use fws_net::{Cause, Lit, ReadFault, Site, Test, read_ports};
 use fws_num::{Memory, Text};
-use fws_rule::{is, is_given, positive, put_literals};
+use fws_rules::{is, is_given, positive, put_literals};
 use std::alloc::Global;
 
 /// Notes an option that may come once.

@@ -13,7 +13,7 @@ use fws_net::{Cause, Checks, End, Lang, ReadFault, Site, entry_named, face_addr}
 use fws_num::{
     Items, Memory, Text, Word, read_port, read_ports_between, read_quad, split_once, value_named,
 };
-use fws_rule::{demand, is_given};
+use fws_rules::{demand, is_given};
 use std::alloc::Global;
 
 /// An instance ahead of its first option.

@@ -19,7 +19,7 @@ use crate::options::{
 use fws_ipfw::{ActionWord, Expects, IpfwAct, IpfwTag, RuleDraft};
 use fws_net::{Cause, Checks, Cond, ReadFault, Site};
 use fws_num::{Items, Word, read_dec};
-use fws_rule::{is, protocol_literal};
+use fws_rules::{is, protocol_literal};
 use std::alloc::Global;
 
 /// A rule ahead of its first word.

@@ -14,7 +14,7 @@ use fws_ipfw::TestOption;
 use fws_iv::Ivs;
 use fws_net::{Cause, Lang, Lit, ReadFault, Site, Test, read_ports};
 use fws_num::{Memory, Text, pieces, read_dec};
-use fws_rule::{demand, positive, read_interfaces};
+use fws_rules::{demand, positive, read_interfaces};
 use std::alloc::Global;
 
 /// SYN and ACK.

@@ -11,8 +11,8 @@ use Rattle.fws_net.specs.Conditions.{holds}
 use Rattle.fws_net.specs.Ends.{host_end}
 use Rattle.fws_net.specs.Faces.{face_addr, loopback_addr}
 use Rattle.fws_net.specs.Showing.{sending, out_of}
-use Rattle.fws_rule.specs.AlikeWays.{AlikeKinds, AlikeTransits, AlikeWays, LeadAlike, StayAlike}
-use Rattle.fws_rule.specs.Networks.{net_end}
+use Rattle.fws_rules.specs.AlikeWays.{AlikeKinds, AlikeTransits, AlikeWays, LeadAlike, StayAlike}
+use Rattle.fws_rules.specs.Networks.{net_end}
 use Rattle.fws_ipt.specs.declared.config.IptTable.{IptTable}
 use Rattle.fws_ipt.specs.declared.config.IptTable.TheVariants.{Filter, Nat, Mangle}
 use Rattle.fws_ipt.specs.declared.config.IptGo.{IptGo}

@@ -18,7 +18,7 @@ use Rattle.fws_ipt.specs.declared.hook.Hook.{Hook}
 use Rattle.fws_ipt.specs.declared.passage.Passage.{Passage}
 use Rattle.fws_ipt.specs.declared.passage.ChainEnd.{ChainEnd}
 use Rattle.fws_ipt.specs.declared.passage.ChainEnd.TheVariants.{Accepted, Dropped, Through}
-use Rattle.fws_rule.specs.Networks.{net_end}
+use Rattle.fws_rules.specs.Networks.{net_end}
 use Rattle.fws_ipt.specs.Walk.{view_at, with_src, with_dst, with_mark, writes_dst_at, writes_src_at, masquerades_at, redirect_addr, masqueraded, back, act, rules_walk, rules_at, chain_walk, by_policy, policy_at, builtin_walk, builtin_from, visits}
 
 -- where a chain was left with a packet, it holds of that

@@ -7,8 +7,8 @@ use Rattle.fws_net.specs.declared.outcome.Outcome.{Outcome}
 use Rattle.fws_net.specs.declared.connection.Kind.{Kind}
 use Rattle.fws_net.specs.declared.connection.Kind.TheVariants.{New, Est}
 use Rattle.fws_net.specs.declared.site.Site.{Site}
-use Rattle.fws_rule.specs.AlikeWays.{AlikePacketsStayAlike}
-use Rattle.fws_rule.specs.Regular.{IsAlikeWalk, AlikeWalksAreRegular, IsRegularPart, AreRegularParts, RegularPartsMakeAlikeWalks}
+use Rattle.fws_rules.specs.AlikeWays.{AlikePacketsStayAlike}
+use Rattle.fws_rules.specs.Regular.{IsAlikeWalk, AlikeWalksAreRegular, IsRegularPart, AreRegularParts, RegularPartsMakeAlikeWalks}
 use Rattle.fws_ipt.specs.declared.config.IptTable.{IptTable}
 use Rattle.fws_ipt.specs.declared.config.IptConfig.{IptConfig}
 use Rattle.fws_ipt.specs.declared.hook.Hook.{Hook}

@@ -8,7 +8,7 @@ use Rattle.fws_net.specs.declared.connection.Kind.TheVariants.{New, Est}
 use Rattle.fws_net.specs.declared.site.Site.{Site}
 use Rattle.fws_net.specs.declared.transit.Transit.{Transit}
 use Rattle.fws_net.specs.Transits.{entered}
-use Rattle.fws_rule.specs.Regular.{StandsAsWritten, KeepsDestination}
+use Rattle.fws_rules.specs.Regular.{StandsAsWritten, KeepsDestination}
 use Rattle.fws_ipt.specs.declared.config.IptTable.{IptTable}
 use Rattle.fws_ipt.specs.declared.config.IptTable.TheVariants.{Nat, Mangle}
 use Rattle.fws_ipt.specs.declared.config.IptGo.{IptGo}

@@ -9,7 +9,7 @@ use Rattle.fws_net.specs.declared.site.Site.{Site}
 use Rattle.fws_net.specs.declared.transit.Transit.{Transit}
 use Rattle.fws_net.specs.Routes.{exit_at}
 use Rattle.fws_net.specs.Transits as transits
-use Rattle.fws_rule.specs.Regular.{Part, walk_by}
+use Rattle.fws_rules.specs.Regular.{Part, walk_by}
 use Rattle.fws_ipt.specs.declared.config.IptTable.{IptTable}
 use Rattle.fws_ipt.specs.declared.config.IptConfig.{IptConfig}
 use Rattle.fws_ipt.specs.declared.hook.Hook.{Hook}

@@ -20,8 +20,8 @@ use Rattle.fws_net.specs.Causes.{checked, words_read}
 use Rattle.fws_net.specs.Ends.{host_end}
 use Rattle.fws_net.specs.Faces.{prefix_parts}
 use Rattle.fws_net.specs.Reading.{and_then}
-use Rattle.fws_rule.specs.Interfaces.{interfaces_of}
-use Rattle.fws_rule.specs.Literals.{positive, one, literals, protocol_literal}
+use Rattle.fws_rules.specs.Interfaces.{interfaces_of}
+use Rattle.fws_rules.specs.Literals.{positive, one, literals, protocol_literal}
 use Rattle.fws_ipt.specs.declared.config.IptTable.{IptTable}
 use Rattle.fws_ipt.specs.declared.config.IptGo.{IptGo}
 use Rattle.fws_ipt.specs.declared.config.IptGo.TheVariants as acts

@@ -15,7 +15,7 @@ use Rattle.fws_net.specs.declared.site.Site.{Site}
 use Rattle.fws_net.specs.declared.transit.Transit.{Transit}
 use Rattle.fws_net.specs.Conditions.{test_holds, lit_holds, holds}
 use Rattle.fws_net.specs.Fates.{has_ports}
-use Rattle.fws_rule.specs.Regular.{IsPortless}
+use Rattle.fws_rules.specs.Regular.{IsPortless}
 use Rattle.fws_ipt.specs.declared.config.IptTable.{IptTable}
 use Rattle.fws_ipt.specs.declared.config.IptGo.{IptGo}
 use Rattle.fws_ipt.specs.declared.config.IptGo.TheVariants.{Mark, Source, Masquerade, Dest, Redirect, Netmap}

@@ -15,7 +15,7 @@ use Rattle.fws_net.specs.declared.site.Site.{Site}
 use Rattle.fws_net.specs.Ends.{host_end}
 use Rattle.fws_net.specs.Causes.{checked, words_read}
 use Rattle.fws_net.specs.Reading.{and_then}
-use Rattle.fws_rule.specs.Literals.{positive, literals, protocol_literal}
+use Rattle.fws_rules.specs.Literals.{positive, literals, protocol_literal}
 use Rattle.fws_ipt.specs.declared.config.IptTable.{IptTable}
 use Rattle.fws_ipt.specs.declared.config.IptTable.TheVariants.{Filter, Nat, Mangle}
 use Rattle.fws_ipt.specs.declared.config.IptGo.{IptGo}

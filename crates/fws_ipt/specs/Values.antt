@@ -21,8 +21,8 @@ use Rattle.fws_net.specs.declared.site.Site.{Site}
 use Rattle.fws_net.specs.Faces.{prefix_parts, local_parts}
 use Rattle.fws_net.specs.Ports.{in_order, ports_of, address_range, addresses_between}
 use Rattle.fws_net.specs.Reading.{and_then}
-use Rattle.fws_rule.specs.Interfaces.{interfaces_of}
-use Rattle.fws_rule.specs.Literals.{positive, one}
+use Rattle.fws_rules.specs.Interfaces.{interfaces_of}
+use Rattle.fws_rules.specs.Literals.{positive, one}
 use Rattle.fws_ipt.specs.declared.words.TestOption.{TestOption}
 use Rattle.fws_ipt.specs.declared.words.TestOption.TheVariants as options
 use Rattle.fws_ipt.specs.Options.{is_one_of}

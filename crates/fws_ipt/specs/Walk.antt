@@ -28,7 +28,7 @@ use Rattle.fws_ipt.specs.declared.config.IptGo.TheVariants.{Accept, Drop, Return
 use Rattle.fws_ipt.specs.declared.config.IptRule.{IptRule}
 use Rattle.fws_ipt.specs.declared.config.IptChain.{IptChain}
 use Rattle.fws_ipt.specs.declared.config.IptConfig.{IptConfig}
-use Rattle.fws_rule.specs.Networks.{net_end}
+use Rattle.fws_rules.specs.Networks.{net_end}
 use Rattle.fws_ipt.specs.declared.hook.Hook.{Hook}
 use Rattle.fws_ipt.specs.declared.hook.Hook.TheVariants.{Prerouting, Input, Forward, Output, Postrouting}
 use Rattle.fws_ipt.specs.declared.passage.Passage.{Passage}

@@ -5,7 +5,9 @@ ghost use Rattle.fws_ipt.specs.Regular.{AskedWalksAreRegular, SpelledWalksAreReg
 ghost use Rattle.fws_ipt.specs.Soundness.{SpelledChains, SpelledFits};
 ghost use Rattle.fws_ipt.specs.Spelled.{SpelledConditions, SpelledNetworks};
 
-use fws_rule::{alike_packets_stay_alike, alike_walks_are_regular, regular_parts_make_alike_walks};
+use fws_rules::{
+    alike_packets_stay_alike, alike_walks_are_regular, regular_parts_make_alike_walks,
+};
 
 /// Every configuration that a text spells is fitting: a law, with nothing to do.
 pub fn spelled_fits()

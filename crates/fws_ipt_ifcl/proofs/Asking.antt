@@ -14,7 +14,7 @@ use Rattle.fws_ifcl.specs.declared.diagram.Act.TheVariants.{Accept, Skip}
 use Rattle.fws_ifcl.specs.declared.diagram.Rule.{Rule}
 use Rattle.fws_ifcl.specs.declared.diagram.Stage.{Stage}
 use Rattle.fws_ifcl.specs.Walk.{sees}
-use Rattle.fws_draw.specs.Rules.{ruled, always}
+use Rattle.fws_ifcl_rules.specs.Rules.{ruled, always}
 use Rattle.fws_ipt_ifcl.specs.declared.side.SideTest.TheVariants.{Each}
 use Rattle.fws_ipt_ifcl.specs.Blocks.{guarded_writes, side, at_side, sided, side_writes}
 use Rattle.fws_ipt_ifcl.proofs.Guarding.{written, is_write, are_writes, written_by}

@@ -9,7 +9,7 @@ use Rattle.fws_net.specs.declared.site.Site.{Site}
 use Rattle.fws_ifcl.specs.declared.diagram.Rule.{Rule}
 use Rattle.fws_ifcl.specs.declared.diagram.Spot.{Spot}
 use Rattle.fws_ifcl.specs.Spots.{numbers_at, are_spots_of}
-use Rattle.fws_draw.specs.UsedPlaces.{spots_from, untold, first_told, are_below, FitBeside, TellsOfUses}
+use Rattle.fws_ifcl_rules.specs.UsedPlaces.{spots_from, untold, first_told, are_below, FitBeside, TellsOfUses}
 use Rattle.fws_ipt.specs.declared.config.IptChain.{IptChain}
 use Rattle.fws_ipt.specs.declared.config.IptConfig.{IptConfig}
 use Rattle.fws_ipt.specs.declared.config.IptRule.{IptRule}

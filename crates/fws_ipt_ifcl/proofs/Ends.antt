@@ -24,15 +24,15 @@ use Rattle.fws_ifcl.specs.declared.diagram.Stage.{Stage}
 use Rattle.fws_ifcl.specs.declared.step.ChainEnd.{ChainEnd}
 use Rattle.fws_ifcl.specs.declared.step.ChainEnd.TheVariants.{Accepted}
 use Rattle.fws_ifcl.specs.Walk.{sees}
-use Rattle.fws_rule.specs.Literals.{one, positive, negative}
-use Rattle.fws_draw.specs.Rules.{ruled, always}
+use Rattle.fws_rules.specs.Literals.{one, positive, negative}
+use Rattle.fws_ifcl_rules.specs.Rules.{ruled, always}
 use Rattle.fws_ipt.specs.declared.config.IptTable.TheVariants.{Nat}
 use Rattle.fws_ipt.specs.declared.hook.Hook.{Hook}
 use Rattle.fws_ipt.specs.declared.hook.Hook.TheVariants.{Prerouting, Input, Forward, Output, Postrouting}
 use Rattle.fws_ipt.specs.declared.passage.Passage.{Passage}
 use Rattle.fws_ipt.specs.declared.passage.ChainEnd.{ChainEnd as IptEnd}
 use Rattle.fws_ipt.specs.declared.passage.ChainEnd.TheVariants as ends
-use Rattle.fws_rule.specs.Networks.{net_end}
+use Rattle.fws_rules.specs.Networks.{net_end}
 use Rattle.fws_ipt.specs.Walk.{with_src, with_dst, writes_dst_at, writes_src_at, masquerades_at, redirect_addr, masqueraded, back}
 use Rattle.fws_ipt_ifcl.specs.Blocks.{all_entries, by_entry, masquerading, redirecting, mapping}
 use Rattle.fws_ipt_ifcl.proofs.Guarding.{written_by}

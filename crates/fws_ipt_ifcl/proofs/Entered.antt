@@ -19,8 +19,8 @@ use Rattle.fws_ifcl.specs.declared.diagram.Stage.{Stage}
 use Rattle.fws_ifcl.specs.declared.step.ChainEnd.{ChainEnd}
 use Rattle.fws_ifcl.specs.declared.step.ChainEnd.TheVariants.{Accepted, Dropped}
 use Rattle.fws_ifcl.specs.Walk.{rules_at, rules_walk, chain_walk, stage_end, stage_walk}
-use Rattle.fws_rule.specs.Literals.{positive}
-use Rattle.fws_draw.specs.Rules.{ruled}
+use Rattle.fws_rules.specs.Literals.{positive}
+use Rattle.fws_ifcl_rules.specs.Rules.{ruled}
 use Rattle.fws_ipt.specs.declared.config.IptChain.{IptChain}
 use Rattle.fws_ipt.specs.declared.config.IptRule.{IptRule}
 use Rattle.fws_ipt.specs.declared.config.IptTable.{IptTable}

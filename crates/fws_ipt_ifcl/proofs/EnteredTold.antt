@@ -20,8 +20,8 @@ use Rattle.fws_ifcl.specs.declared.step.ChainEnd.{ChainEnd}
 use Rattle.fws_ifcl.specs.Spots.{numbers_at, told}
 use Rattle.fws_ifcl.specs.Uses.{rules_used, chain_used, stage_used}
 use Rattle.fws_ifcl.specs.Walk.{rules_at, chain_walk}
-use Rattle.fws_rule.specs.Literals.{positive}
-use Rattle.fws_draw.specs.Rules.{ruled}
+use Rattle.fws_rules.specs.Literals.{positive}
+use Rattle.fws_ifcl_rules.specs.Rules.{ruled}
 use Rattle.fws_ipt.specs.declared.config.IptChain.{IptChain}
 use Rattle.fws_ipt.specs.declared.config.IptRule.{IptRule}
 use Rattle.fws_ipt.specs.declared.config.IptTable.{IptTable}

@@ -16,7 +16,7 @@ use Rattle.fws_ifcl.specs.declared.diagram.Stage.{Stage}
 use Rattle.fws_ifcl.specs.declared.step.ChainEnd.{ChainEnd}
 use Rattle.fws_ifcl.specs.declared.step.ChainEnd.TheVariants.{Accepted}
 use Rattle.fws_ifcl.specs.Walk.{sees, step_of, stepped, rules_walk}
-use Rattle.fws_draw.specs.Rules.{ruled, always}
+use Rattle.fws_ifcl_rules.specs.Rules.{ruled, always}
 use Rattle.fws_ipt_ifcl.specs.Blocks.{guarded_writes}
 
 -- what an act that writes an end does

@@ -6,7 +6,7 @@ use Rattle.fws_net.specs.RouteLaws.{RoutesAreEntries}
 use Rattle.fws_ifcl.specs.declared.diagram.Chain.{Chain}
 use Rattle.fws_ifcl.specs.Refusals.{named_in as calls_in}
 use Rattle.fws_ifcl.specs.Walk.{rules_at}
-use Rattle.fws_draw.specs.UsedPlaces.{TellsOfUses}
+use Rattle.fws_ifcl_rules.specs.UsedPlaces.{TellsOfUses}
 use Rattle.fws_ipt.specs.declared.config.IptChain.{IptChain}
 use Rattle.fws_ipt.specs.declared.config.IptConfig.{IptConfig}
 use Rattle.fws_ipt_ifcl.specs.declared.side.SideTest.{SideTest}

@@ -16,9 +16,9 @@ use Rattle.fws_ifcl.specs.declared.diagram.Rule.{Rule}
 use Rattle.fws_ifcl.specs.Refusals.{named_by as called_by, all_named as all_called, named_in as called_in}
 use Rattle.fws_ifcl.specs.Soundness.{act_ok, rules_ok, chain_ok, stage_ok, ifcl_ok}
 use Rattle.fws_ifcl.specs.Walk.{rules_at}
-use Rattle.fws_rule.specs.Literals.{positive}
-use Rattle.fws_draw.specs.Right.{RulesAreRightByParts}
-use Rattle.fws_draw.specs.Rules.{ruled, always}
+use Rattle.fws_rules.specs.Literals.{positive}
+use Rattle.fws_ifcl_rules.specs.Right.{RulesAreRightByParts}
+use Rattle.fws_ifcl_rules.specs.Rules.{ruled, always}
 use Rattle.fws_ipt.specs.declared.config.IptChain.{IptChain}
 use Rattle.fws_ipt.specs.declared.config.IptConfig.{IptConfig}
 use Rattle.fws_ipt.specs.declared.config.IptGo.{IptGo}

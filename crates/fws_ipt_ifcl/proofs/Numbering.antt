@@ -4,7 +4,7 @@ use Rattle.std.proofs.lemmas.List.{drop-drop, get_or-drop}
 use Rattle.std.proofs.Math.Seq.{drop-append_seam}
 use Rattle.fws_net.specs.declared.site.Site.{Site}
 use Rattle.fws_ifcl.specs.declared.diagram.Rule.{Rule}
-use Rattle.fws_draw.specs.UsedPlaces.{untold, first_told, TellsOfUses}
+use Rattle.fws_ifcl_rules.specs.UsedPlaces.{untold, first_told, TellsOfUses}
 use Rattle.fws_ipt.specs.declared.config.IptGo.{IptGo}
 use Rattle.fws_ipt.specs.declared.config.IptGo.TheVariants.{Source, Masquerade, Dest, Redirect, Netmap}
 use Rattle.fws_ipt.specs.declared.config.IptRule.{IptRule}

@@ -28,8 +28,8 @@ use Rattle.fws_ifcl.specs.declared.diagram.Stage.{Stage}
 use Rattle.fws_ifcl.specs.declared.step.ChainEnd.{ChainEnd}
 use Rattle.fws_ifcl.specs.declared.step.ChainEnd.TheVariants.{Accepted}
 use Rattle.fws_ifcl.specs.Walk.{sees, step_of, stepped, rules_walk, back as back_there}
-use Rattle.fws_rule.specs.Literals.{positive, negative}
-use Rattle.fws_draw.specs.Rules.{ruled, always}
+use Rattle.fws_rules.specs.Literals.{positive, negative}
+use Rattle.fws_ifcl_rules.specs.Rules.{ruled, always}
 use Rattle.fws_ipt.specs.declared.config.IptChain.{IptChain}
 use Rattle.fws_ipt.specs.declared.config.IptGo.{IptGo}
 use Rattle.fws_ipt.specs.declared.config.IptGo.TheVariants as goes

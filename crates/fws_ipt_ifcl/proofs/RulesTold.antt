@@ -27,7 +27,7 @@ use Rattle.fws_ifcl.specs.declared.step.ChainEnd.{ChainEnd}
 use Rattle.fws_ifcl.specs.Spots.{numbers_at, told}
 use Rattle.fws_ifcl.specs.Uses.{used_back as used_back_there, used_behind, rules_used}
 use Rattle.fws_ifcl.specs.Walk.{sees, step_of}
-use Rattle.fws_draw.specs.Rules.{ruled}
+use Rattle.fws_ifcl_rules.specs.Rules.{ruled}
 use Rattle.fws_ipt.specs.declared.config.IptChain.{IptChain}
 use Rattle.fws_ipt.specs.declared.config.IptGo.{IptGo}
 use Rattle.fws_ipt.specs.declared.config.IptGo.TheVariants as goes

@@ -18,8 +18,8 @@ use Rattle.fws_ifcl.specs.declared.diagram.Act.TheVariants.{Src, Dst}
 use Rattle.fws_ifcl.specs.declared.diagram.Rule.{Rule}
 use Rattle.fws_ifcl.specs.declared.diagram.Stage.{Stage}
 use Rattle.fws_ifcl.specs.Walk.{sees}
-use Rattle.fws_rule.specs.Literals.{positive}
-use Rattle.fws_draw.specs.Rules.{always}
+use Rattle.fws_rules.specs.Literals.{positive}
+use Rattle.fws_ifcl_rules.specs.Rules.{always}
 use Rattle.fws_ipt.specs.declared.config.IptTable.TheVariants.{Nat}
 use Rattle.fws_ipt.specs.declared.hook.Hook.{Hook}
 use Rattle.fws_ipt.specs.declared.hook.Hook.TheVariants.{Prerouting, Input, Forward, Output, Postrouting}

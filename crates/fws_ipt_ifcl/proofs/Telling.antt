@@ -16,7 +16,7 @@ use Rattle.fws_ifcl.specs.declared.step.ChainEnd.{ChainEnd}
 use Rattle.fws_ifcl.specs.Spots.{numbers_at, told}
 use Rattle.fws_ifcl.specs.Uses.{used_behind, rules_used}
 use Rattle.fws_ifcl.specs.Walk.{sees, step_of}
-use Rattle.fws_draw.specs.Rules.{ruled}
+use Rattle.fws_ifcl_rules.specs.Rules.{ruled}
 use Rattle.fws_ipt_ifcl.proofs.Asking.{IsGathered}
 use Rattle.fws_ipt_ifcl.proofs.Guarding.{written, is_write}
 

@@ -24,8 +24,8 @@ use Rattle.fws_ifcl.specs.declared.step.ChainEnd.{ChainEnd}
 use Rattle.fws_ifcl.specs.declared.step.ChainEnd.TheVariants as there
 use Rattle.fws_ifcl.specs.declared.diagram.Rule.{Rule}
 use Rattle.fws_ifcl.specs.Walk.{rules_walk, chain_walk, stage_end, stage_walk, stages_walk, way_of as way_there, means}
-use Rattle.fws_rule.specs.Literals.{positive}
-use Rattle.fws_draw.specs.Rules.{ruled}
+use Rattle.fws_rules.specs.Literals.{positive}
+use Rattle.fws_ifcl_rules.specs.Rules.{ruled}
 use Rattle.fws_ipt.specs.declared.config.IptChain.{IptChain}
 use Rattle.fws_ipt.specs.declared.config.IptConfig.{IptConfig}
 use Rattle.fws_ipt.specs.declared.config.IptTable.{IptTable}

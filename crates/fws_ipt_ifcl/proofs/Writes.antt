@@ -18,7 +18,7 @@ use Rattle.fws_ifcl.specs.declared.diagram.Act.TheVariants.{Src, Dst}
 use Rattle.fws_ifcl.specs.declared.diagram.Rule.{Rule}
 use Rattle.fws_ifcl.specs.declared.diagram.Stage.{Stage}
 use Rattle.fws_ifcl.specs.Walk.{sees}
-use Rattle.fws_rule.specs.Literals.{one, positive}
+use Rattle.fws_rules.specs.Literals.{one, positive}
 use Rattle.fws_ipt_ifcl.specs.Blocks.{by_entry, masquerading, redirecting}
 use Rattle.fws_ipt_ifcl.proofs.Guarding.{written, written_by, is_write, are_writes}
 

@@ -11,11 +11,11 @@ use Rattle.fws_net.specs.Faces.{face_addr, loopback_addr}
 use Rattle.fws_ifcl.specs.declared.diagram.Act.{Act}
 use Rattle.fws_ifcl.specs.declared.diagram.Act.TheVariants.{Accept, Drop, Return, Skip, Call, Goto, Src, Dst, OnlyTag}
 use Rattle.fws_ifcl.specs.declared.diagram.Rule.{Rule}
-use Rattle.fws_rule.specs.Literals.{one, positive, negative}
-use Rattle.fws_draw.specs.Rules.{ruled, always, guarded}
+use Rattle.fws_rules.specs.Literals.{one, positive, negative}
+use Rattle.fws_ifcl_rules.specs.Rules.{ruled, always, guarded}
 use Rattle.fws_ipt.specs.declared.config.IptGo.{IptGo}
 use Rattle.fws_ipt.specs.declared.config.IptGo.TheVariants as goes
-use Rattle.fws_rule.specs.Networks.{net_end}
+use Rattle.fws_rules.specs.Networks.{net_end}
 use Rattle.fws_ipt_ifcl.specs.declared.side.SideTest.{SideTest}
 use Rattle.fws_ipt_ifcl.specs.declared.side.SideTest.TheVariants.{First, Each}
 

@@ -4,7 +4,7 @@ use Rattle.std.specs.Prelude.{ℕ, suc, ◌+◌, Bool, List, [], ◌∷◌, ◌+
 use Rattle.fws_net.specs.declared.site.Site.{Site}
 use Rattle.fws_ifcl.specs.declared.diagram.Ifcl.{Ifcl}
 use Rattle.fws_ifcl.specs.declared.diagram.Spot.{Spot}
-use Rattle.fws_draw.specs.UsedPlaces.{untold, first_told, chain_spots}
+use Rattle.fws_ifcl_rules.specs.UsedPlaces.{untold, first_told, chain_spots}
 use Rattle.fws_ipt.specs.declared.config.IptRule.{IptRule}
 use Rattle.fws_ipt.specs.declared.config.IptChain.{IptChain}
 use Rattle.fws_ipt.specs.declared.config.IptConfig.{IptConfig}

@@ -2,20 +2,20 @@
 
 ghost use Rattle.std.specs.Prelude.{◌≡◌, ◌+◌, [], ◌∷◌, ◌++◌, true, false, length, map, IfOk, OnOk};
 ghost use Rattle.fws_net.specs.Routes.{IsSound};
-ghost use Rattle.fws_draw.specs.Rules.{always, guarded, ruled};
+ghost use Rattle.fws_ifcl_rules.specs.Rules.{always, guarded, ruled};
 ghost use Rattle.fws_ipt_ifcl.specs.declared.side.SideTest.TheVariants.{Each, First};
 ghost use Rattle.fws_ipt_ifcl.specs.Blocks.{all_entries, at_side, guarded_writes, mapping, masquerading, redirecting, side_writes, sided, unfolded};
-ghost use Rattle.fws_rule.specs.Literals.{positive};
+ghost use Rattle.fws_rules.specs.Literals.{positive};
 
 use crate::guards::{all_entries, one_entry, put_guarded, put_write};
 use crate::numbers::file_chain;
 use crate::side::SideTest;
-use fws_draw::{narrowed, place_behind, put_always, put_guard, put_rule, ruled_by};
 use fws_ifcl::{Act, Rule};
+use fws_ifcl_rules::{narrowed, place_behind, put_always, put_guard, put_rule, ruled_by};
 use fws_ipt::{IptGo, IptRule};
 use fws_net::{Cond, End, LOOPBACK_ADDR, Site, Test, face_addr};
 use fws_num::{Memory, Prefix};
-use fws_rule::{negative, net_end, positive};
+use fws_rules::{negative, net_end, positive};
 use std::alloc::Global;
 
 /// The entry of the last interface.

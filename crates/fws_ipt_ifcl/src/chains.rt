@@ -6,12 +6,12 @@ ghost use Rattle.fws_ipt_ifcl.specs.Diagram.{own_chain, own_chains, headed, is_o
 
 use crate::blocks::put_unfolded;
 use crate::side::SideTest;
-use fws_draw::{always, ruled_by};
 use fws_ifcl::{Act, Chain, Rule};
+use fws_ifcl_rules::{always, ruled_by};
 use fws_ipt::{Hook, IptChain, IptTable};
 use fws_net::{Site, Test};
 use fws_num::{Items, Memory, Text};
-use fws_rule::positive;
+use fws_rules::positive;
 use std::alloc::Global;
 
 /// A chain of the diagram's own, with one rule. An error is want of memory.

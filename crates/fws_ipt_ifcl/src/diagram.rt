@@ -10,8 +10,8 @@ ghost use Rattle.fws_ipt_ifcl.specs.Kept.{KeepsWalks, KeepsChains, KeepsStages, 
 use crate::chains::chains_for;
 use crate::side::SideTest;
 use crate::stages::{arrive_stages, deliver_stages, forward_stages, send_stages};
-use fws_draw::rules_are_right_by_parts;
 use fws_ifcl::Ifcl;
+use fws_ifcl_rules::rules_are_right_by_parts;
 use fws_ipt::{IptConfig, loops_are_found, sizes_stand_still};
 use fws_net::{Site, routes_are_entries};
 use fws_num::Memory;

@@ -1,12 +1,12 @@
 //! Entries of interfaces, and rules that write ends where a condition holds.
 
 ghost use Rattle.std.specs.Prelude.{◌≡◌, ◌≤◌, ◌++◌, ◌∷◌, [], length, IfOk, OnOk};
-ghost use Rattle.fws_draw.specs.Rules.{always};
-ghost use Rattle.fws_rule.specs.Literals.{one};
+ghost use Rattle.fws_ifcl_rules.specs.Rules.{always};
+ghost use Rattle.fws_rules.specs.Literals.{one};
 ghost use Rattle.fws_ipt_ifcl.specs.Blocks.{all_entries, guarded_writes};
 
-use fws_draw::{put_always, put_guard};
 use fws_ifcl::{Act, Rule};
+use fws_ifcl_rules::{put_always, put_guard};
 use fws_iv::{Ivs, one};
 use fws_net::{Cond, Site};
 use fws_num::Memory;

@@ -2,7 +2,7 @@
 
 ghost use Rattle.std.specs.Prelude.{◌≡◌, ◌+◌, IfOk};
 
-use fws_draw::place_behind;
+use fws_ifcl_rules::place_behind;
 use fws_num::Memory;
 
 /// How many chains of its own stand ahead of the file's chains.

@@ -10,8 +10,8 @@ ghost use Rattle.fws_ipt_ifcl.specs.Kept.{KeepsWalks, KeepsChains, KeepsStages, 
 use crate::diagram::drawn;
 use crate::side::SideTest;
 use crate::spots::spots_of;
-use fws_draw::{rules_are_right_by_parts, uses_are_told_by_places};
 use fws_ifcl::{Ifcl, Spot};
+use fws_ifcl_rules::{rules_are_right_by_parts, uses_are_told_by_places};
 use fws_ipt::{IptConfig, loops_are_found, sizes_stand_still};
 use fws_net::{Site, routes_are_entries};
 use fws_num::Memory;

@@ -1,13 +1,13 @@
 //! Where the rules of a configuration stand in the diagram that has a place for each.
 
 ghost use Rattle.std.specs.Prelude.{◌≡◌, ◌+◌, ◌++◌, Bool, length, IfOk, OnOk};
-ghost use Rattle.fws_draw.specs.UsedPlaces.{chain_spots, spots_from};
+ghost use Rattle.fws_ifcl_rules.specs.UsedPlaces.{chain_spots, spots_from};
 ghost use Rattle.fws_ipt.specs.Refusals.{head_width, width_of};
 ghost use Rattle.fws_ipt_ifcl.specs.Placed.{chain_told, chains_told, rules_told, spots_of};
 
 use crate::numbers::OWN_CHAINS;
-use fws_draw::{put_spot, sum, uses_are_told_by_places};
 use fws_ifcl::Spot;
+use fws_ifcl_rules::{put_spot, sum, uses_are_told_by_places};
 use fws_ipt::{IptChain, IptConfig, IptGo, IptRule, IptTable};
 use fws_net::Site;
 use fws_num::Memory;

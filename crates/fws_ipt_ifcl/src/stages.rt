@@ -6,8 +6,8 @@ ghost use Rattle.fws_ipt.specs.Walk.{arriving, delivered, forwarded, sent_out, p
 ghost use Rattle.fws_ipt_ifcl.specs.Diagram.{own_stage, tracked_at, builtin_stage, stages_for};
 
 use crate::numbers::OWN_CHAINS;
-use fws_draw::place_behind;
 use fws_ifcl::Stage;
+use fws_ifcl_rules::place_behind;
 use fws_ipt::{Hook, IptChain, IptTable, builtin_at};
 use fws_num::{Items, Memory};
 use std::alloc::Global;

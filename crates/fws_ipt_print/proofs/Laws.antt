@@ -2,7 +2,7 @@
 use Rattle.fws_num.specs.Numbers.{AddressesAreDotted, DecimalsAreRead, NumbersAreDigits, PrefixesAreRead, QuadsAreDotted, SplitsBack}
 use Rattle.fws_num.specs.Pieces.{JoinedAreDivided}
 use Rattle.fws_num.specs.Written.{LinesAreRead, WordsAreRead}
-use Rattle.fws_rule.specs.Names.{OrderlySitesAreNamed}
+use Rattle.fws_rules.specs.Names.{OrderlySitesAreNamed}
 
 pub record Laws : Type 0 where
   pub decimals : DecimalsAreRead

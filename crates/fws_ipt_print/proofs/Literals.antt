@@ -14,8 +14,8 @@ use Rattle.fws_net.specs.declared.site.Site.{Site}
 use Rattle.fws_net.specs.Reading.{and_then}
 use Rattle.fws_net.specs.SiteSpelling.{net_word}
 use Rattle.fws_net.specs.declared.packet.Lang.TheVariants.{Iptables}
-use Rattle.fws_rule.specs.Literals.{literals, one, positive}
-use Rattle.fws_rule.specs.Names.{interface_name}
+use Rattle.fws_rules.specs.Literals.{literals, one, positive}
+use Rattle.fws_rules.specs.Names.{interface_name}
 use Rattle.fws_ipt.specs.declared.config.IptTable.{IptTable}
 use Rattle.fws_ipt.specs.declared.config.IptChain.{IptChain}
 use Rattle.fws_ipt.specs.declared.words.Keyword.TheVariants as keywords

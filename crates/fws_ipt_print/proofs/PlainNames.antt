@@ -11,9 +11,9 @@ use Rattle.fws_net.specs.declared.packet.Lang.TheVariants.{Iptables}
 use Rattle.fws_net.specs.declared.site.Site.{Site}
 use Rattle.fws_net.specs.Faces.{entries_beginning}
 use Rattle.fws_net.specs.Reading.{and_then}
-use Rattle.fws_rule.specs.Interfaces.{before_mark, interface_named}
-use Rattle.fws_rule.specs.Literals.{one, positive}
-use Rattle.fws_rule.specs.Names.{interface_name, is_own_byte, AreNamed}
+use Rattle.fws_rules.specs.Interfaces.{before_mark, interface_named}
+use Rattle.fws_rules.specs.Literals.{one, positive}
+use Rattle.fws_rules.specs.Names.{interface_name, is_own_byte, AreNamed}
 use Rattle.fws_ipt.specs.Values.{interface_meaning}
 use Rattle.fws_ipt_print.specs.Printable.{begins_with_letter, is_chain_name, is_name_byte}
 use Rattle.fws_ipt_print.proofs.Basics.{all_weaker, if_false}

@@ -17,7 +17,7 @@ use Rattle.fws_net.specs.declared.site.Site.{Site}
 use Rattle.fws_net.specs.SiteLaws.{IsOrderly}
 use Rattle.fws_net.specs.SiteSpelling.{net_word}
 use Rattle.fws_net.specs.declared.packet.Lang.TheVariants.{Iptables}
-use Rattle.fws_rule.specs.Names.{interface_name}
+use Rattle.fws_rules.specs.Names.{interface_name}
 use Rattle.fws_ipt.specs.declared.config.IptGo.{IptGo}
 use Rattle.fws_ipt.specs.declared.config.IptGo.TheVariants as acts
 use Rattle.fws_ipt.specs.declared.config.IptChain.{IptChain}

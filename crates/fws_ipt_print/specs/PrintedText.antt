@@ -13,7 +13,7 @@ use Rattle.fws_net.specs.declared.outcome.End.{End}
 use Rattle.fws_net.specs.declared.site.Site.{Site}
 use Rattle.fws_net.specs.SiteSpelling.{lines_text, net_word}
 use Rattle.fws_net.specs.declared.packet.Lang.TheVariants.{Iptables}
-use Rattle.fws_rule.specs.Names.{interface_name}
+use Rattle.fws_rules.specs.Names.{interface_name}
 use Rattle.fws_ipt.specs.declared.config.IptTable.{IptTable}
 use Rattle.fws_ipt.specs.declared.config.IptTable.TheVariants.{Filter, Nat, Mangle}
 use Rattle.fws_ipt.specs.declared.config.IptGo.{IptGo}

@@ -4,7 +4,7 @@ ghost use Rattle.std.specs.Prelude.{◌≡◌, [], ◌∷◌, ◌++◌, codes, O
 ghost use Rattle.std.specs.Fmt.{decimal};
 ghost use Rattle.std.specs.List.{flat_map};
 ghost use Rattle.fws_net.specs.declared.packet.Lang.TheVariants.{Iptables};
-ghost use Rattle.fws_rule.specs.Names.{interface_name};
+ghost use Rattle.fws_rules.specs.Names.{interface_name};
 ghost use Rattle.fws_print.specs.Words.{behind_blanks, protocol_name};
 ghost use Rattle.fws_ipt_print.specs.PrintedText.{address_words, class_word, first_part, flags_word, literal_words, mark_word, port_module, port_words, test_words};
 
@@ -14,7 +14,7 @@ use fws_iv::Ivs;
 use fws_net::{Lang, Lit, Site, Test};
 use fws_num::{Memory, Text, put_dec};
 use fws_print::{put_protocol, put_word};
-use fws_rule::interface_name;
+use fws_rules::interface_name;
 
 /// Appends the test of a protocol.
 fn put_proto(out: &mut Text, set: &Ivs) -> Result<(), Memory>

@@ -2,8 +2,8 @@
 use Rattle.std.proofs.Common.{◌≡◌, ℕ, zero, suc, ◌+◌, ◌<◌, ◌≤◌, false, ◌&&◌, slice_get, Some, is_none, List, [], ◌∷◌, ◌++◌, length, All, arith, sym, ap, ◌∙◌, subst, length-append}
 use Rattle.std.specs.Option.{option_map_or}
 use Rattle.fws_box.specs.Sides.{IsWithin}
-use Rattle.fws_sight.specs.declared.seen.Seen.TheVariants.{Entered, Routed}
-use Rattle.fws_sight.specs.declared.seen.Seen.{Seen}
+use Rattle.fws_tree_seen.specs.declared.seen.Seen.TheVariants.{Entered, Routed}
+use Rattle.fws_tree_seen.specs.declared.seen.Seen.{Seen}
 use Rattle.fws_ipt.specs.declared.config.IptChain.{IptChain}
 use Rattle.fws_ipt.specs.declared.config.IptTable.{IptTable}
 use Rattle.fws_ipt.specs.declared.config.IptTable.TheVariants.{Filter, Mangle}

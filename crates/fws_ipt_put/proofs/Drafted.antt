@@ -8,8 +8,8 @@ use Rattle.fws_net.specs.declared.site.Site.{Site}
 use Rattle.fws_net.specs.Points.{tops_of}
 use Rattle.fws_tree.specs.Plain.{Plain}
 use Rattle.fws_tree.specs.declared.tables.Tables.{Tables}
-use Rattle.fws_sight.specs.declared.seen.Seen.TheVariants.{Entered, Routed}
-use Rattle.fws_sight.specs.declared.seen.Seen.{Seen}
+use Rattle.fws_tree_seen.specs.declared.seen.Seen.TheVariants.{Entered, Routed}
+use Rattle.fws_tree_seen.specs.declared.seen.Seen.{Seen}
 use Rattle.fws_ipt.specs.declared.config.IptChain.{IptChain}
 use Rattle.fws_ipt.specs.declared.config.IptGo.{IptGo}
 use Rattle.fws_ipt.specs.declared.config.IptGo.TheVariants as acts

@@ -13,7 +13,7 @@ use Rattle.fws_net.specs.declared.condition.Test.TheVariants.{Proto, Tag}
 use Rattle.fws_net.specs.declared.outcome.End.{End}
 use Rattle.fws_net.specs.declared.packet.Packet.{Packet}
 use Rattle.fws_net.specs.declared.site.Site.{Site}
-use Rattle.fws_rule.specs.Networks.{net_end, written_len}
+use Rattle.fws_rules.specs.Networks.{net_end, written_len}
 use Rattle.fws_tree.specs.OutcomeEquality.{end_same}
 use Rattle.fws_ipt.specs.declared.config.IptGo.TheVariants as acts
 use Rattle.fws_ipt.specs.declared.config.IptRule.{IptRule}

@@ -14,7 +14,7 @@ use Rattle.fws_net.specs.declared.outcome.Rewrite.{Rewrite}
 use Rattle.fws_tree.specs.declared.row.Row.{Row}
 use Rattle.fws_tree.specs.Plain.{Plain, value}
 use Rattle.fws_tree.specs.Rows.{row_hits}
-use Rattle.fws_sight.specs.SightLaws.{HasImages}
+use Rattle.fws_tree_seen.specs.SightLaws.{HasImages}
 use Rattle.fws_ipt_put_chains.specs.declared.verdict.Verdict.{Verdict}
 use Rattle.fws_ipt_put_chains.specs.declared.verdict.Verdict.TheVariants as verdicts
 use Rattle.fws_ipt_put.specs.declared.marks.Mark.{Mark}

@@ -7,7 +7,7 @@ use Rattle.fws_net.specs.Points.{tops_of}
 use Rattle.fws_tree.specs.declared.tables.Tables.{Tables}
 use Rattle.fws_tree.specs.Plain.{Plain}
 use Rattle.fws_tree.specs.Regular.{AreRegular}
-use Rattle.fws_sight.specs.SightLaws.{HasImages}
+use Rattle.fws_tree_seen.specs.SightLaws.{HasImages}
 use Rattle.fws_ipt.specs.declared.config.IptChain.{IptChain}
 use Rattle.fws_ipt.specs.declared.config.IptConfig.{IptConfig}
 use Rattle.fws_ipt_put_chains.specs.declared.verdict.Verdict.{Verdict}

@@ -3,8 +3,8 @@
 ghost use Rattle.std.specs.Prelude.{◌≡◌, ◌+◌, ◌<◌, ◌≤◌, ◌^◌, [], ◌∷◌, ◌++◌, length, IfOk, OnOk, All};
 ghost use Rattle.fws_net.specs.Points.{tops_of};
 ghost use Rattle.fws_net.specs.Routes.{IsSound};
-ghost use Rattle.fws_sight.specs.declared.seen.Seen.TheVariants as seens;
-ghost use Rattle.fws_sight.specs.Shown.{IsTold};
+ghost use Rattle.fws_tree_seen.specs.declared.seen.Seen.TheVariants as seens;
+ghost use Rattle.fws_tree_seen.specs.Shown.{IsTold};
 ghost use Rattle.fws_ipt_put.specs.Drafts.{IsDraft, SetsMarks};
 ghost use Rattle.fws_ipt_put.specs.Marks.{HaveBlocks};
 
@@ -14,8 +14,8 @@ use fws_ipt::{IptChain, IptTable};
 use fws_ipt_put_chains::{Branch, Verdict, put_chains};
 use fws_net::Site;
 use fws_num::{Items, Memory};
-use fws_sight::Seen;
 use fws_tree::Tree;
+use fws_tree_seen::Seen;
 use std::alloc::Global;
 
 /// Chains in their order, of which some built-in ones have no rules yet, and what these are to do.

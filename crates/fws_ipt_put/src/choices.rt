@@ -3,7 +3,7 @@
 ghost use Rattle.std.specs.Prelude.{◌≡◌, ◌+◌, ◌<◌, ◌^◌, ℕ, Bool, true, List, Some, length, slice_get, IfOk, OnOk, All};
 ghost use Rattle.fws_box.specs.Sides.{IsWithin};
 ghost use Rattle.fws_tree.specs.Plain.{value};
-ghost use Rattle.fws_sight.specs.SightLaws.{HasImages};
+ghost use Rattle.fws_tree_seen.specs.SightLaws.{HasImages};
 ghost use Rattle.fws_ipt_put.specs.Marks.{mark_at, marked, passing, verdict_of, writes};
 
 use fws_ipt_put_chains::Verdict;

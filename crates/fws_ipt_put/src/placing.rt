@@ -7,7 +7,7 @@ ghost use Rattle.fws_net.specs.declared.packet.Lang.TheVariants as langs;
 ghost use Rattle.fws_place.specs.Fits.{Fits, IsBreach};
 ghost use Rattle.fws_place.specs.Seen.{IsAcceptedAlike, IsAcceptedSomewhere, Tells};
 ghost use Rattle.fws_tree.specs.Regular.{AreRegular};
-ghost use Rattle.fws_sight.specs.SightLaws.{HasImages};
+ghost use Rattle.fws_tree_seen.specs.SightLaws.{HasImages};
 ghost use Rattle.fws_ipt_put.specs.Marks.{AreMarks, passing, verdict_of};
 ghost use Rattle.fws_ipt_put.specs.Placed.{IsPlaced};
 
@@ -23,8 +23,8 @@ use fws_place::{
     Breach, PlaceAnswer, Views, check, fitting_pairs_are_told, lost_pairs_are_dropped,
     points_are_seen, seen, views_are_told,
 };
-use fws_sight::relabelled_trees_are_told;
 use fws_tree::Tables;
+use fws_tree_seen::relabelled_trees_are_told;
 use std::alloc::Global;
 
 /// The configuration of tables that fit, by what is decided in place of what they hold. An error is want of memory.

@@ -17,8 +17,8 @@ use Rattle.fws_tree.specs.declared.node.Node.{Node}
 use Rattle.fws_tree.specs.declared.node.Node.TheVariants.{Leaf, Cut}
 use Rattle.fws_tree.specs.Plain.{Plain, cut, Kids, branch, kid_at, IsReduced}
 use Rattle.fws_tree.specs.Shared.{IsShared, subtree_of}
-use Rattle.fws_sight.specs.declared.seen.Seen.{Seen}
-use Rattle.fws_sight.specs.Cuts.{kids_of, IsCutNode}
+use Rattle.fws_tree_seen.specs.declared.seen.Seen.{Seen}
+use Rattle.fws_tree_seen.specs.Cuts.{kids_of, IsCutNode}
 use Rattle.fws_ipt_put_chains.specs.declared.coming.Coming.{Coming}
 use Rattle.fws_ipt_put_chains.specs.declared.verdict.Branch.{Branch}
 use Rattle.fws_ipt_put_chains.specs.declared.verdict.Verdict.{Verdict}

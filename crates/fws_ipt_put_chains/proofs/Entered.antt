@@ -20,12 +20,12 @@ use Rattle.fws_ipt.specs.declared.passage.Passage.{Passage}
 use Rattle.fws_ipt.specs.Walk.{act, chain_walk, is_table, rules_at, rules_walk, view_at}
 use Rattle.fws_tree.specs.declared.node.Kid.{Kid}
 use Rattle.fws_tree.specs.Plain.{Plain, leaf, cut}
-use Rattle.fws_sight.specs.declared.field.PacketField.{PacketField}
-use Rattle.fws_sight.specs.declared.seen.Seen.{Seen}
-use Rattle.fws_sight.specs.Cuts.{PartValues, kids_of}
-use Rattle.fws_sight.specs.Fields.{top_of}
-use Rattle.fws_sight.specs.Reached.{IsOpen, IsTopped, Reaches, ReachesKid}
-use Rattle.fws_sight.specs.Shown.{seen_field, value_of}
+use Rattle.fws_tree_seen.specs.declared.field.PacketField.{PacketField}
+use Rattle.fws_tree_seen.specs.declared.seen.Seen.{Seen}
+use Rattle.fws_tree_seen.specs.Cuts.{PartValues, kids_of}
+use Rattle.fws_tree_seen.specs.Fields.{top_of}
+use Rattle.fws_tree_seen.specs.Reached.{IsOpen, IsTopped, Reaches, ReachesKid}
+use Rattle.fws_tree_seen.specs.Shown.{seen_field, value_of}
 use Rattle.fws_ipt_put_chains.specs.declared.coming.Coming.{Coming}
 use Rattle.fws_ipt_put_chains.specs.declared.verdict.Verdict.{Verdict}
 use Rattle.fws_ipt_put_chains.specs.declared.verdict.Verdict.TheVariants.{Accept, Drop, Mark}

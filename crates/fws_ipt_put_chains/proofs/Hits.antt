@@ -18,10 +18,10 @@ use Rattle.fws_net.specs.declared.view.View.{View}
 use Rattle.fws_net.specs.Conditions.{holds, test_holds}
 use Rattle.fws_net.specs.Fates.{has_ports}
 use Rattle.fws_ipt_print.specs.Printable.{are_ports}
-use Rattle.fws_sight.specs.declared.field.PacketField.TheVariants.{Dst, Dport, Src, Sport, Flags}
-use Rattle.fws_sight.specs.declared.field.PacketField.{PacketField}
-use Rattle.fws_sight.specs.Fields.{suits}
-use Rattle.fws_sight.specs.Shown.{value_of}
+use Rattle.fws_tree_seen.specs.declared.field.PacketField.TheVariants.{Dst, Dport, Src, Sport, Flags}
+use Rattle.fws_tree_seen.specs.declared.field.PacketField.{PacketField}
+use Rattle.fws_tree_seen.specs.Fields.{suits}
+use Rattle.fws_tree_seen.specs.Shown.{value_of}
 use Rattle.fws_ipt_put_chains.specs.declared.coming.Coming.{Coming}
 use Rattle.fws_ipt_put_chains.specs.Conds.{range_cond, cube_cond, port_cond, port_conds, set_test, AreValuesBelow, ArePortLists}
 use Rattle.fws_ipt_put_chains.specs.Pieces.{is_printed_cond, ArePieces, IsSpelled, MayMeet}

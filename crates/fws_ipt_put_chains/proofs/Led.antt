@@ -8,9 +8,9 @@ use Rattle.fws_iv.specs.Ivs.{has}
 use Rattle.fws_ipt.specs.declared.config.IptChain.{IptChain}
 use Rattle.fws_ipt.specs.declared.config.IptGo.{IptGo}
 use Rattle.fws_tree.specs.Plain.{Plain, branch, IsReduced}
-use Rattle.fws_sight.specs.declared.seen.Seen.{Seen}
-use Rattle.fws_sight.specs.Reached.{Reaches}
-use Rattle.fws_sight.specs.Shown.{IsTold}
+use Rattle.fws_tree_seen.specs.declared.seen.Seen.{Seen}
+use Rattle.fws_tree_seen.specs.Reached.{Reaches}
+use Rattle.fws_tree_seen.specs.Shown.{IsTold}
 use Rattle.fws_ipt_put_chains.specs.declared.coming.Coming.{Coming}
 use Rattle.fws_ipt_put_chains.specs.declared.verdict.Verdict.{Verdict}
 use Rattle.fws_ipt_put_chains.specs.Branches.{Leads, verdict_end}

@@ -26,10 +26,10 @@ use Rattle.fws_tree.specs.Plain.{Plain, leaf, cut, Kids, none, kid}
 use Rattle.fws_tree.specs.Shared.{IsShared, subtree_of}
 use Rattle.fws_tree.specs.Subtrees.{IsSubtree, IsKidSubtree}
 use Rattle.fws_ipt_print.specs.Printable.{is_chain_name, is_printed_act, is_printed_chain, is_printed_policy, is_printed_rule, shows_receiving}
-use Rattle.fws_sight.specs.declared.field.PacketField.{PacketField}
-use Rattle.fws_sight.specs.declared.seen.Seen.{Seen}
-use Rattle.fws_sight.specs.Cuts.{IsCutNode}
-use Rattle.fws_sight.specs.Shown.{seen_field}
+use Rattle.fws_tree_seen.specs.declared.field.PacketField.{PacketField}
+use Rattle.fws_tree_seen.specs.declared.seen.Seen.{Seen}
+use Rattle.fws_tree_seen.specs.Cuts.{IsCutNode}
+use Rattle.fws_tree_seen.specs.Shown.{seen_field}
 use Rattle.fws_ipt_put_chains.specs.declared.coming.Coming.{Coming}
 use Rattle.fws_ipt_put_chains.specs.declared.verdict.Verdict.{Verdict}
 use Rattle.fws_ipt_put_chains.specs.declared.verdict.Verdict.TheVariants.{Accept, Drop, Mark}

@@ -4,13 +4,13 @@ use Rattle.std.proofs.lemmas.Bool.{eqb-true}
 use Rattle.fws_iv.specs.declared.iv.Iv.{Iv}
 use Rattle.fws_iv.specs.Ivs.{has}
 use Rattle.fws_net.specs.declared.packet.Packet.{Packet}
-use Rattle.fws_sight.specs.declared.field.PacketField.TheVariants.{Proto}
-use Rattle.fws_sight.specs.declared.seen.Seen.TheVariants.{Entered, Routed}
-use Rattle.fws_sight.specs.declared.seen.Seen.{Seen}
-use Rattle.fws_sight.specs.NodeLaws.{CutNodesPartValues, LeafNodesAreLeaves}
-use Rattle.fws_sight.specs.Reached.{IsOpen}
-use Rattle.fws_sight.specs.Shown.{seen_field}
-use Rattle.fws_sight.specs.SightLaws.{LeftSetsAreOpen, OpenKidsAreReached, ReachedValuesAreTold, SeenFieldsAgree, SeenPointsAreTopped, UnseenFieldsAreOpen}
+use Rattle.fws_tree_seen.specs.declared.field.PacketField.TheVariants.{Proto}
+use Rattle.fws_tree_seen.specs.declared.seen.Seen.TheVariants.{Entered, Routed}
+use Rattle.fws_tree_seen.specs.declared.seen.Seen.{Seen}
+use Rattle.fws_tree_seen.specs.NodeLaws.{CutNodesPartValues, LeafNodesAreLeaves}
+use Rattle.fws_tree_seen.specs.Reached.{IsOpen}
+use Rattle.fws_tree_seen.specs.Shown.{seen_field}
+use Rattle.fws_tree_seen.specs.SightLaws.{LeftSetsAreOpen, OpenKidsAreReached, ReachedValuesAreTold, SeenFieldsAgree, SeenPointsAreTopped, UnseenFieldsAreOpen}
 use Rattle.fws_ipt_put_chains.specs.declared.verdict.Verdict.{Verdict}
 
 -- what the chain of one node rests on

@@ -11,10 +11,10 @@ use Rattle.fws_net.specs.declared.condition.Lit.{Lit}
 use Rattle.fws_ipt.specs.declared.config.IptGo.{IptGo}
 use Rattle.fws_ipt.specs.declared.config.IptRule.{IptRule}
 use Rattle.fws_tree.specs.declared.node.Kid.{Kid}
-use Rattle.fws_sight.specs.declared.field.PacketField.TheVariants.{Proto, Dst, Dport, Src, Sport, Flags, Icmp}
-use Rattle.fws_sight.specs.declared.field.PacketField.{PacketField}
-use Rattle.fws_sight.specs.Cuts.{PartValues}
-use Rattle.fws_sight.specs.Fields.{top_of}
+use Rattle.fws_tree_seen.specs.declared.field.PacketField.TheVariants.{Proto, Dst, Dport, Src, Sport, Flags, Icmp}
+use Rattle.fws_tree_seen.specs.declared.field.PacketField.{PacketField}
+use Rattle.fws_tree_seen.specs.Cuts.{PartValues}
+use Rattle.fws_tree_seen.specs.Fields.{top_of}
 use Rattle.fws_ipt_put_chains.specs.declared.coming.Coming.{Coming}
 use Rattle.fws_ipt_put_chains.specs.Pieces.{ArePieces, IsSpelled, unspelled}
 use Rattle.fws_ipt_put_chains.specs.Rules.{act_at, rules_of, AreKidRules}

@@ -14,13 +14,13 @@ use Rattle.fws_ipt.specs.declared.passage.Passage.{Passage}
 use Rattle.fws_ipt.specs.Walk.{act, rules_walk, view_at}
 use Rattle.fws_tree.specs.declared.node.Kid.{Kid}
 use Rattle.fws_tree.specs.Plain.{Plain}
-use Rattle.fws_sight.specs.declared.field.PacketField.{PacketField}
-use Rattle.fws_sight.specs.declared.seen.Seen.{Seen}
-use Rattle.fws_sight.specs.Cuts.{kids_of}
-use Rattle.fws_sight.specs.Fields.{hits}
-use Rattle.fws_sight.specs.Reached.{Reaches, ReachesKid, IsOpen}
-use Rattle.fws_sight.specs.Shown.{seen_field}
-use Rattle.fws_sight.specs.SightLaws.{SeenFieldsAgree}
+use Rattle.fws_tree_seen.specs.declared.field.PacketField.{PacketField}
+use Rattle.fws_tree_seen.specs.declared.seen.Seen.{Seen}
+use Rattle.fws_tree_seen.specs.Cuts.{kids_of}
+use Rattle.fws_tree_seen.specs.Fields.{hits}
+use Rattle.fws_tree_seen.specs.Reached.{Reaches, ReachesKid, IsOpen}
+use Rattle.fws_tree_seen.specs.Shown.{seen_field}
+use Rattle.fws_tree_seen.specs.SightLaws.{SeenFieldsAgree}
 use Rattle.fws_ipt_put_chains.specs.declared.coming.Coming.{Coming}
 use Rattle.fws_ipt_put_chains.specs.declared.verdict.Verdict.{Verdict}
 use Rattle.fws_ipt_put_chains.specs.Branches.{verdict_end}

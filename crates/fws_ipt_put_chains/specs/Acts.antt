@@ -10,11 +10,11 @@ use Rattle.fws_tree.specs.declared.node.Kid.{Kid}
 use Rattle.fws_tree.specs.declared.node.Node.{Node}
 use Rattle.fws_tree.specs.declared.node.Node.TheVariants.{Leaf, Cut}
 use Rattle.fws_tree.specs.Shared.{subtree_of}
-use Rattle.fws_sight.specs.declared.field.PacketField.{PacketField}
-use Rattle.fws_sight.specs.declared.seen.Seen.{Seen}
-use Rattle.fws_sight.specs.Cuts.{PartValues}
-use Rattle.fws_sight.specs.Fields.{top_of}
-use Rattle.fws_sight.specs.Shown.{seen_field}
+use Rattle.fws_tree_seen.specs.declared.field.PacketField.{PacketField}
+use Rattle.fws_tree_seen.specs.declared.seen.Seen.{Seen}
+use Rattle.fws_tree_seen.specs.Cuts.{PartValues}
+use Rattle.fws_tree_seen.specs.Fields.{top_of}
+use Rattle.fws_tree_seen.specs.Shown.{seen_field}
 use Rattle.fws_ipt_put_chains.specs.declared.coming.Coming.{Coming}
 use Rattle.fws_ipt_put_chains.specs.declared.verdict.Branch.{Branch}
 use Rattle.fws_ipt_put_chains.specs.declared.verdict.Verdict.{Verdict}

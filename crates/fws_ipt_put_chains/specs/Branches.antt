@@ -17,8 +17,8 @@ use Rattle.fws_ipt.specs.declared.passage.Passage.{Passage}
 use Rattle.fws_ipt.specs.Soundness.{is_user_chain}
 use Rattle.fws_ipt.specs.Walk.{act, chain_walk, rules_at, with_mark}
 use Rattle.fws_tree.specs.Plain.{Plain, value, leaf, cut, Kids, none, kid}
-use Rattle.fws_sight.specs.declared.seen.Seen.{Seen}
-use Rattle.fws_sight.specs.Shown.{IsSeenAs}
+use Rattle.fws_tree_seen.specs.declared.seen.Seen.{Seen}
+use Rattle.fws_tree_seen.specs.Shown.{IsSeenAs}
 use Rattle.fws_ipt_put_chains.specs.declared.verdict.Branch.{Branch}
 use Rattle.fws_ipt_put_chains.specs.declared.verdict.Verdict.{Verdict}
 use Rattle.fws_ipt_put_chains.specs.declared.verdict.Verdict.TheVariants.{Accept, Drop, Mark}

@@ -11,10 +11,10 @@ use Rattle.fws_net.specs.declared.site.Site.{Site}
 use Rattle.fws_net.specs.declared.view.View.{View}
 use Rattle.fws_net.specs.Conditions.{holds}
 use Rattle.fws_ipt_print.specs.Printable.{are_ports}
-use Rattle.fws_sight.specs.declared.field.PacketField.TheVariants.{Proto, Dst, Dport, Src, Sport, Flags, Icmp}
-use Rattle.fws_sight.specs.declared.field.PacketField.{PacketField}
-use Rattle.fws_sight.specs.Fields.{suits}
-use Rattle.fws_sight.specs.Shown.{value_of}
+use Rattle.fws_tree_seen.specs.declared.field.PacketField.TheVariants.{Proto, Dst, Dport, Src, Sport, Flags, Icmp}
+use Rattle.fws_tree_seen.specs.declared.field.PacketField.{PacketField}
+use Rattle.fws_tree_seen.specs.Fields.{suits}
+use Rattle.fws_tree_seen.specs.Shown.{value_of}
 use Rattle.fws_ipt_put_chains.specs.declared.coming.Coming.{Coming}
 use Rattle.fws_ipt_put_chains.specs.Pieces.{is_printed_cond}
 

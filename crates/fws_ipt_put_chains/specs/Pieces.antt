@@ -8,10 +8,10 @@ use Rattle.fws_net.specs.declared.site.Site.{Site}
 use Rattle.fws_net.specs.declared.view.View.{View}
 use Rattle.fws_net.specs.Conditions.{holds}
 use Rattle.fws_ipt_print.specs.Printable.{are_different, protocol_leads, is_printed_literal}
-use Rattle.fws_sight.specs.declared.field.PacketField.TheVariants.{Proto, Icmp}
-use Rattle.fws_sight.specs.declared.field.PacketField.{PacketField}
-use Rattle.fws_sight.specs.Fields.{hits, suits, top_of}
-use Rattle.fws_sight.specs.Shown.{value_of}
+use Rattle.fws_tree_seen.specs.declared.field.PacketField.TheVariants.{Proto, Icmp}
+use Rattle.fws_tree_seen.specs.declared.field.PacketField.{PacketField}
+use Rattle.fws_tree_seen.specs.Fields.{hits, suits, top_of}
+use Rattle.fws_tree_seen.specs.Shown.{value_of}
 use Rattle.fws_ipt_put_chains.specs.declared.coming.Coming.{Coming}
 
 -- the value that no rule can test alone: `-p 0` is every protocol, and `--icmp-type 255` every type

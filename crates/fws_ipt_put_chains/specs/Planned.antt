@@ -11,8 +11,8 @@ use Rattle.fws_tree.specs.declared.node.Node.TheVariants.{Leaf, Cut}
 use Rattle.fws_tree.specs.Plain.{Plain}
 use Rattle.fws_tree.specs.Shared.{IsShared}
 use Rattle.fws_ipt_print.specs.Printable.{is_chain_name}
-use Rattle.fws_sight.specs.declared.seen.Seen.{Seen}
-use Rattle.fws_sight.specs.Shown.{IsTold}
+use Rattle.fws_tree_seen.specs.declared.seen.Seen.{Seen}
+use Rattle.fws_tree_seen.specs.Shown.{IsTold}
 use Rattle.fws_ipt_put_chains.specs.declared.verdict.Branch.{Branch}
 use Rattle.fws_ipt_put_chains.specs.declared.verdict.Verdict.{Verdict}
 use Rattle.fws_ipt_put_chains.specs.Blocks.{IsBlock, IsPrintedAct}

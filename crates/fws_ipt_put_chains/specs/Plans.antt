@@ -4,7 +4,7 @@ use Rattle.std.specs.List.{list_any}
 use Rattle.fws_iv.specs.Ivs.{has}
 use Rattle.fws_ipt.specs.declared.config.IptChain.{IptChain}
 use Rattle.fws_ipt.specs.declared.config.IptGo.{IptGo}
-use Rattle.fws_sight.specs.declared.field.PacketField.{PacketField}
+use Rattle.fws_tree_seen.specs.declared.field.PacketField.{PacketField}
 use Rattle.fws_tree.specs.declared.node.Kid.{Kid}
 use Rattle.fws_tree.specs.declared.node.Node.{Node}
 use Rattle.fws_ipt_put_chains.specs.declared.coming.Coming.{Coming}

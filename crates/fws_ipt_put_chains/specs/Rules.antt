@@ -8,9 +8,9 @@ use Rattle.fws_ipt.specs.declared.config.IptRule.{IptRule}
 use Rattle.fws_ipt.specs.declared.config.IptTable.{IptTable}
 use Rattle.fws_tree.specs.declared.node.Kid.{Kid}
 use Rattle.fws_ipt_print.specs.Printable.{is_chain_name}
-use Rattle.fws_sight.specs.declared.field.PacketField.{PacketField}
-use Rattle.fws_sight.specs.declared.seen.Seen.{Seen}
-use Rattle.fws_sight.specs.Shown.{seen_field}
+use Rattle.fws_tree_seen.specs.declared.field.PacketField.{PacketField}
+use Rattle.fws_tree_seen.specs.declared.seen.Seen.{Seen}
+use Rattle.fws_tree_seen.specs.Shown.{seen_field}
 use Rattle.fws_ipt_put_chains.specs.declared.coming.Coming.{Coming}
 use Rattle.fws_ipt_put_chains.specs.Blocks.{EndsInNumber}
 use Rattle.fws_ipt_put_chains.specs.Pieces.{ArePieces}

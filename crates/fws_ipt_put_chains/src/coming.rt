@@ -7,8 +7,8 @@ ghost use Rattle.fws_ipt_put_chains.specs.Comings.{both, narrowed, coming_at, Is
 
 use fws_iv::Ivs;
 use fws_num::Memory;
-use fws_sight::kids_stand_before;
 use fws_tree::{Kid, Node};
+use fws_tree_seen::kids_stand_before;
 use std::alloc::Global;
 
 /// Which protocols with ports come to a node.

@@ -7,7 +7,7 @@ ghost use Rattle.fws_ipt_put_chains.specs.Conds.{lit_of, one_number, proto_lit, 
 use fws_iv::{Cube, Iv, Ivs, one};
 use fws_net::{Cond, Lit, Test};
 use fws_num::Memory;
-use fws_sight::PacketField;
+use fws_tree_seen::PacketField;
 use std::alloc::Global;
 
 // A test of a field for the members of a set.

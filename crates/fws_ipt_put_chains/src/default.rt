@@ -4,16 +4,16 @@ ghost use Rattle.std.specs.Prelude.{◌≡◌, ℕ, ◌<◌, ◌≤◌, true, le
 ghost use Rattle.std.specs.List.{list_any};
 ghost use Rattle.fws_iv.specs.Ivs.{has};
 ghost use Rattle.fws_tree.specs.declared.node.Kid.{Kid};
-ghost use Rattle.fws_sight.specs.declared.field.PacketField.{PacketField};
-ghost use Rattle.fws_sight.specs.Fields.{top_of};
+ghost use Rattle.fws_tree_seen.specs.declared.field.PacketField.{PacketField};
+ghost use Rattle.fws_tree_seen.specs.Fields.{top_of};
 ghost use Rattle.fws_ipt_put_chains.specs.Pieces.{unspelled};
 ghost use Rattle.fws_ipt_put_chains.specs.Plans.{HoldsUnspelled};
 
 use crate::port_lists::port_lists;
 use fws_iv::{Ivs, cubes};
 use fws_num::Memory;
-use fws_sight::PacketField;
 use fws_tree::Kid;
+use fws_tree_seen::PacketField;
 use std::alloc::Global;
 
 // The value that no rule can test alone.

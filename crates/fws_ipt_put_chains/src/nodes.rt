@@ -18,11 +18,11 @@ use crate::rules::cut_rules;
 use crate::verdict::Verdict;
 use fws_ipt::{IptChain, IptGo};
 use fws_num::{Items, Memory};
-use fws_sight::{
+use fws_tree::{Kid, Node};
+use fws_tree_seen::{
     cut_nodes_part_values, leaf_nodes_are_leaves, left_sets_are_open, open_kids_are_reached,
     seen_fields_agree, unseen_fields_are_open,
 };
-use fws_tree::{Kid, Node};
 use std::alloc::Global;
 
 // The act of a leaf.

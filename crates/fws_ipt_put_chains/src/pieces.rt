@@ -14,7 +14,7 @@ use crate::port_lists::port_lists;
 use fws_iv::{Ivs, cubes};
 use fws_net::Cond;
 use fws_num::{Items, Memory};
-use fws_sight::PacketField;
+use fws_tree_seen::PacketField;
 use std::alloc::Global;
 
 // For each interval of a set of addresses, that the address lies in it.

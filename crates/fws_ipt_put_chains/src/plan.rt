@@ -3,8 +3,8 @@
 use crate::verdict::Verdict;
 use fws_ipt::IptTable;
 use fws_net::Site;
-use fws_sight::Seen;
 use fws_tree::Tree;
+use fws_tree_seen::Seen;
 
 /// What all chains of a tree have in common.
 #[derive(Clone, Copy)]

@@ -29,7 +29,7 @@ ghost use Rattle.fws_net.specs.Points.{tops_of};
 ghost use Rattle.fws_net.specs.Routes.{IsSound};
 ghost use Rattle.fws_tree.specs.declared.node.Node.{Node};
 ghost use Rattle.fws_ipt_print.specs.Printable.{is_chain_name};
-ghost use Rattle.fws_sight.specs.Shown.{IsTold};
+ghost use Rattle.fws_tree_seen.specs.Shown.{IsTold};
 ghost use Rattle.fws_ipt_put_chains.specs.Acts.{branch_of};
 ghost use Rattle.fws_ipt_put_chains.specs.Blocks.{IsBlock, IsPrintedAct};
 ghost use Rattle.fws_ipt_put_chains.specs.Branches.{HasMarkChains, Leads, PartEntries};
@@ -44,11 +44,11 @@ use fws_ipt::{IptChain, IptGo, IptTable};
 use fws_iv::one;
 use fws_net::Site;
 use fws_num::{Items, Memory};
-use fws_sight::{
+use fws_tree::{Kid, Node, Tree};
+use fws_tree_seen::{
     Seen, cut_nodes_part_values, leaf_nodes_are_leaves, reached_values_are_told,
     seen_points_are_topped,
 };
-use fws_tree::{Kid, Node, Tree};
 use std::alloc::Global;
 
 // A branch for each kid of a cut of the entry.

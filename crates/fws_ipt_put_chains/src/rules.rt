@@ -3,10 +3,10 @@
 ghost use Rattle.std.specs.Prelude.{◌≡◌, ◌+◌, ◌<◌, [], ◌++◌, Some, take, drop, length, All, IfOk, OnOk};
 ghost use Rattle.fws_ipt.specs.declared.config.IptRule.{IptRule};
 ghost use Rattle.fws_tree.specs.declared.node.Kid.{Kid};
-ghost use Rattle.fws_sight.specs.declared.field.PacketField.{PacketField};
-ghost use Rattle.fws_sight.specs.Cuts.{PartValues};
-ghost use Rattle.fws_sight.specs.Fields.{top_of};
-ghost use Rattle.fws_sight.specs.Shown.{seen_field};
+ghost use Rattle.fws_tree_seen.specs.declared.field.PacketField.{PacketField};
+ghost use Rattle.fws_tree_seen.specs.Cuts.{PartValues};
+ghost use Rattle.fws_tree_seen.specs.Fields.{top_of};
+ghost use Rattle.fws_tree_seen.specs.Shown.{seen_field};
 ghost use Rattle.fws_ipt_put_chains.specs.Pieces.{IsSpelled};
 ghost use Rattle.fws_ipt_put_chains.specs.Rules.{rules_of, AreKidRules, AreCutRules};
 ghost use Rattle.fws_print.specs.Appended.{Appends};
@@ -18,8 +18,8 @@ use crate::pieces::pieces;
 use fws_ipt::{IptGo, IptRule};
 use fws_net::Cond;
 use fws_num::{Items, Memory};
-use fws_sight::{PacketField, Seen, packet_field};
 use fws_tree::Kid;
+use fws_tree_seen::{PacketField, Seen, packet_field};
 use std::alloc::Global;
 
 // Appends a rule for each condition, which all do the same.

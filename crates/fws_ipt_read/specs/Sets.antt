@@ -10,7 +10,7 @@ use Rattle.fws_net.specs.declared.site.Site.{Site}
 use Rattle.fws_net.specs.declared.answer.LineFault.{LineFault}
 use Rattle.fws_net.specs.Ports.{ports_of, address_range}
 use Rattle.fws_net.specs.Reading.{FaultGiven}
-use Rattle.fws_rule.specs.Literals.{positive}
+use Rattle.fws_rules.specs.Literals.{positive}
 use Rattle.fws_ipt.specs.declared.words.TestOption.{TestOption}
 use Rattle.fws_ipt.specs.declared.words.TestOption.TheVariants as options
 use Rattle.fws_ipt.specs.Values.{interface_meaning, open_range, range_meaning, set_meaning, type_meaning}

@@ -9,7 +9,7 @@ ghost use Rattle.fws_ipt_read.specs.Sets.{SetGiven};
 use fws_iv::{Ivs, one};
 use fws_net::{Cause, ReadFault, Site, local_set, read_address_range};
 use fws_num::{Text, pieces};
-use fws_rule::{demand, is, is_one_of};
+use fws_rules::{demand, is, is_one_of};
 use std::alloc::Global;
 
 /// The addresses of a range with a dash.

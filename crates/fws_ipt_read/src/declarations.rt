@@ -12,7 +12,7 @@ use crate::progress::Progress;
 use fws_ipt::{Hook, IptTable, Section};
 use fws_net::{Cause, ReadFault};
 use fws_num::{Memory, Word, value_named};
-use fws_rule::demand;
+use fws_rules::demand;
 use std::alloc::Global;
 
 /// Policies by their names: whether they accept.

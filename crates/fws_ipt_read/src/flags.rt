@@ -5,7 +5,7 @@ ghost use Rattle.fws_ipt.specs.Values.{flag_of, flag_set, with_flags, flags_of, 
 
 use fws_net::{Lit, Test};
 use fws_num::{Memory, Text, pieces, value_named};
-use fws_rule::positive;
+use fws_rules::positive;
 use std::alloc::Global;
 
 /// FIN, SYN, RST and ACK.

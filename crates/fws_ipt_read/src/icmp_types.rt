@@ -7,7 +7,7 @@ ghost use Rattle.fws_ipt.specs.Values.{is_type_and_code, numbered_type, icmp_mea
 use fws_iv::one;
 use fws_net::{Cause, Lit, ReadFault, Test};
 use fws_num::{read_dec, split_once};
-use fws_rule::{is, positive};
+use fws_rules::{is, positive};
 use std::alloc::Global;
 
 /// The type that stands for every one, and is left out.

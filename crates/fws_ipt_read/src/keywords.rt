@@ -5,7 +5,7 @@ ghost use Rattle.fws_ipt.specs.Options.{test_option, target_option, other_keywor
 
 use fws_ipt::{Keyword, TargetOption, TargetWord, TestOption};
 use fws_num::value_named;
-use fws_rule::is_one_of;
+use fws_rules::is_one_of;
 
 /// Options that test a packet.
 const TEST_OPTIONS: [(&[u8], TestOption); 19] = [

@@ -14,7 +14,7 @@ use crate::rule::read_rule;
 use fws_ipt::{Hook, IptTable, Section};
 use fws_net::{Cause, ReadFault, Site};
 use fws_num::Word;
-use fws_rule::is;
+use fws_rules::is;
 use std::alloc::Global;
 
 /// Opens a table, which is done outside a table, and once.

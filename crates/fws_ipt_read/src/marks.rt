@@ -7,7 +7,7 @@ ghost use Rattle.fws_ipt.specs.Values.{hex_digit, hex_after, hex_of, number_of, 
 
 use fws_net::{Cause, ReadFault};
 use fws_num::{read_dec, split_once};
-use fws_rule::demand;
+use fws_rules::demand;
 
 /// The value of a hexadecimal digit.
 fn hex_digit(c: u8) -> Option<u8>

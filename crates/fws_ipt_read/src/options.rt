@@ -6,7 +6,7 @@ ghost use Rattle.fws_net.specs.declared.cause.Cause.TheVariants.{Syntax};
 ghost use Rattle.fws_net.specs.declared.condition.Test.TheVariants.{Flags};
 ghost use Rattle.fws_net.specs.Reading.{CauseGiven, StepGiven};
 ghost use Rattle.fws_net.specs.Routes.{IsSound};
-ghost use Rattle.fws_rule.specs.Literals.{literals, positive};
+ghost use Rattle.fws_rules.specs.Literals.{literals, positive};
 ghost use Rattle.fws_ipt.specs.Values.{flags_of};
 ghost use Rattle.fws_ipt.specs.RuleText.{closed, once, asks_port, asks_flags, asks_icmp, noted, with_literals, test_begun, test_step, from_step, toward_step, with_protocol, protocol_step, mask_step, compared_step, plain_step, value_step};
 
@@ -16,7 +16,7 @@ use crate::values::read_meaning;
 use fws_ipt::{Expects, RuleDraft, TestOption};
 use fws_net::{Cause, Lit, ReadFault, Site, Test, prefix_set};
 use fws_num::{Memory, Text, read_prefix};
-use fws_rule::{demand, is_given, positive, protocol_literal, put_literals};
+use fws_rules::{demand, is_given, positive, protocol_literal, put_literals};
 use std::alloc::Global;
 
 /// Notes an option that may come once.

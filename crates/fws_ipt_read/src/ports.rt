@@ -8,7 +8,7 @@ ghost use Rattle.fws_ipt_read.specs.Sets.{SetGiven};
 use fws_iv::{Ivs, one};
 use fws_net::{ReadFault, read_ports};
 use fws_num::{read_port, split_once};
-use fws_rule::demand;
+use fws_rules::demand;
 use std::alloc::Global;
 
 /// An end of a range; one that is left empty is the given one.

@@ -5,7 +5,7 @@ ghost use Rattle.fws_ipt.specs.Values.{protocol_value};
 
 use fws_net::{Cause, ReadFault};
 use fws_num::read_protocol;
-use fws_rule::is;
+use fws_rules::is;
 
 /// The protocol; none for every one, which is spelled `all` or 0.
 pub(crate) fn read_protocol_value(text: &[u8]) -> Result<Option<u8>, ReadFault>

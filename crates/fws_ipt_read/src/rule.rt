@@ -14,7 +14,7 @@ use crate::targets::{goto_step, option_step, target_step, target_value_step};
 use fws_ipt::{Expects, Hook, IptGo, IptRule, IptTable, Keyword, RuleDraft, TargetWord};
 use fws_net::{Cause, Checks, Cond, ReadFault, Site};
 use fws_num::{Items, Prefix, Word};
-use fws_rule::is;
+use fws_rules::is;
 use std::alloc::Global;
 use std::mem;
 

@@ -7,7 +7,7 @@ ghost use Rattle.fws_ipt.specs.Values.{is_state, is_translation_state, state_lit
 
 use fws_net::{Cause, Lit, ReadFault, Test};
 use fws_num::{Text, pieces};
-use fws_rule::{is_given, is_one_of, positive};
+use fws_rules::{is_given, is_one_of, positive};
 use std::alloc::Global;
 
 /// States of connections.

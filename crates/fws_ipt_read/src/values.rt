@@ -14,7 +14,7 @@ use crate::states::read_states;
 use fws_ipt::TestOption;
 use fws_iv::Ivs;
 use fws_net::{Cause, Lang, Lit, ReadFault, Site, Test};
-use fws_rule::{positive, read_interfaces};
+use fws_rules::{positive, read_interfaces};
 use std::alloc::Global;
 
 /// The set of an option that has one.

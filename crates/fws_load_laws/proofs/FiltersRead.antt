@@ -10,7 +10,7 @@ use Rattle.fws_num.specs.Written.{TextsAreRead, lines_written}
 use Rattle.fws_net.specs.declared.condition.Test.TheVariants.{Src, Dst, Dport, Proto}
 use Rattle.fws_net.specs.declared.site.Site.{Site}
 use Rattle.fws_net.specs.Reading.{and_then, lines_ended, lines_read, located}
-use Rattle.fws_rule.specs.Literals.{one, positive}
+use Rattle.fws_rules.specs.Literals.{one, positive}
 use Rattle.fws_iv.specs.declared.iv.Iv.{Iv}
 use Rattle.fws_ipt.specs.declared.config.IptTable.TheVariants.{Filter}
 use Rattle.fws_ipt.specs.declared.config.IptGo.TheVariants.{Accept}

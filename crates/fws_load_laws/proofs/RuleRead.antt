@@ -12,7 +12,7 @@ use Rattle.fws_net.specs.declared.site.Site.{Site}
 use Rattle.fws_net.specs.Causes.{words_read}
 use Rattle.fws_net.specs.Faces.{prefix_parts}
 use Rattle.fws_net.specs.Reading.{and_then}
-use Rattle.fws_rule.specs.Literals.{literals, one, positive}
+use Rattle.fws_rules.specs.Literals.{literals, one, positive}
 use Rattle.fws_ipt.specs.declared.config.IptTable.TheVariants.{Filter}
 use Rattle.fws_ipt.specs.declared.config.IptGo.TheVariants.{Accept}
 use Rattle.fws_ipt.specs.declared.config.IptRule.{IptRule}

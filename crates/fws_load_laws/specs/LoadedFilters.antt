@@ -4,7 +4,7 @@ use Rattle.std.specs.List.{range_with_len}
 use Rattle.fws_iv.specs.declared.iv.Iv.{Iv}
 use Rattle.fws_net.specs.declared.condition.Test.TheVariants.{Src, Dst, Dport, Proto, Est}
 use Rattle.fws_net.specs.declared.site.Site.{Site}
-use Rattle.fws_rule.specs.Literals.{positive, one}
+use Rattle.fws_rules.specs.Literals.{positive, one}
 use Rattle.fws_ipt.specs.declared.config.IptTable.TheVariants.{Filter}
 use Rattle.fws_ipt.specs.declared.config.IptGo.TheVariants.{Accept}
 use Rattle.fws_ipt.specs.declared.config.IptRule.{IptRule}

@@ -10,7 +10,7 @@ use Rattle.fws_net.specs.declared.transit.Transit.{Transit}
 use Rattle.fws_net.specs.Conditions.{holds, is_shown}
 use Rattle.fws_net.specs.Showing.{out_of}
 use Rattle.fws_net.specs.Transits.{decided}
-use Rattle.fws_rule.specs.AlikeWays.{AlikeKinds, AlikeTransits, AlikeWays, MakeAlike, LeadAlike, StayAlike}
+use Rattle.fws_rules.specs.AlikeWays.{AlikeKinds, AlikeTransits, AlikeWays, MakeAlike, LeadAlike, StayAlike}
 use Rattle.fws_pf.specs.declared.config.PfConfig.{PfConfig}
 use Rattle.fws_pf.specs.declared.config.PfNat.{PfNat}
 use Rattle.fws_pf.specs.declared.config.PfRule.{PfRule}

@@ -9,8 +9,8 @@ use Rattle.fws_net.specs.declared.condition.Lit.{Lit}
 use Rattle.fws_net.specs.declared.condition.Test.{Test}
 use Rattle.fws_net.specs.declared.condition.Test.TheVariants as tests
 use Rattle.fws_net.specs.Ends.{host_end}
-use Rattle.fws_rule.specs.Literals.{literals, positive}
-use Rattle.fws_rule.specs.Networks.{net_end}
+use Rattle.fws_rules.specs.Literals.{literals, positive}
+use Rattle.fws_rules.specs.Networks.{net_end}
 use Rattle.fws_pf.specs.declared.rule_draft.Choice.{Choice}
 use Rattle.fws_pf.specs.declared.rule_draft.RuleDraft.{RuleDraft}
 use Rattle.fws_pf.specs.declared.rule_draft.Target.{Target}

@@ -12,7 +12,7 @@ use Rattle.fws_net.specs.declared.packet.Lang.TheVariants.{Pf}
 use Rattle.fws_net.specs.declared.site.Iface.{Iface}
 use Rattle.fws_net.specs.declared.site.Site.{Site}
 use Rattle.fws_net.specs.Faces.{name_in, named_from, entry_named}
-use Rattle.fws_rule.specs.Literals.{one}
+use Rattle.fws_rules.specs.Literals.{one}
 use Rattle.fws_pf.specs.declared.value_draft.Item.{Item}
 use Rattle.fws_pf.specs.declared.value_draft.Part.{Part}
 use Rattle.fws_pf.specs.declared.value_draft.Part.TheVariants as parts

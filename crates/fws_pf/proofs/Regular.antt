@@ -9,8 +9,8 @@ use Rattle.fws_net.specs.declared.site.Site.{Site}
 use Rattle.fws_net.specs.declared.transit.Transit.{Transit}
 use Rattle.fws_net.specs.RegularWalks.{IsRegularWalk}
 use Rattle.fws_net.specs.Transits.{entered}
-use Rattle.fws_rule.specs.AlikeWays.{AlikePacketsStayAlike}
-use Rattle.fws_rule.specs.Regular.{AlikeWalksAreRegular, Part, StandsAsWritten, KeepsDestination, IsRegularPart, AreRegularParts, RegularPartsMakeAlikeWalks}
+use Rattle.fws_rules.specs.AlikeWays.{AlikePacketsStayAlike}
+use Rattle.fws_rules.specs.Regular.{AlikeWalksAreRegular, Part, StandsAsWritten, KeepsDestination, IsRegularPart, AreRegularParts, RegularPartsMakeAlikeWalks}
 use Rattle.fws_pf.specs.declared.config.PfConfig.{PfConfig}
 use Rattle.fws_pf.specs.Soundness.{is_entry, rule_fits, nat_fits, is_fitting}
 use Rattle.fws_pf.specs.Walk.{written, translations, pass_of, walk}

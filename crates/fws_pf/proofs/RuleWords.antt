@@ -11,7 +11,7 @@ use Rattle.fws_net.specs.declared.condition.Test.{Test}
 use Rattle.fws_net.specs.declared.condition.Test.TheVariants as tests
 use Rattle.fws_net.specs.declared.site.Site.{Site}
 use Rattle.fws_net.specs.Reading.{and_then}
-use Rattle.fws_rule.specs.Literals.{positive}
+use Rattle.fws_rules.specs.Literals.{positive}
 use Rattle.fws_pf.specs.declared.config.Way.TheVariants as ways
 use Rattle.fws_pf.specs.declared.rule_draft.Choice.{Choice}
 use Rattle.fws_pf.specs.declared.rule_draft.Expects.{Expects}

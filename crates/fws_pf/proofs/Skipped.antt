@@ -4,7 +4,7 @@ use Rattle.std.specs.List.{list_all}
 use Rattle.std.proofs.lemmas.Bool.{and_parts, and_from, cond_both, leb-true, le-leb, ltb-true}
 use Rattle.fws_iv.specs.declared.iv.Iv.{Iv}
 use Rattle.fws_iv.specs.Ivs.{with_range, with_ranges}
-use Rattle.fws_rule.specs.Literals.{one}
+use Rattle.fws_rules.specs.Literals.{one}
 use Rattle.fws_pf.specs.declared.value_draft.Item.{Item}
 use Rattle.fws_pf.specs.declared.value_draft.Part.{Part}
 use Rattle.fws_pf.specs.declared.value_draft.Part.TheVariants as parts

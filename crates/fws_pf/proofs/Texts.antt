@@ -12,8 +12,8 @@ use Rattle.fws_net.specs.declared.condition.Test.{Test}
 use Rattle.fws_net.specs.declared.condition.Test.TheVariants as tests
 use Rattle.fws_net.specs.declared.site.Site.{Site}
 use Rattle.fws_net.specs.Reading.{located, lines_read}
-use Rattle.fws_rule.specs.AlikeWays.{AlikePacketsStayAlike}
-use Rattle.fws_rule.specs.Regular.{AlikeWalksAreRegular, RegularPartsMakeAlikeWalks}
+use Rattle.fws_rules.specs.AlikeWays.{AlikePacketsStayAlike}
+use Rattle.fws_rules.specs.Regular.{AlikeWalksAreRegular, RegularPartsMakeAlikeWalks}
 use Rattle.fws_pf.specs.declared.config.PfConfig.{PfConfig}
 use Rattle.fws_pf.specs.declared.config.PfNat.{PfNat}
 use Rattle.fws_pf.specs.declared.config.PfRule.{PfRule}

@@ -14,8 +14,8 @@ use Rattle.fws_net.specs.declared.condition.Test.TheVariants as tests
 use Rattle.fws_net.specs.declared.outcome.End.{End}
 use Rattle.fws_net.specs.Ends.{host_end}
 use Rattle.fws_net.specs.Reading.{and_then}
-use Rattle.fws_rule.specs.Literals.{negative}
-use Rattle.fws_rule.specs.Networks.{net_end}
+use Rattle.fws_rules.specs.Literals.{negative}
+use Rattle.fws_rules.specs.Networks.{net_end}
 use Rattle.fws_pf.specs.declared.config.PfNat.{PfNat}
 use Rattle.fws_pf.specs.declared.config.PfRule.{PfRule}
 use Rattle.fws_pf.specs.declared.rule_draft.Choice.{Choice}

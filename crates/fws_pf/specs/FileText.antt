@@ -13,7 +13,7 @@ use Rattle.fws_net.specs.declared.condition.Lit.{Lit}
 use Rattle.fws_net.specs.declared.site.Site.{Site}
 use Rattle.fws_net.specs.Causes.{checked}
 use Rattle.fws_net.specs.Reading.{Refusal, and_then, lines_ended}
-use Rattle.fws_rule.specs.Literals.{one}
+use Rattle.fws_rules.specs.Literals.{one}
 use Rattle.fws_pf.specs.declared.config.PfConfig.{PfConfig}
 use Rattle.fws_pf.specs.declared.macros.Macro.{Macro}
 use Rattle.fws_pf.specs.declared.rule_draft.Choice.{Choice}

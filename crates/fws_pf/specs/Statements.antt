@@ -10,7 +10,7 @@ use Rattle.fws_num.specs.declared.word.Word.{Word}
 use Rattle.fws_num.specs.Comments.{is_punctuation, uncommented}
 use Rattle.fws_num.specs.Lines.{is_indented, line_of, lines_of}
 use Rattle.fws_num.specs.Words.{is_blank, plain_word, quoted_word, unclosed_word, unescaped}
-use Rattle.fws_rule.specs.Interfaces.{before_mark}
+use Rattle.fws_rules.specs.Interfaces.{before_mark}
 use Rattle.fws_pf.specs.declared.statement.Mode.{Mode}
 use Rattle.fws_pf.specs.declared.statement.Mode.TheVariants.{Between, Plain, Quoted, Escaped, Second}
 

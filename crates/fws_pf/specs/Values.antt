@@ -17,7 +17,7 @@ use Rattle.fws_net.specs.declared.site.Site.{Site}
 use Rattle.fws_net.specs.Faces.{all_own_ranges, entry_named, face_addrs, face_nets, loopback_addr, prefix_parts}
 use Rattle.fws_net.specs.Ports.{in_order}
 use Rattle.fws_net.specs.Reading.{and_then}
-use Rattle.fws_rule.specs.Literals.{one}
+use Rattle.fws_rules.specs.Literals.{one}
 use Rattle.fws_pf.specs.declared.tables.Table.{Table}
 use Rattle.fws_pf.specs.declared.value_draft.ValueKind.{ValueKind}
 use Rattle.fws_pf.specs.declared.value_draft.ValueKind.TheVariants as kinds

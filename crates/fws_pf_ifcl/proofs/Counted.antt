@@ -7,7 +7,7 @@ use Rattle.std.specs.List.{list_all}
 use Rattle.fws_ifcl.specs.declared.diagram.Rule.{Rule}
 use Rattle.fws_ifcl.specs.declared.diagram.Spot.{Spot}
 use Rattle.fws_ifcl.specs.Spots.{are_spots_of}
-use Rattle.fws_draw.specs.UsedPlaces.{spots_from, untold, first_told, are_below, StandBeside, TellsOfUses}
+use Rattle.fws_ifcl_rules.specs.UsedPlaces.{spots_from, untold, first_told, are_below, StandBeside, TellsOfUses}
 use Rattle.fws_pf.specs.declared.config.PfConfig.{PfConfig}
 use Rattle.fws_pf.specs.declared.config.PfNat.{PfNat}
 use Rattle.fws_pf.specs.declared.config.PfRule.{PfRule}

@@ -5,7 +5,7 @@ use Rattle.fws_net.specs.declared.packet.Packet.{Packet}
 use Rattle.fws_net.specs.declared.site.Site.{Site}
 use Rattle.fws_net.specs.declared.transit.Transit.{Transit}
 use Rattle.fws_ifcl.specs.declared.step.ChainEnd.{ChainEnd}
-use Rattle.fws_draw.specs.Places.{WalksGoByPlaces, Walk, walk_of}
+use Rattle.fws_ifcl_rules.specs.Places.{WalksGoByPlaces, Walk, walk_of}
 use Rattle.fws_pf.specs.declared.config.PfConfig.{PfConfig}
 use Rattle.fws_pf_ifcl.specs.Blocks.{Order}
 use Rattle.fws_pf_ifcl.specs.Diagram.{pass_rules, pass_stage}

@@ -14,8 +14,8 @@ use Rattle.fws_ifcl.specs.declared.diagram.Act.TheVariants.{Accept, Drop}
 use Rattle.fws_ifcl.specs.declared.diagram.Rule.{Rule}
 use Rattle.fws_ifcl.specs.declared.step.ChainEnd.TheVariants.{Accepted, Dropped}
 use Rattle.fws_ifcl.specs.Walk.{step_of, stepped, rules_walk as walk_rules}
-use Rattle.fws_draw.specs.Places.{sight, run}
-use Rattle.fws_draw.specs.Rules.{ruled}
+use Rattle.fws_ifcl_rules.specs.Places.{sight, run}
+use Rattle.fws_ifcl_rules.specs.Rules.{ruled}
 use Rattle.fws_join.specs.declared.decision.Decision.{Decision}
 use Rattle.fws_join.specs.Deciding.{StandsByParts, StandsFor, first_verdict}
 use Rattle.fws_pf.specs.declared.config.PfRule.{PfRule}

@@ -11,8 +11,8 @@ use Rattle.fws_ifcl.specs.declared.diagram.Act.TheVariants.{Accept, Drop, OnlyTa
 use Rattle.fws_ifcl.specs.declared.diagram.Rule.{Rule}
 use Rattle.fws_ifcl.specs.declared.step.ChainEnd.{ChainEnd}
 use Rattle.fws_ifcl.specs.declared.step.ChainEnd.TheVariants.{Accepted, Dropped}
-use Rattle.fws_draw.specs.Places.{sight, run, Stands}
-use Rattle.fws_draw.specs.Rules.{ruled, always, guard}
+use Rattle.fws_ifcl_rules.specs.Places.{sight, run, Stands}
+use Rattle.fws_ifcl_rules.specs.Rules.{ruled, always, guard}
 use Rattle.fws_join.specs.declared.decision.Decision.{Decision}
 use Rattle.fws_join.specs.Deciding.{StandsFor}
 use Rattle.fws_pf.specs.declared.config.PfRule.{PfRule}

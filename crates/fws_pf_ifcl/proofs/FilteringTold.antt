@@ -11,9 +11,9 @@ use Rattle.fws_ifcl.specs.declared.diagram.Act.TheVariants.{Accept, OnlyTag}
 use Rattle.fws_ifcl.specs.declared.diagram.Rule.{Rule}
 use Rattle.fws_ifcl.specs.Spots.{told}
 use Rattle.fws_ifcl.specs.Uses.{rules_used as places_used}
-use Rattle.fws_draw.specs.Places.{sight, Stands}
-use Rattle.fws_draw.specs.Rules.{always, guard}
-use Rattle.fws_draw.specs.UsedPlaces.{first_told, Telling, tell, Bears}
+use Rattle.fws_ifcl_rules.specs.Places.{sight, Stands}
+use Rattle.fws_ifcl_rules.specs.Rules.{always, guard}
+use Rattle.fws_ifcl_rules.specs.UsedPlaces.{first_told, Telling, tell, Bears}
 use Rattle.fws_pf.specs.declared.config.PfRule.{PfRule}
 use Rattle.fws_pf.specs.Uses.{rules_used}
 use Rattle.fws_pf.specs.Walk.{tagged, is_met, acted}

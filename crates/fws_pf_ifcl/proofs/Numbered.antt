@@ -6,9 +6,9 @@ use Rattle.fws_net.specs.declared.outcome.End.{End}
 use Rattle.fws_ifcl.specs.declared.diagram.Act.TheVariants as rules
 use Rattle.fws_ifcl.specs.declared.diagram.Rule.{Rule}
 use Rattle.fws_ifcl.specs.Soundness.{act_ok, rules_ok, chain_ok, ifcl_ok}
-use Rattle.fws_draw.specs.Right.{RightAmong, RightByParts, RulesAreRightByParts}
-use Rattle.fws_draw.specs.Rules.{ruled, always}
-use Rattle.fws_draw.specs.Straight.{is_straight}
+use Rattle.fws_ifcl_rules.specs.Right.{RightAmong, RightByParts, RulesAreRightByParts}
+use Rattle.fws_ifcl_rules.specs.Rules.{ruled, always}
+use Rattle.fws_ifcl_rules.specs.Straight.{is_straight}
 use Rattle.fws_join.specs.declared.decision.Decision.{Decision}
 use Rattle.fws_pf.specs.declared.config.PfConfig.{PfConfig}
 use Rattle.fws_pf.specs.declared.config.PfNat.{PfNat}

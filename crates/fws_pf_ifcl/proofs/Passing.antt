@@ -17,7 +17,7 @@ use Rattle.fws_ifcl.specs.declared.diagram.Stage.{Stage}
 use Rattle.fws_ifcl.specs.declared.step.ChainEnd.{ChainEnd}
 use Rattle.fws_ifcl.specs.declared.step.ChainEnd.TheVariants.{Accepted}
 use Rattle.fws_ifcl.specs.Walk.{chain_walk, stage_walk, stages_walk, means}
-use Rattle.fws_draw.specs.Places.{WalksGoByPlaces, run, Stands}
+use Rattle.fws_ifcl_rules.specs.Places.{WalksGoByPlaces, run, Stands}
 use Rattle.fws_pf.specs.declared.config.PfConfig.{PfConfig}
 use Rattle.fws_pf.specs.declared.config.PfNat.{PfNat}
 use Rattle.fws_pf.specs.declared.config.PfRule.{PfRule}

@@ -17,8 +17,8 @@ use Rattle.fws_ifcl.specs.declared.step.ChainEnd.{ChainEnd}
 use Rattle.fws_ifcl.specs.Spots.{told}
 use Rattle.fws_ifcl.specs.Uses.{chain_used, stage_used, used_places}
 use Rattle.fws_ifcl.specs.Walk.{chain_walk, stage_walk, stages_walk}
-use Rattle.fws_draw.specs.Places.{WalksGoByPlaces, Stands}
-use Rattle.fws_draw.specs.UsedPlaces.{untold, AreBeside, stages_told, TellsOfUses, Telling, tell, Bears}
+use Rattle.fws_ifcl_rules.specs.Places.{WalksGoByPlaces, Stands}
+use Rattle.fws_ifcl_rules.specs.UsedPlaces.{untold, AreBeside, stages_told, TellsOfUses, Telling, tell, Bears}
 use Rattle.fws_pf.specs.declared.config.PfConfig.{PfConfig}
 use Rattle.fws_pf.specs.Uses.{first_translation, first_filter_rule, pass_used, used}
 use Rattle.fws_pf.specs.Walk.{translations, interface_of, pass_of}

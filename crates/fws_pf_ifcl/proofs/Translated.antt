@@ -12,8 +12,8 @@ use Rattle.fws_ifcl.specs.declared.diagram.Act.TheVariants.{Accept, Skip, OnlyTa
 use Rattle.fws_ifcl.specs.declared.diagram.Rule.{Rule}
 use Rattle.fws_ifcl.specs.declared.step.ChainEnd.{ChainEnd}
 use Rattle.fws_ifcl.specs.declared.step.ChainEnd.TheVariants.{Accepted}
-use Rattle.fws_draw.specs.Places.{sight, run, Stands}
-use Rattle.fws_draw.specs.Rules.{ruled, always, guard}
+use Rattle.fws_ifcl_rules.specs.Places.{sight, run, Stands}
+use Rattle.fws_ifcl_rules.specs.Rules.{ruled, always, guard}
 use Rattle.fws_pf.specs.declared.config.PfConfig.{PfConfig}
 use Rattle.fws_pf.specs.declared.config.PfNat.{PfNat}
 use Rattle.fws_pf.specs.Walk.{tagged, written, translated_by, chosen, rules_walk, behind}

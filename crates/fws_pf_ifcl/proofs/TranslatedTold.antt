@@ -8,9 +8,9 @@ use Rattle.fws_net.specs.Conditions.{holds}
 use Rattle.fws_net.specs.Transits.{with_only_tag}
 use Rattle.fws_ifcl.specs.declared.diagram.Act.TheVariants.{OnlyTag}
 use Rattle.fws_ifcl.specs.declared.diagram.Rule.{Rule}
-use Rattle.fws_draw.specs.Places.{sight, Stands}
-use Rattle.fws_draw.specs.Rules.{ruled, always, guard}
-use Rattle.fws_draw.specs.UsedPlaces.{untold, first_told, Telling, tell, Bears}
+use Rattle.fws_ifcl_rules.specs.Places.{sight, Stands}
+use Rattle.fws_ifcl_rules.specs.Rules.{ruled, always, guard}
+use Rattle.fws_ifcl_rules.specs.UsedPlaces.{untold, first_told, Telling, tell, Bears}
 use Rattle.fws_pf.specs.declared.config.PfConfig.{PfConfig}
 use Rattle.fws_pf.specs.declared.config.PfNat.{PfNat}
 use Rattle.fws_pf.specs.Uses.{first_filter_rule, translation_used, rules_used, used_behind}

@@ -6,7 +6,7 @@ use Rattle.fws_net.specs.declared.outcome.End.{End}
 use Rattle.fws_ifcl.specs.declared.diagram.Act.{Act}
 use Rattle.fws_ifcl.specs.declared.diagram.Act.TheVariants.{Accept, Drop, Hold, Skip, Src, Dst, OnlyTag}
 use Rattle.fws_ifcl.specs.declared.diagram.Rule.{Rule}
-use Rattle.fws_draw.specs.Rules.{ruled, always, guarded}
+use Rattle.fws_ifcl_rules.specs.Rules.{ruled, always, guarded}
 use Rattle.fws_join.specs.declared.decision.Decision.{Decision}
 use Rattle.fws_join.specs.Deciding.{StandsFor}
 use Rattle.fws_pf.specs.declared.config.PfNat.{PfNat}

@@ -6,8 +6,8 @@ use Rattle.fws_ifcl.specs.declared.diagram.Rule.{Rule}
 use Rattle.fws_ifcl.specs.declared.diagram.Chain.{Chain}
 use Rattle.fws_ifcl.specs.declared.diagram.Stage.{Stage}
 use Rattle.fws_ifcl.specs.declared.diagram.Ifcl.{Ifcl}
-use Rattle.fws_rule.specs.Literals.{positive}
-use Rattle.fws_draw.specs.Rules.{ruled}
+use Rattle.fws_rules.specs.Literals.{positive}
+use Rattle.fws_ifcl_rules.specs.Rules.{ruled}
 use Rattle.fws_join.specs.declared.decision.Decision.{Decision}
 use Rattle.fws_pf.specs.declared.config.PfConfig.{PfConfig}
 use Rattle.fws_pf.specs.Walk.{translations}

@@ -3,7 +3,7 @@
 use Rattle.std.specs.Prelude.{ℕ, suc, ◌+◌, Bool, true, false, None, List, [], ◌∷◌, ◌++◌, length}
 use Rattle.fws_ifcl.specs.declared.diagram.Ifcl.{Ifcl}
 use Rattle.fws_ifcl.specs.declared.diagram.Spot.{Spot}
-use Rattle.fws_draw.specs.UsedPlaces.{untold, first_told, chain_spots}
+use Rattle.fws_ifcl_rules.specs.UsedPlaces.{untold, first_told, chain_spots}
 use Rattle.fws_pf.specs.declared.config.PfConfig.{PfConfig}
 use Rattle.fws_pf.specs.declared.config.PfNat.{PfNat}
 use Rattle.fws_pf.specs.declared.config.PfRule.{PfRule}

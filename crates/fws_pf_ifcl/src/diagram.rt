@@ -8,8 +8,8 @@ ghost use Rattle.fws_ifcl.specs.Soundness.{ifcl_ok};
 ghost use Rattle.fws_ifcl.specs.Spots.{are_spots_of, told};
 ghost use Rattle.fws_ifcl.specs.Uses.{used_places};
 ghost use Rattle.fws_ifcl.specs.Walk.{means};
-ghost use Rattle.fws_draw.specs.Rules.{ruled};
-ghost use Rattle.fws_draw.specs.Straight.{is_straight};
+ghost use Rattle.fws_ifcl_rules.specs.Rules.{ruled};
+ghost use Rattle.fws_ifcl_rules.specs.Straight.{is_straight};
 ghost use Rattle.fws_pf.specs.Uses.{used};
 ghost use Rattle.fws_pf.specs.Walk.{translations, walk};
 ghost use Rattle.fws_pf_ifcl.specs.Diagram.{ArePasses, IsDrawn, IsPass, filter_place, pass_stage, skipping, tracking, translations_place};
@@ -18,15 +18,15 @@ ghost use Rattle.fws_pf_ifcl.specs.Placed.{rule_count};
 use crate::filter::put_filter_rules;
 use crate::spots::spots_of;
 use crate::translating::{put_translations, translation_widths};
-use fws_draw::{
+use fws_ifcl::{Act, Chain, Ifcl, Rule, Spot, Stage};
+use fws_ifcl_rules::{
     ruled_by, rules_are_right_by_parts, straight_diagrams_unfold, sum, uses_are_told_by_places,
     walks_go_by_places,
 };
-use fws_ifcl::{Act, Chain, Ifcl, Rule, Spot, Stage};
 use fws_net::{Lit, Site, Test};
 use fws_num::{Items, Memory, Text};
 use fws_pf::{PfConfig, PfNat};
-use fws_rule::positive;
+use fws_rules::positive;
 use std::alloc::Global;
 
 /// Puts a rule behind the others that acts where the literal holds. An error is want of memory.

@@ -4,8 +4,8 @@ ghost use Rattle.std.specs.Prelude.{◌≡◌, ◌++◌, false, length, OnOk};
 ghost use Rattle.fws_pf_ifcl.specs.Blocks.{IsFiltered, filter_rule, holding, met_rule, met_rules, passing_at_once};
 
 use crate::tail::{is_met, put_tail, tail_place};
-use fws_draw::{put_always, put_guard, put_rule};
 use fws_ifcl::{Act, Rule};
+use fws_ifcl_rules::{put_always, put_guard, put_rule};
 use fws_net::Cond;
 use fws_num::Memory;
 use fws_pf::PfRule;

@@ -1,7 +1,7 @@
 //! Where the rules of a configuration stand in the diagram that has the filter's in their order.
 
 ghost use Rattle.std.specs.Prelude.{◌≡◌, ℕ, ◌++◌, length, Bool, IfOk, OnOk};
-ghost use Rattle.fws_draw.specs.UsedPlaces.{spots_from};
+ghost use Rattle.fws_ifcl_rules.specs.UsedPlaces.{spots_from};
 ghost use Rattle.fws_pf.specs.Uses.{first_filter_rule, first_translation};
 ghost use Rattle.fws_pf_ifcl.specs.Blocks.{filter_rule, met_rule};
 ghost use Rattle.fws_pf_ifcl.specs.Placed.{filter_told, pass_told, spots_of, translations_told};
@@ -9,8 +9,8 @@ ghost use Rattle.fws_pf_ifcl.specs.Placed.{filter_told, pass_told, spots_of, tra
 use crate::diagram::{filter_place, translations, translations_place};
 use crate::tail::is_met;
 use crate::translating::translation_width;
-use fws_draw::{put_spot, sum, uses_are_told_by_places};
 use fws_ifcl::Spot;
+use fws_ifcl_rules::{put_spot, sum, uses_are_told_by_places};
 use fws_num::Memory;
 use fws_pf::{PfConfig, PfNat, PfRule};
 use std::alloc::Global;

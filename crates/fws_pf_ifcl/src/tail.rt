@@ -6,8 +6,8 @@ ghost use Rattle.fws_pf.specs.Walk.{is_met};
 ghost use Rattle.fws_join.specs.Deciding.{StandsFor};
 ghost use Rattle.fws_pf_ifcl.specs.Blocks.{EndsIn, deciding, puts_tag, quick_rule, quick_rules, rule_of, slow_rule, slow_rules, tail_place, tail_rules};
 
-use fws_draw::put_rule;
 use fws_ifcl::{Act, Rule};
+use fws_ifcl_rules::put_rule;
 use fws_join::{Decision, Joining, decisions_stand_by_parts};
 use fws_num::Memory;
 use fws_pf::{PfRule, Way};

@@ -3,8 +3,8 @@
 ghost use Rattle.std.specs.Prelude.{◌≡◌, ◌+◌, ◌≤◌, ◌++◌, Bool, length, IfOk, OnOk};
 ghost use Rattle.fws_pf_ifcl.specs.Blocks.{changing, leaving, tagging, translation, translation_width, translation_widths, translations_from, writing};
 
-use fws_draw::{place_behind, put_always, put_guard, put_rule, sum};
 use fws_ifcl::{Act, Rule};
+use fws_ifcl_rules::{place_behind, put_always, put_guard, put_rule, sum};
 use fws_net::End;
 use fws_num::Memory;
 use fws_pf::PfNat;

@@ -7,7 +7,7 @@ use Rattle.fws_net.specs.declared.condition.Lit.{Lit}
 use Rattle.fws_net.specs.declared.condition.Test.{Test}
 use Rattle.fws_net.specs.declared.condition.Test.TheVariants.{Src, Dst, Sport, Dport, Proto, Via}
 use Rattle.fws_net.specs.declared.site.Site.{Site}
-use Rattle.fws_rule.specs.Literals.{positive}
+use Rattle.fws_rules.specs.Literals.{positive}
 use Rattle.fws_pf.specs.declared.rule_draft.Choice.{Choice}
 use Rattle.fws_pf.specs.Drawn.{condition_count, conditions, has_protocols, is_port_protocol, value_choices}
 use Rattle.fws_pf.specs.RuleText.{only}

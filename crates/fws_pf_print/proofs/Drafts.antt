@@ -17,8 +17,8 @@ use Rattle.fws_net.specs.Reading.{and_then}
 use Rattle.fws_net.specs.SiteLaws.{IsOrderly}
 use Rattle.fws_net.specs.SiteSpelling.{net_word}
 use Rattle.fws_net.specs.declared.packet.Lang.TheVariants.{Pf}
-use Rattle.fws_rule.specs.Literals.{one}
-use Rattle.fws_rule.specs.Names.{interface_name}
+use Rattle.fws_rules.specs.Literals.{one}
+use Rattle.fws_rules.specs.Names.{interface_name}
 use Rattle.fws_pf.specs.declared.config.Way.{Way}
 use Rattle.fws_pf.specs.declared.rule_draft.Choice.{Choice}
 use Rattle.fws_pf.specs.declared.rule_draft.Expects.{Expects}

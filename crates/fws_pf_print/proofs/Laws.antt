@@ -1,7 +1,7 @@
 -- The laws of lower crates on which the proofs rest.
 use Rattle.fws_num.specs.Numbers.{AddressesAreDotted, DecimalsAreRead, NumbersAreDigits, PrefixesAreRead, QuadsAreDotted, SplitsBack}
 use Rattle.fws_num.specs.Written.{LinesAreRead}
-use Rattle.fws_rule.specs.Names.{OrderlySitesAreNamed}
+use Rattle.fws_rules.specs.Names.{OrderlySitesAreNamed}
 
 pub record Laws : Type 0 where
   pub decimals : DecimalsAreRead

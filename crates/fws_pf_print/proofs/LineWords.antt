@@ -12,7 +12,7 @@ use Rattle.fws_num.specs.Lines.{is_indented, line_of}
 use Rattle.fws_num.specs.Numbers.{lacks}
 use Rattle.fws_num.specs.Words.{is_blank, is_printed, plain_word, quoted_word}
 use Rattle.fws_num.specs.Written.{ends_in, is_one_line, spaced}
-use Rattle.fws_rule.specs.Interfaces.{before_mark}
+use Rattle.fws_rules.specs.Interfaces.{before_mark}
 use Rattle.fws_pf.specs.declared.statement.Mode.TheVariants.{Between, Plain, Quoted, Escaped, Second}
 use Rattle.fws_pf.specs.Statements.{begins_pair, pairs, read_statement, words_from, words_of}
 use Rattle.fws_print.specs.Words.{behind_blanks}

@@ -22,7 +22,7 @@ use Rattle.fws_pf.specs.declared.tables.Table.{Table}
 use Rattle.fws_pf.specs.declared.text_draft.PfDraft.{PfDraft}
 use Rattle.fws_pf.specs.Drawn.{rule_ended}
 use Rattle.fws_pf.specs.FileText.{definition_step, is_definition, line_step, readable, statement_put, table_defined, table_of, tables_from, unknowing, with_meant, with_read, words_step}
-use Rattle.fws_rule.specs.Interfaces.{before_mark}
+use Rattle.fws_rules.specs.Interfaces.{before_mark}
 use Rattle.fws_pf.specs.Tables.{empty_table}
 use Rattle.fws_pf.specs.Values.{is_any_mark}
 use Rattle.fws_pf.specs.Macros.{is_name, meant, meant_from}

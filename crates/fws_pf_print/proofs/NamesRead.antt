@@ -10,8 +10,8 @@ use Rattle.fws_net.specs.declared.cause.Cause.TheVariants.{NoInterface}
 use Rattle.fws_net.specs.declared.packet.Lang.TheVariants.{Pf}
 use Rattle.fws_net.specs.declared.site.Site.{Site}
 use Rattle.fws_net.specs.SiteWords.{is_name_byte}
-use Rattle.fws_rule.specs.Literals.{one}
-use Rattle.fws_rule.specs.Names.{interface_name, is_own_byte, AreNamed}
+use Rattle.fws_rules.specs.Literals.{one}
+use Rattle.fws_rules.specs.Names.{interface_name, is_own_byte, AreNamed}
 use Rattle.fws_pf.specs.declared.value_draft.Part.TheVariants as parts
 use Rattle.fws_pf.specs.Statements.{is_mark}
 use Rattle.fws_pf.specs.Values.{interface_part, is_any_mark, marks}

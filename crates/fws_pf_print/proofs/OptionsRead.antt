@@ -10,7 +10,7 @@ use Rattle.fws_net.specs.declared.cause.Cause.TheVariants.{Syntax}
 use Rattle.fws_net.specs.declared.condition.Test.TheVariants.{Icmp, Flags, Tag}
 use Rattle.fws_net.specs.declared.site.Site.{Site}
 use Rattle.fws_net.specs.Reading.{and_then}
-use Rattle.fws_rule.specs.Literals.{one, positive}
+use Rattle.fws_rules.specs.Literals.{one, positive}
 use Rattle.fws_pf.specs.declared.config.Way.{Way}
 use Rattle.fws_pf.specs.declared.rule_draft.Expects.{Expects}
 use Rattle.fws_pf.specs.declared.rule_draft.Expects.TheVariants as expect

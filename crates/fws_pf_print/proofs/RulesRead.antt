@@ -9,7 +9,7 @@ use Rattle.fws_net.specs.declared.condition.Test.TheVariants.{Src, Dst, Sport, D
 use Rattle.fws_net.specs.declared.site.Site.{Site}
 use Rattle.fws_net.specs.Causes.{checked, unless}
 use Rattle.fws_net.specs.SiteLaws.{IsOrderly}
-use Rattle.fws_rule.specs.Literals.{one, positive}
+use Rattle.fws_rules.specs.Literals.{one, positive}
 use Rattle.fws_pf.specs.declared.config.PfConfig.{PfConfig}
 use Rattle.fws_pf.specs.declared.config.PfRule.{PfRule}
 use Rattle.fws_pf.specs.declared.config.Way.{Way}

@@ -8,7 +8,7 @@ use Rattle.fws_net.specs.declared.condition.Lit.{Lit}
 use Rattle.fws_net.specs.declared.condition.Test.{Test}
 use Rattle.fws_net.specs.declared.condition.Test.TheVariants.{Src, Dst, Sport, Dport, Proto, Icmp, Flags, AnyFlag, Recv, Xmit, Via, Outward, Est, Tag, Never}
 use Rattle.fws_net.specs.declared.site.Site.{Site}
-use Rattle.fws_rule.specs.Literals.{one, positive}
+use Rattle.fws_rules.specs.Literals.{one, positive}
 use Rattle.fws_print.specs.Sets.{first_number}
 use Rattle.fws_pf_print.specs.Printable.{ascend, behind_cond, behind_put, behind_tag, is_printed_literal, is_printed_test, is_translation_test, place_of, test_set, tested}
 use Rattle.fws_pf_print.specs.PrintedText.{is_host_place, option_words, options_words, tests_flags, tests_hosts}

@@ -14,7 +14,7 @@ use Rattle.fws_net.specs.declared.site.Site.{Site}
 use Rattle.fws_net.specs.Ends.{host_end}
 use Rattle.fws_net.specs.Reading.{and_then}
 use Rattle.fws_net.specs.SiteSpelling.{net_word}
-use Rattle.fws_rule.specs.Networks.{net_end, written_len}
+use Rattle.fws_rules.specs.Networks.{net_end, written_len}
 use Rattle.fws_pf.specs.declared.config.Way.{Way}
 use Rattle.fws_pf.specs.declared.rule_draft.Expects.{Expects}
 use Rattle.fws_pf.specs.declared.rule_draft.Expects.TheVariants as expect

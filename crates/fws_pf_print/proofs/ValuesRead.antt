@@ -21,7 +21,7 @@ use Rattle.fws_net.specs.declared.site.Site.{Site}
 use Rattle.fws_net.specs.Faces.{block}
 use Rattle.fws_net.specs.Ports.{in_order}
 use Rattle.fws_net.specs.SiteSpelling.{net_word}
-use Rattle.fws_rule.specs.Literals.{one}
+use Rattle.fws_rules.specs.Literals.{one}
 use Rattle.fws_pf.specs.declared.value_draft.Part.{Part}
 use Rattle.fws_pf.specs.declared.value_draft.Part.TheVariants as parts
 use Rattle.fws_pf.specs.RuleText.{flags_test}

@@ -11,7 +11,7 @@ use Rattle.fws_net.specs.declared.site.Site.{Site}
 use Rattle.fws_net.specs.SiteLaws.{IsOrderly}
 use Rattle.fws_net.specs.SiteSpelling.{net_word}
 use Rattle.fws_net.specs.declared.packet.Lang.TheVariants.{Pf}
-use Rattle.fws_rule.specs.Names.{interface_name}
+use Rattle.fws_rules.specs.Names.{interface_name}
 use Rattle.fws_pf.specs.declared.config.Way.{Way}
 use Rattle.fws_pf.specs.declared.config.Way.TheVariants as ways
 use Rattle.fws_print.specs.Sets.{are_flags, is_interface, is_number}

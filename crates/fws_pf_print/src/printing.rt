@@ -16,7 +16,7 @@ use fws_num::{
     prefixes_are_read, quads_are_dotted, splits_back,
 };
 use fws_pf::{PfConfig, PfNat, PfRule};
-use fws_rule::orderly_sites_are_named;
+use fws_rules::orderly_sites_are_named;
 use std::alloc::Global;
 
 /// The text of a printable configuration is read as that configuration.

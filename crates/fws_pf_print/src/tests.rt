@@ -4,7 +4,7 @@ ghost use Rattle.std.specs.Prelude.{◌≡◌, [], ◌∷◌, ◌++◌, codes, O
 ghost use Rattle.std.specs.Fmt.{decimal};
 ghost use Rattle.fws_num.specs.Numbers.{lacks};
 ghost use Rattle.fws_net.specs.declared.packet.Lang.TheVariants.{Pf};
-ghost use Rattle.fws_rule.specs.Names.{interface_name};
+ghost use Rattle.fws_rules.specs.Names.{interface_name};
 ghost use Rattle.fws_pf_print.specs.Printable.{tag_name};
 ghost use Rattle.fws_print.specs.Words.{behind_blanks, protocol_name};
 ghost use Rattle.fws_pf_print.specs.PrintedText.{ends_in_digit, front_words, hosts_words, interface_words, is_bare_name, name_word, option_words, options_words, ports_word, ports_words, protocol_words, sides_words, tag_words};
@@ -17,7 +17,7 @@ use fws_iv::Iv;
 use fws_net::{Lang, Lit, Site, Test};
 use fws_num::{Memory, Text};
 use fws_print::{first_number, put_number, put_protocol, put_range, put_word};
-use fws_rule::interface_name;
+use fws_rules::interface_name;
 
 /// Whether the last byte is a digit.
 fn ends_in_digit(text: &[u8]) -> bool

@@ -23,8 +23,8 @@ use Rattle.fws_tree.specs.declared.node.Node.TheVariants.{Cut, Leaf}
 use Rattle.fws_tree.specs.declared.tables.Tables.{Tables}
 use Rattle.fws_tree.specs.Plain.{Plain, branch, leaf, value}
 use Rattle.fws_tree.specs.Shared.{subtree_of}
-use Rattle.fws_sight.specs.declared.seen.Seen.TheVariants.{Entered}
-use Rattle.fws_sight.specs.Reached.{Reaches}
+use Rattle.fws_tree_seen.specs.declared.seen.Seen.TheVariants.{Entered}
+use Rattle.fws_tree_seen.specs.Reached.{Reaches}
 use Rattle.fws_pf.specs.declared.config.PfConfig.{PfConfig}
 use Rattle.fws_pf.specs.declared.config.PfNat.{PfNat}
 use Rattle.fws_pf.specs.Walk.{chosen, pass_walk, rules_walk, tagged, translated_by, translations, view_on, walk, written}

@@ -14,10 +14,10 @@ use Rattle.fws_tree.specs.declared.node.Node.{Node}
 use Rattle.fws_tree.specs.declared.tables.Tables.{Tables}
 use Rattle.fws_tree.specs.Plain.{IsReduced}
 use Rattle.fws_tree.specs.Shared.{IsShared}
-use Rattle.fws_sight.specs.declared.seen.Seen.TheVariants.{Entered}
-use Rattle.fws_sight.specs.NodeLaws.{LeafNodesAreLeaves}
-use Rattle.fws_sight.specs.Shown.{IsTold}
-use Rattle.fws_sight.specs.SightLaws.{ReachedValuesAreTold, SeenPointsAreTopped}
+use Rattle.fws_tree_seen.specs.declared.seen.Seen.TheVariants.{Entered}
+use Rattle.fws_tree_seen.specs.NodeLaws.{LeafNodesAreLeaves}
+use Rattle.fws_tree_seen.specs.Shown.{IsTold}
+use Rattle.fws_tree_seen.specs.SightLaws.{ReachedValuesAreTold, SeenPointsAreTopped}
 use Rattle.fws_pf.specs.declared.config.PfConfig.{PfConfig}
 use Rattle.fws_pf.specs.declared.config.PfNat.{PfNat}
 use Rattle.fws_pf_put_filter.specs.Filters.{IsFilter}

@@ -25,8 +25,8 @@ use fws_place::{
     lost_pairs_are_dropped, pf_destinations_agree, pf_host_sources_agree, pf_keeps_new_packets,
     pf_pairs_pass, points_are_of_pairs, points_are_seen, views_are_told,
 };
-use fws_sight::{leaf_nodes_are_leaves, reached_values_are_told, seen_points_are_topped};
 use fws_tree::{Node, Tables};
+use fws_tree_seen::{leaf_nodes_are_leaves, reached_values_are_told, seen_points_are_topped};
 use std::alloc::Global;
 
 /// What a configuration is made of.

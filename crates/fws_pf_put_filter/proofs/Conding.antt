@@ -11,10 +11,10 @@ use Rattle.fws_net.specs.declared.condition.Lit.{Lit}
 use Rattle.fws_net.specs.declared.site.Site.{Site}
 use Rattle.fws_net.specs.declared.view.View.{View}
 use Rattle.fws_net.specs.Conditions.{holds, is_shown, lit_holds}
-use Rattle.fws_sight.specs.declared.field.PacketField.{PacketField}
-use Rattle.fws_sight.specs.declared.field.PacketField.TheVariants.{Proto, Dst, Dport, Src, Sport, Flags, Icmp}
-use Rattle.fws_sight.specs.Fields.{hits, suits, top_of}
-use Rattle.fws_sight.specs.Shown.{value_of}
+use Rattle.fws_tree_seen.specs.declared.field.PacketField.{PacketField}
+use Rattle.fws_tree_seen.specs.declared.field.PacketField.TheVariants.{Proto, Dst, Dport, Src, Sport, Flags, Icmp}
+use Rattle.fws_tree_seen.specs.Fields.{hits, suits, top_of}
+use Rattle.fws_tree_seen.specs.Shown.{value_of}
 use Rattle.fws_pf_put_filter.specs.declared.tested.Tested.TheVariants.{Entry, Field}
 use Rattle.fws_pf_print.specs.Printable.{ascend, is_printed_literal, place_of, protocol_tested}
 use Rattle.fws_pf_put_filter.specs.Conds.{conds_for, conds_under, entry_cond, front_of, is_printed_with, AreConds}

@@ -17,10 +17,10 @@ use Rattle.fws_tree.specs.declared.node.Node.{Node}
 use Rattle.fws_tree.specs.declared.node.Node.TheVariants.{Leaf, Cut}
 use Rattle.fws_tree.specs.Plain.{Plain, branch}
 use Rattle.fws_tree.specs.Shared.{IsShared}
-use Rattle.fws_sight.specs.declared.seen.Seen.TheVariants.{Entered}
-use Rattle.fws_sight.specs.NodeLaws.{CutNodesPartValues, LeafNodesAreLeaves}
-use Rattle.fws_sight.specs.Reached.{IsTopped, Reaches}
-use Rattle.fws_sight.specs.SightLaws.{SeenFieldsAgree, UnseenFieldsAreOpen}
+use Rattle.fws_tree_seen.specs.declared.seen.Seen.TheVariants.{Entered}
+use Rattle.fws_tree_seen.specs.NodeLaws.{CutNodesPartValues, LeafNodesAreLeaves}
+use Rattle.fws_tree_seen.specs.Reached.{IsTopped, Reaches}
+use Rattle.fws_tree_seen.specs.SightLaws.{SeenFieldsAgree, UnseenFieldsAreOpen}
 use Rattle.fws_pf_put_filter.specs.Blocks.{under, AreMoves, AreSound, Decide, IsCutBlock, IsDone, IsFine, IsMoved, IsNodeBlock, KeepsEntry}
 use Rattle.fws_pf_put_filter.specs.Filters.{ComesIn, Ends, IsPassed, ReachesBelow}
 use Rattle.fws_pf_put_filter.specs.Planned.{IsPlanned}

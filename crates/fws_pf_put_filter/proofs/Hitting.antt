@@ -17,10 +17,10 @@ use Rattle.fws_net.specs.declared.condition.Lit.{Lit}
 use Rattle.fws_net.specs.declared.site.Site.{Site}
 use Rattle.fws_net.specs.declared.view.View.{View}
 use Rattle.fws_net.specs.Conditions.{lit_holds, test_holds}
-use Rattle.fws_sight.specs.declared.field.PacketField.{PacketField}
-use Rattle.fws_sight.specs.declared.field.PacketField.TheVariants.{Proto, Dst, Dport, Src, Sport, Flags, Icmp}
-use Rattle.fws_sight.specs.Fields.{suits, top_of}
-use Rattle.fws_sight.specs.Shown.{value_of}
+use Rattle.fws_tree_seen.specs.declared.field.PacketField.{PacketField}
+use Rattle.fws_tree_seen.specs.declared.field.PacketField.TheVariants.{Proto, Dst, Dport, Src, Sport, Flags, Icmp}
+use Rattle.fws_tree_seen.specs.Fields.{suits, top_of}
+use Rattle.fws_tree_seen.specs.Shown.{value_of}
 use Rattle.fws_pf_put_filter.specs.Literals.{is_printed_at}
 use Rattle.fws_pf_put_filter.specs.Pieces.{cube_lit, place_at, range_lit, set_test, ArePieces, AreRanges, AreValuesBelow, IsOneByOne, IsProper}
 

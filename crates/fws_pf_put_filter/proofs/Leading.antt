@@ -16,14 +16,14 @@ use Rattle.fws_tree.specs.declared.node.Node.{Node}
 use Rattle.fws_tree.specs.declared.node.Node.TheVariants.{Leaf, Cut}
 use Rattle.fws_tree.specs.Plain.{Plain, branch, kid_at}
 use Rattle.fws_tree.specs.Shared.{IsShared, subtree_of}
-use Rattle.fws_sight.specs.declared.field.PacketField.{PacketField}
-use Rattle.fws_sight.specs.declared.seen.Seen.TheVariants.{Entered}
-use Rattle.fws_sight.specs.Cuts.{kids_of, IsCutNode, PartValues}
-use Rattle.fws_sight.specs.Fields.{suits}
-use Rattle.fws_sight.specs.NodeLaws.{CutNodesPartValues, LeafNodesAreLeaves}
-use Rattle.fws_sight.specs.Reached.{IsOpen, Reaches, ReachesKid}
-use Rattle.fws_sight.specs.Shown.{seen_field, value_of}
-use Rattle.fws_sight.specs.SightLaws.{Agrees, SeenFieldsAgree, UnseenFieldsAreOpen}
+use Rattle.fws_tree_seen.specs.declared.field.PacketField.{PacketField}
+use Rattle.fws_tree_seen.specs.declared.seen.Seen.TheVariants.{Entered}
+use Rattle.fws_tree_seen.specs.Cuts.{kids_of, IsCutNode, PartValues}
+use Rattle.fws_tree_seen.specs.Fields.{suits}
+use Rattle.fws_tree_seen.specs.NodeLaws.{CutNodesPartValues, LeafNodesAreLeaves}
+use Rattle.fws_tree_seen.specs.Reached.{IsOpen, Reaches, ReachesKid}
+use Rattle.fws_tree_seen.specs.Shown.{seen_field, value_of}
+use Rattle.fws_tree_seen.specs.SightLaws.{Agrees, SeenFieldsAgree, UnseenFieldsAreOpen}
 use Rattle.fws_pf_put_filter.specs.declared.tested.Tested.{Tested}
 use Rattle.fws_pf_put_filter.specs.declared.tested.Tested.TheVariants.{Entry, Field}
 use Rattle.fws_pf_put_filter.specs.Blocks.{IsFine, KeepsEntry, LeadsTo}

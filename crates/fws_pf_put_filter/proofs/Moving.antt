@@ -16,11 +16,11 @@ use Rattle.fws_tree.specs.declared.node.Kid.{Kid}
 use Rattle.fws_tree.specs.declared.node.Node.{Node}
 use Rattle.fws_tree.specs.declared.node.Node.TheVariants.{Cut}
 use Rattle.fws_tree.specs.Plain.{Plain}
-use Rattle.fws_sight.specs.declared.field.PacketField.{PacketField}
-use Rattle.fws_sight.specs.declared.seen.Seen.TheVariants.{Entered}
-use Rattle.fws_sight.specs.Fields.{top_of}
-use Rattle.fws_sight.specs.Shown.{seen_field, value_of}
-use Rattle.fws_sight.specs.SightLaws.{Agrees}
+use Rattle.fws_tree_seen.specs.declared.field.PacketField.{PacketField}
+use Rattle.fws_tree_seen.specs.declared.seen.Seen.TheVariants.{Entered}
+use Rattle.fws_tree_seen.specs.Fields.{top_of}
+use Rattle.fws_tree_seen.specs.Shown.{seen_field, value_of}
+use Rattle.fws_tree_seen.specs.SightLaws.{Agrees}
 use Rattle.fws_pf_put_filter.specs.declared.tested.Tested.{Tested}
 use Rattle.fws_pf_put_filter.specs.declared.tested.Tested.TheVariants.{Entry, Field}
 use Rattle.fws_pf_put_filter.specs.Blocks.{under, AreSound, IsCutBlock, IsFine, IsMoved, LeadsTo, LetsBy}

@@ -12,8 +12,8 @@ use Rattle.fws_pf.specs.Walk.{rules_walk}
 use Rattle.fws_tree.specs.declared.node.Kid.{Kid}
 use Rattle.fws_tree.specs.declared.node.Node.{Node}
 use Rattle.fws_tree.specs.declared.node.Node.TheVariants.{Cut}
-use Rattle.fws_sight.specs.declared.seen.Seen.TheVariants.{Entered}
-use Rattle.fws_sight.specs.Reached.{IsTopped}
+use Rattle.fws_tree_seen.specs.declared.seen.Seen.TheVariants.{Entered}
+use Rattle.fws_tree_seen.specs.Reached.{IsTopped}
 use Rattle.fws_pf_put_filter.specs.Filters.{keeps_state, ComesIn, Ends, ReachesBelow}
 use Rattle.fws_pf_print.specs.Printable.{is_printed_rule}
 use Rattle.fws_pf_put_filter.specs.Rules.{passing}

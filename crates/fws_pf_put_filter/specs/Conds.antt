@@ -13,11 +13,11 @@ use Rattle.fws_net.specs.declared.view.View.{View}
 use Rattle.fws_net.specs.Conditions.{holds}
 use Rattle.fws_pf.specs.declared.config.Way.{Way}
 use Rattle.fws_pf.specs.declared.config.Way.TheVariants.{Both, Inward}
-use Rattle.fws_sight.specs.declared.field.PacketField.{PacketField}
-use Rattle.fws_sight.specs.declared.field.PacketField.TheVariants.{Proto, Dst, Dport, Src, Sport, Flags, Icmp}
-use Rattle.fws_sight.specs.declared.seen.Seen.TheVariants.{Entered}
-use Rattle.fws_sight.specs.Fields.{hits, suits, top_of}
-use Rattle.fws_sight.specs.Shown.{seen_field, value_of}
+use Rattle.fws_tree_seen.specs.declared.field.PacketField.{PacketField}
+use Rattle.fws_tree_seen.specs.declared.field.PacketField.TheVariants.{Proto, Dst, Dport, Src, Sport, Flags, Icmp}
+use Rattle.fws_tree_seen.specs.declared.seen.Seen.TheVariants.{Entered}
+use Rattle.fws_tree_seen.specs.Fields.{hits, suits, top_of}
+use Rattle.fws_tree_seen.specs.Shown.{seen_field, value_of}
 use Rattle.fws_pf_put_filter.specs.declared.tested.Tested.{Tested}
 use Rattle.fws_pf_put_filter.specs.declared.tested.Tested.TheVariants.{Entry, Field}
 use Rattle.fws_pf_put_filter.specs.Literals.{lit_of, proto_lit, tag_lit}

@@ -19,8 +19,8 @@ use Rattle.fws_tree.specs.declared.node.Node.{Node}
 use Rattle.fws_tree.specs.declared.node.Node.TheVariants.{Cut}
 use Rattle.fws_tree.specs.Plain.{branch}
 use Rattle.fws_tree.specs.Shared.{subtree_of}
-use Rattle.fws_sight.specs.declared.seen.Seen.TheVariants.{Entered}
-use Rattle.fws_sight.specs.Reached.{IsTopped, Reaches}
+use Rattle.fws_tree_seen.specs.declared.seen.Seen.TheVariants.{Entered}
+use Rattle.fws_tree_seen.specs.Reached.{IsTopped, Reaches}
 use Rattle.fws_pf_print.specs.Printable.{is_printed_rule}
 use Rattle.fws_pf_put_filter.specs.States.{state_at, IsSourceState}
 use Rattle.fws_box.specs.Fields.{value_of}

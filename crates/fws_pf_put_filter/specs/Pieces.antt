@@ -10,10 +10,10 @@ use Rattle.fws_net.specs.declared.condition.Test.TheVariants as tests
 use Rattle.fws_net.specs.declared.site.Site.{Site}
 use Rattle.fws_net.specs.declared.view.View.{View}
 use Rattle.fws_net.specs.Conditions.{lit_holds}
-use Rattle.fws_sight.specs.declared.field.PacketField.{PacketField}
-use Rattle.fws_sight.specs.declared.field.PacketField.TheVariants.{Proto, Dst, Dport, Src, Sport, Flags, Icmp}
-use Rattle.fws_sight.specs.Fields.{hits, suits, top_of}
-use Rattle.fws_sight.specs.Shown.{value_of}
+use Rattle.fws_tree_seen.specs.declared.field.PacketField.{PacketField}
+use Rattle.fws_tree_seen.specs.declared.field.PacketField.TheVariants.{Proto, Dst, Dport, Src, Sport, Flags, Icmp}
+use Rattle.fws_tree_seen.specs.Fields.{hits, suits, top_of}
+use Rattle.fws_tree_seen.specs.Shown.{value_of}
 use Rattle.fws_pf_put_filter.specs.Literals.{is_printed_at, lit_of}
 
 -- a test of a field for the members of a set

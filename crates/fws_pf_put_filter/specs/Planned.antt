@@ -7,8 +7,8 @@ use Rattle.fws_net.specs.Routes.{IsSound}
 use Rattle.fws_tree.specs.declared.node.Node.{Node}
 use Rattle.fws_tree.specs.Plain.{Plain}
 use Rattle.fws_tree.specs.Shared.{IsShared}
-use Rattle.fws_sight.specs.declared.seen.Seen.TheVariants.{Entered}
-use Rattle.fws_sight.specs.Shown.{IsTold}
+use Rattle.fws_tree_seen.specs.declared.seen.Seen.TheVariants.{Entered}
+use Rattle.fws_tree_seen.specs.Shown.{IsTold}
 use Rattle.fws_pf_put_filter.specs.States.{AreStates}
 
 -- these are the leaves, the nodes and the states of a tree over the packets of the site, of which rules can tell the outcomes

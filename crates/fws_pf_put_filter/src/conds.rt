@@ -10,7 +10,7 @@ use crate::tested::Tested;
 use fws_iv::{Ivs, one};
 use fws_net::{Cond, Lit, Test};
 use fws_num::{Items, Memory};
-use fws_sight::PacketField;
+use fws_tree_seen::PacketField;
 use std::alloc::Global;
 
 const TCP: u32 = 6;

@@ -7,8 +7,8 @@ ghost use Rattle.fws_pf_put_filter.specs.States.{state_at};
 use crate::tested::Tested;
 use fws_iv::{Ivs, cubes};
 use fws_num::Memory;
-use fws_sight::PacketField;
 use fws_tree::Kid;
+use fws_tree_seen::PacketField;
 use std::alloc::Global;
 
 // How many numbers a set has.

@@ -20,10 +20,10 @@ use fws_iv::Ivs;
 use fws_net::{Cond, Lit, Outcome, Test};
 use fws_num::{Items, Memory};
 use fws_pf::{PfRule, Way};
-use fws_sight::{
+use fws_tree::{Kid, Node};
+use fws_tree_seen::{
     cut_nodes_part_values, leaf_nodes_are_leaves, seen_fields_agree, unseen_fields_are_open,
 };
-use fws_tree::{Kid, Node};
 use std::alloc::Global;
 
 // A rule that moves packets of a state for which the condition holds to another state.

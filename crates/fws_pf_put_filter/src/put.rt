@@ -34,7 +34,7 @@ use crate::plan::Plan;
 use fws_net::{Cond, Outcome};
 use fws_num::{Items, Memory};
 use fws_pf::{PfRule, Way};
-use fws_sight::{
+use fws_tree_seen::{
     cut_nodes_part_values, leaf_nodes_are_leaves, seen_fields_agree, unseen_fields_are_open,
 };
 use std::alloc::Global;

@@ -7,7 +7,7 @@ ghost use Rattle.fws_pf_put_filter.specs.Pieces.{set_lit, range_lit, ArePieces, 
 use fws_iv::{Ivs, cubes, one};
 use fws_net::{Lit, Test};
 use fws_num::{Items, Memory};
-use fws_sight::PacketField;
+use fws_tree_seen::PacketField;
 use std::alloc::Global;
 
 // A literal that a field's value is a member.

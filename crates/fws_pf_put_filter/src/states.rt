@@ -10,8 +10,8 @@ ghost use Rattle.fws_pf_put_filter.specs.Stating.{stripped, AreStatesBefore, IsC
 
 use fws_net::{Outcome, Rewrite};
 use fws_num::{Items, Memory};
-use fws_sight::kids_stand_before;
 use fws_tree::{Kid, Leaf, Node};
+use fws_tree_seen::kids_stand_before;
 use std::alloc::Global;
 
 /// A leaf that is its own state.

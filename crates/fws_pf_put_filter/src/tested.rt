@@ -6,7 +6,7 @@ ghost use Rattle.fws_pf_put_filter.specs.Conds.{tested_at, way_of};
 
 use fws_net::Site;
 use fws_pf::Way;
-use fws_sight::{PacketField, Seen, packet_field};
+use fws_tree_seen::{PacketField, Seen, packet_field};
 
 /// What the rules of a node test.
 #[derive(Clone, Copy, Debug, PartialEq, Eq)]

@@ -17,11 +17,11 @@ use Rattle.fws_tree.specs.declared.node.Kid.{Kid}
 use Rattle.fws_tree.specs.declared.node.Node.TheVariants.{Cut}
 use Rattle.fws_tree.specs.Plain.{Plain, cut, Kids, kid_at, branch, value, value_from, IsReduced}
 use Rattle.fws_tree.specs.Shared.{subtree_of}
-use Rattle.fws_sight.specs.declared.seen.Seen.TheVariants.{Entered}
-use Rattle.fws_sight.specs.Cuts.{kids_of, IsCutNode}
-use Rattle.fws_sight.specs.Reached.{IsOpen, IsTopped, Reaches, ReachesKid}
-use Rattle.fws_sight.specs.Shown.{has_field, shown}
-use Rattle.fws_sight.specs.SightLaws.{ReachedValuesAreTold}
+use Rattle.fws_tree_seen.specs.declared.seen.Seen.TheVariants.{Entered}
+use Rattle.fws_tree_seen.specs.Cuts.{kids_of, IsCutNode}
+use Rattle.fws_tree_seen.specs.Reached.{IsOpen, IsTopped, Reaches, ReachesKid}
+use Rattle.fws_tree_seen.specs.Shown.{has_field, shown}
+use Rattle.fws_tree_seen.specs.SightLaws.{ReachedValuesAreTold}
 use Rattle.fws_pf_put_nat.specs.declared.ends.Ends.{Ends}
 use Rattle.fws_pf_put_nat.specs.declared.ends.Ends.TheVariants.{Nothing, One, Many}
 use Rattle.fws_pf_put_nat.specs.Scenes.{below, CutsFrom, GetsNoEnd, IsCome, IsFine, IsPlanned, Scene}

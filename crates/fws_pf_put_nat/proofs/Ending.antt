@@ -5,8 +5,8 @@ use Rattle.fws_iv.specs.declared.iv.Iv.{Iv}
 use Rattle.fws_net.specs.declared.site.Site.{Site}
 use Rattle.fws_net.specs.Points.{tops_of}
 use Rattle.fws_tree.specs.Shared.{IsShared}
-use Rattle.fws_sight.specs.declared.seen.Seen.TheVariants.{Entered}
-use Rattle.fws_sight.specs.Shown.{IsTold}
+use Rattle.fws_tree_seen.specs.declared.seen.Seen.TheVariants.{Entered}
+use Rattle.fws_tree_seen.specs.Shown.{IsTold}
 use Rattle.fws_pf_put_nat.specs.declared.side.Side.{Side}
 use Rattle.fws_pf_put_nat.specs.declared.side.Side.TheVariants.{Entry, Proto, Dst, Dport, Src, Sport}
 use Rattle.fws_pf_put_nat.specs.Scenes.{IsPlanned, Scene}

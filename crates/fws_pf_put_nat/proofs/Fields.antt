@@ -9,11 +9,11 @@ use Rattle.fws_net.specs.declared.packet.Packet.{Packet}
 use Rattle.fws_net.specs.declared.site.Site.{Site}
 use Rattle.fws_net.specs.Fates.{has_ports}
 use Rattle.fws_net.specs.Points.{tops_of}
-use Rattle.fws_sight.specs.declared.field.PacketField.{PacketField}
-use Rattle.fws_sight.specs.declared.field.PacketField.TheVariants.{Proto, Dst, Dport, Src, Sport, Flags, Icmp}
-use Rattle.fws_sight.specs.declared.seen.Seen.TheVariants.{Entered}
-use Rattle.fws_sight.specs.Reached.{IsTopped}
-use Rattle.fws_sight.specs.Shown.{field_of, has_field, shown, value_of, IsSeenAs}
+use Rattle.fws_tree_seen.specs.declared.field.PacketField.{PacketField}
+use Rattle.fws_tree_seen.specs.declared.field.PacketField.TheVariants.{Proto, Dst, Dport, Src, Sport, Flags, Icmp}
+use Rattle.fws_tree_seen.specs.declared.seen.Seen.TheVariants.{Entered}
+use Rattle.fws_tree_seen.specs.Reached.{IsTopped}
+use Rattle.fws_tree_seen.specs.Shown.{field_of, has_field, shown, value_of, IsSeenAs}
 
 at_number : (P : ℕ → Option PacketField → Type 0) (n f : ℕ) (x y : Option PacketField) → P n x → P f y → P f (cond (nat_eq f n) x y)
 at_number P n f x y a b = cond_both (nat_eq f n) x y (P f) (λ e. subst (λ k. P k x) (sym (eqb-true f n e)) a) (λ e. b)

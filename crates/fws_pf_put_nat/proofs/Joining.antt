@@ -9,7 +9,7 @@ use Rattle.fws_tree.specs.declared.node.Kid.{Kid}
 use Rattle.fws_tree.specs.declared.node.Node.{Node}
 use Rattle.fws_tree.specs.Plain.{Plain, leaf}
 use Rattle.fws_tree.specs.Shared.{subtree_of}
-use Rattle.fws_sight.specs.Cuts.{kids_of}
+use Rattle.fws_tree_seen.specs.Cuts.{kids_of}
 use Rattle.fws_pf_put_nat.specs.declared.ends.Ends.{Ends}
 use Rattle.fws_pf_put_nat.specs.declared.ends.Ends.TheVariants.{Nothing, One, Many}
 use Rattle.fws_pf_put_nat.specs.Ends.{AreJoined, HasLeaf, HasKidLeaf, IsAccepted, IsKidAccepted, IsOutcome, Tells}

@@ -5,7 +5,7 @@ use Rattle.std.specs.List.{AllByRecursion}
 use Rattle.std.specs.Prelude.{slice_index, All}
 use Rattle.fws_iv.specs.Ivs.{has}
 use Rattle.fws_tree.specs.declared.node.Kid.{Kid}
-use Rattle.fws_sight.specs.Cuts.{IsCutNode}
+use Rattle.fws_tree_seen.specs.Cuts.{IsCutNode}
 use Rattle.fws_pf_put_nat.specs.Scenes.{IsPlanned, Scene}
 use Rattle.fws_pf_put_nat.proofs.Points.{kid_all, kid_before}
 

@@ -11,10 +11,10 @@ use Rattle.fws_tree.specs.declared.node.Node.{Node}
 use Rattle.fws_tree.specs.declared.node.Node.TheVariants.{Leaf, Cut}
 use Rattle.fws_tree.specs.Plain.{branch}
 use Rattle.fws_tree.specs.Shared.{IsShared, subtree_of}
-use Rattle.fws_sight.specs.declared.seen.Seen.TheVariants.{Entered}
-use Rattle.fws_sight.specs.Cuts.{kids_of}
-use Rattle.fws_sight.specs.Reached.{IsOpen, Reaches, ReachesKid}
-use Rattle.fws_sight.specs.Shown.{has_field, shown}
+use Rattle.fws_tree_seen.specs.declared.seen.Seen.TheVariants.{Entered}
+use Rattle.fws_tree_seen.specs.Cuts.{kids_of}
+use Rattle.fws_tree_seen.specs.Reached.{IsOpen, Reaches, ReachesKid}
+use Rattle.fws_tree_seen.specs.Shown.{has_field, shown}
 use Rattle.fws_pf_put_nat.specs.declared.ends.Ends.TheVariants.{One}
 use Rattle.fws_pf_put_nat.specs.declared.path.Path.{Path}
 use Rattle.fws_pf_put_nat.specs.Scenes.{below, CutsFrom, GetsNoEnd, IsCome, IsFine, IsPlanned, Scene}

@@ -13,7 +13,7 @@ use Rattle.fws_net.specs.Conditions.{holds}
 use Rattle.fws_net.specs.Fates.{has_ports}
 use Rattle.fws_pf.specs.declared.config.PfNat.{PfNat}
 use Rattle.fws_pf.specs.Walk.{chosen, view_on}
-use Rattle.fws_sight.specs.SightLaws.{ReachedValuesAreTold}
+use Rattle.fws_tree_seen.specs.SightLaws.{ReachedValuesAreTold}
 use Rattle.fws_tree.specs.declared.node.Kid.{Kid}
 use Rattle.fws_tree.specs.declared.node.Node.TheVariants.{Cut}
 use Rattle.fws_pf_put_nat.specs.declared.ends.Ends.{Ends}

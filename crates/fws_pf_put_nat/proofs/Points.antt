@@ -13,7 +13,7 @@ use Rattle.fws_tree.specs.declared.node.Node.{Node}
 use Rattle.fws_tree.specs.declared.node.Node.TheVariants.{Leaf, Cut}
 use Rattle.fws_tree.specs.Plain.{Plain, leaf, cut, Kids, kid_at, branch, value, value_from}
 use Rattle.fws_tree.specs.Shared.{IsShared, subtree_of}
-use Rattle.fws_sight.specs.Cuts.{kids_of, IsCutNode}
+use Rattle.fws_tree_seen.specs.Cuts.{kids_of, IsCutNode}
 use Rattle.fws_pf_put_nat.specs.Scenes.{below, CutsFrom, Scene}
 use Rattle.fws_pf_put_nat.specs.Ends.{HasLeaf, HasKidLeaf}
 use Rattle.fws_pf_put_nat.proofs.Laws.{NodeLaws}

@@ -11,7 +11,7 @@ use Rattle.fws_tree.specs.declared.node.Node.{Node}
 use Rattle.fws_tree.specs.declared.node.Node.TheVariants.{Leaf, Cut}
 use Rattle.fws_tree.specs.Plain.{cut, Kids, kid_at, branch}
 use Rattle.fws_tree.specs.Shared.{IsShared, subtree_of}
-use Rattle.fws_sight.specs.Cuts.{kids_of, IsCutNode}
+use Rattle.fws_tree_seen.specs.Cuts.{kids_of, IsCutNode}
 use Rattle.fws_pf_put_nat.specs.Scenes.{below, CutsFrom, Scene}
 use Rattle.fws_pf_put_nat.specs.Starts.{IsHostKid, IsStart}
 use Rattle.fws_pf_put_nat.proofs.Laws.{NodeLaws}

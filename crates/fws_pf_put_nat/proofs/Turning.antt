@@ -16,10 +16,10 @@ use Rattle.fws_net.specs.Conditions.{is_shown}
 use Rattle.fws_net.specs.Fates.{has_ports}
 use Rattle.fws_tree.specs.declared.node.Kid.{Kid}
 use Rattle.fws_tree.specs.declared.node.Node.TheVariants.{Cut}
-use Rattle.fws_sight.specs.declared.seen.Seen.TheVariants.{Entered}
-use Rattle.fws_sight.specs.Cuts.{IsCutNode}
-use Rattle.fws_sight.specs.Reached.{IsOpen}
-use Rattle.fws_sight.specs.SightLaws.{ReachedValuesAreTold}
+use Rattle.fws_tree_seen.specs.declared.seen.Seen.TheVariants.{Entered}
+use Rattle.fws_tree_seen.specs.Cuts.{IsCutNode}
+use Rattle.fws_tree_seen.specs.Reached.{IsOpen}
+use Rattle.fws_tree_seen.specs.SightLaws.{ReachedValuesAreTold}
 use Rattle.fws_pf_put_nat.specs.declared.ends.Ends.{Ends}
 use Rattle.fws_pf_put_nat.specs.declared.ends.Ends.TheVariants as ends
 use Rattle.fws_pf_put_nat.specs.declared.path.Path.{Path}

@@ -8,9 +8,9 @@ use Rattle.fws_net.specs.declared.outcome.Rewrite.{Rewrite}
 use Rattle.fws_net.specs.declared.packet.Packet.{Packet}
 use Rattle.fws_net.specs.declared.site.Site.{Site}
 use Rattle.fws_net.specs.Points.{tops_of}
-use Rattle.fws_sight.specs.declared.seen.Seen.TheVariants.{Entered}
-use Rattle.fws_sight.specs.Reached.{IsTopped, Reaches}
-use Rattle.fws_sight.specs.Shown.{IsSeenAs, IsTold}
+use Rattle.fws_tree_seen.specs.declared.seen.Seen.TheVariants.{Entered}
+use Rattle.fws_tree_seen.specs.Reached.{IsTopped, Reaches}
+use Rattle.fws_tree_seen.specs.Shown.{IsSeenAs, IsTold}
 use Rattle.fws_tree.specs.declared.node.Kid.{Kid}
 use Rattle.fws_tree.specs.declared.node.Node.{Node}
 use Rattle.fws_tree.specs.declared.node.Node.TheVariants.{Cut}

@@ -16,8 +16,8 @@ use Rattle.fws_net.specs.RegularWalks.{WritesNoPort}
 use Rattle.fws_pf.specs.declared.config.PfNat.{PfNat}
 use Rattle.fws_pf.specs.Walk.{chosen}
 use Rattle.fws_pf_print.specs.Printable.{is_printed_translation}
-use Rattle.fws_sight.specs.declared.seen.Seen.TheVariants.{Entered}
-use Rattle.fws_sight.specs.Reached.{IsTopped, Reaches}
+use Rattle.fws_tree_seen.specs.declared.seen.Seen.TheVariants.{Entered}
+use Rattle.fws_tree_seen.specs.Reached.{IsTopped, Reaches}
 use Rattle.fws_tree.specs.declared.node.Node.{Node}
 use Rattle.fws_tree.specs.declared.node.Node.TheVariants.{Leaf, Cut}
 use Rattle.fws_tree.specs.Plain.{Plain, branch, value}

@@ -10,8 +10,8 @@ ghost use Rattle.fws_pf_put_nat.specs.declared.ends.Ends.{Ends};
 
 use fws_net::{End, Outcome, Rewrite};
 use fws_num::Memory;
-use fws_sight::{cut_nodes_part_values, leaf_nodes_are_leaves};
 use fws_tree::{Kid, Node};
+use fws_tree_seen::{cut_nodes_part_values, leaf_nodes_are_leaves};
 use std::alloc::Global;
 
 /// The ends that the accepted packets of a tree get on a pass.

@@ -48,8 +48,8 @@ use crate::writings::end_paths;
 use fws_net::{End, Outcome};
 use fws_num::{Items, Memory};
 use fws_pf::PfNat;
-use fws_sight::{cut_nodes_part_values, leaf_nodes_are_leaves, reached_values_are_told};
 use fws_tree::Node;
+use fws_tree_seen::{cut_nodes_part_values, leaf_nodes_are_leaves, reached_values_are_told};
 use std::alloc::Global;
 
 // Whether the ends at a cut of this field are settled: there are none, there is one and what it is written over isn't cut,

@@ -7,8 +7,8 @@ ghost use Rattle.fws_tree.specs.declared.node.Kid.{Kid};
 ghost use Rattle.fws_net.specs.Points.{tops_of};
 ghost use Rattle.fws_net.specs.Routes.{IsSound};
 ghost use Rattle.fws_pf.specs.declared.config.PfNat.{PfNat};
-ghost use Rattle.fws_sight.specs.Shown.{IsTold};
-ghost use Rattle.fws_sight.specs.declared.seen.Seen.{Seen};
+ghost use Rattle.fws_tree_seen.specs.Shown.{IsTold};
+ghost use Rattle.fws_tree_seen.specs.declared.seen.Seen.{Seen};
 ghost use Rattle.fws_tree.specs.Shared.{IsShared};
 ghost use Rattle.fws_pf_put_nat.specs.Scenes.{IsPlanned};
 ghost use Rattle.fws_pf_put_nat.specs.Starts.{IsHostKid, IsStart};
@@ -25,8 +25,8 @@ use crate::sheet::Sheet;
 use fws_net::Outcome;
 use fws_num::{Items, Memory};
 use fws_pf::PfNat;
-use fws_sight::{cut_nodes_part_values, leaf_nodes_are_leaves};
 use fws_tree::{Kid, Node};
+use fws_tree_seen::{cut_nodes_part_values, leaf_nodes_are_leaves};
 use std::alloc::Global;
 
 // The node of the kid that has the host's own packets.

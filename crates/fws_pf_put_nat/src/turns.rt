@@ -6,7 +6,7 @@ ghost use Rattle.fws_pf_put_nat.specs.Turns.{last_turns, turns_to, AreKidTests, 
 ghost use Rattle.fws_pf_put_nat.specs.Paths.{number_of, IsGoodPath};
 ghost use Rattle.fws_pf_put_nat.specs.declared.turn.Turn.{Turn};
 ghost use Rattle.fws_iv.specs.Ivs.{has};
-ghost use Rattle.fws_sight.specs.Cuts.{IsCutNode};
+ghost use Rattle.fws_tree_seen.specs.Cuts.{IsCutNode};
 ghost use Rattle.fws_tree.specs.declared.node.Node.{Node};
 ghost use Rattle.fws_print.specs.Appended.{Appends};
 ghost use Rattle.fws_pf_put_nat.specs.Sheets.{scene_of};
@@ -19,8 +19,8 @@ use crate::side::Side;
 use crate::turn::{Last, Turn};
 use fws_net::Outcome;
 use fws_num::{Items, Memory};
-use fws_sight::{cut_nodes_part_values, leaf_nodes_are_leaves, reached_values_are_told};
 use fws_tree::Kid;
+use fws_tree_seen::{cut_nodes_part_values, leaf_nodes_are_leaves, reached_values_are_told};
 use std::alloc::Global;
 
 // Appends a turn to the node on each path.

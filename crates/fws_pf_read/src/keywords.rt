@@ -6,7 +6,7 @@ ghost use Rattle.fws_pf.specs.Keywords.{action_word, is_keyword, is_other_word, 
 use fws_net::Cause;
 use fws_num::value_named;
 use fws_pf::{ActionWord, OptionWord};
-use fws_rule::is_one_of;
+use fws_rules::is_one_of;
 
 /// Words with which rules and translations begin.
 const ACTION_WORDS: [(&[u8], ActionWord); 4] = [

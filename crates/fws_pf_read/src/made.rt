@@ -7,7 +7,7 @@ ghost use Rattle.fws_pf_read.specs.Views.{draft_of};
 use crate::draft::{Draft, passes};
 use fws_net::{Cond, End};
 use fws_pf::{PfNat, PfRule, Target};
-use fws_rule::net_end;
+use fws_rules::net_end;
 
 /// A filter rule with this condition.
 pub(crate) fn filter_rule(d: &Draft, cond: Cond) -> PfRule

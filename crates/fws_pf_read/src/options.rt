@@ -2,7 +2,7 @@
 
 ghost use Rattle.std.specs.Prelude.{◌≡◌, [], ◌∷◌, IfOk, OnOk};
 ghost use Rattle.fws_net.specs.Reading.{StepGiven};
-ghost use Rattle.fws_rule.specs.Literals.{positive};
+ghost use Rattle.fws_rules.specs.Literals.{positive};
 ghost use Rattle.fws_pf.specs.declared.rule_draft.Expects.TheVariants as expect;
 ghost use Rattle.fws_pf.specs.RuleText.{arrow_step, behind_tag, behind_tagged, filter_option_step, flags_step, kind_at, not_tagged_step, only, option_begun, option_step, state_begun, state_step, tag_literals, tag_name_step, tagged_name_step, tagged_step, translation_option_step, with_choice, with_flags_test};
 ghost use Rattle.fws_pf.specs.Values.{fresh_value};
@@ -14,7 +14,7 @@ use fws_net::{Cause, Cond, ReadFault, Test};
 use fws_num::{Memory, Word};
 use fws_pf::{Expects, OptionWord, Place, ValueKind, Verb};
 use fws_pf_words::{LongValue, is_any_mark, is_mark, read_flags};
-use fws_rule::{is, positive, put_literals};
+use fws_rules::{is, positive, put_literals};
 use std::alloc::Global;
 
 /// What stands at a place.

@@ -20,7 +20,7 @@ use fws_net::{Cause, ReadFault};
 use fws_num::{Memory, Text, Word};
 use fws_pf::{ActionWord, Expects, Statement as AnyStatement, TableExpects, ValueKind, Verb};
 use fws_pf_words::{KnownUses, LongValue, Setting, Source, Tags, fresh_table};
-use fws_rule::is;
+use fws_rules::is;
 use std::alloc::Global;
 
 /// What was read so far of a statement. A rule has the tags of the text, until the statement ends.

@@ -29,7 +29,7 @@ use fws_pf::{Expects, Place, ValueKind, Way};
 use fws_pf_words::{
     ItemList, KnownUses, LongValue, Setting, Source, has_ended, is_any_mark, is_mark,
 };
-use fws_rule::is;
+use fws_rules::is;
 use std::alloc::Global;
 use std::mem;
 

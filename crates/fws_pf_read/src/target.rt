@@ -20,7 +20,7 @@ use fws_net::{Cause, Lang, ReadFault, Site, entry_named, face_addr};
 use fws_num::{Prefix, Word, read_port, read_ports_between, read_prefix, read_quad, split_once};
 use fws_pf::{Expects, Target, Verb};
 use fws_pf_words::{begins_with_digit, is_any_mark, is_mark, modified};
-use fws_rule::is;
+use fws_rules::is;
 
 /// Takes what is written so far, and goes on.
 pub(crate) fn put_target(d: &mut Draft, target: Target, next: Expects)

@@ -14,7 +14,7 @@ use Rattle.fws_net.specs.declared.site.Site.{Site}
 use Rattle.fws_net.specs.declared.answer.LineFault.{LineFault}
 use Rattle.fws_net.specs.declared.answer.LineFault.TheVariants as faults
 use Rattle.fws_net.specs.Reading.{FaultGiven, and_then}
-use Rattle.fws_rule.specs.Literals.{one}
+use Rattle.fws_rules.specs.Literals.{one}
 use Rattle.fws_pf.specs.declared.value_draft.Item.{Item}
 use Rattle.fws_pf.specs.declared.value_draft.Part.{Part}
 use Rattle.fws_pf.specs.declared.value_draft.Part.TheVariants as parts

@@ -10,7 +10,7 @@ use Rattle.fws_num.specs.declared.word.Word.{Word}
 use Rattle.fws_num.specs.Comments.{uncommented}
 use Rattle.fws_num.specs.Lines.{is_indented, line_of, last_line, lines_of}
 use Rattle.fws_num.specs.Numbers.{split_once}
-use Rattle.fws_rule.specs.Interfaces.{before_mark}
+use Rattle.fws_rules.specs.Interfaces.{before_mark}
 use Rattle.fws_pf.specs.Statements.{joined, joined_with, read_statement, read_statements, statements_of, words_of}
 use Rattle.fws_pf_words.specs.declared.statements.StatementReader.{StatementReader}
 use Rattle.fws_pf_words.specs.Ahead.{statements_ahead}

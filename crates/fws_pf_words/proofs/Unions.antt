@@ -6,7 +6,7 @@ use Rattle.std.proofs.lemmas.List.Elements.{All-from_recursion}
 use Rattle.std.proofs.lemmas.List.Folds.{list_any-append}
 use Rattle.std.proofs.lemmas.Bool.{false≢true}
 use Rattle.std.proofs.lemmas.Bool.Decides.{nat_tests}
-use Rattle.fws_rule.specs.Literals.{one}
+use Rattle.fws_rules.specs.Literals.{one}
 use Rattle.fws_iv.specs.declared.iv.Iv.{Iv}
 use Rattle.fws_iv.specs.Ivs.{AreRanges, IsRegular, IsRegularFrom, RangesAddMembers, RangesAreRegular, SameMembersSameList, has, in_part, with_range, with_ranges}
 use Rattle.fws_pf.specs.declared.tables.Table.{Table}

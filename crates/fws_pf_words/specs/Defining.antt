@@ -3,7 +3,7 @@ use Rattle.std.specs.Prelude.{ℕ, ◌+◌, Bool, true, false, Option, Some, Non
 use Rattle.std.specs.Str.{bytes_eq}
 use Rattle.fws_iv.specs.declared.iv.Iv.{Iv}
 use Rattle.fws_num.specs.declared.word.Word.{Word}
-use Rattle.fws_rule.specs.Literals.{one}
+use Rattle.fws_rules.specs.Literals.{one}
 use Rattle.fws_pf.specs.Statements.{is_mark}
 use Rattle.fws_pf.specs.Values.{from_below, is_any_mark}
 use Rattle.fws_pf_words.specs.declared.defining.Defining.{Defining}

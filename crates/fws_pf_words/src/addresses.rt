@@ -13,7 +13,7 @@ use fws_net::{
 };
 use fws_num::{Memory, read_prefix, read_quad, split_once};
 use fws_pf::Part;
-use fws_rule::{is, is_one_of};
+use fws_rules::{is, is_one_of};
 use std::alloc::Global;
 
 /// What may stand behind a colon and is left out.

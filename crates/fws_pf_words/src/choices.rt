@@ -1,7 +1,7 @@
 //! What values and lists ask for: a condition for each choice.
 
 ghost use Rattle.std.specs.Prelude.{◌≡◌, ◌++◌, [], ◌∷◌, option_map, IfOk, IfSome, OnOk};
-ghost use Rattle.fws_rule.specs.Literals.{positive};
+ghost use Rattle.fws_rules.specs.Literals.{positive};
 ghost use Rattle.fws_pf.specs.Drawn.{conditions, crossed, implied_flags};
 ghost use Rattle.fws_pf.specs.RuleText.{choice_of, item_literals, only};
 ghost use Rattle.fws_pf_words.specs.Tests.{test_at};
@@ -12,7 +12,7 @@ use fws_iv::Ivs;
 use fws_net::{Cond, Lit, Test};
 use fws_num::{Items, Memory};
 use fws_pf::{Choice, Item, Place};
-use fws_rule::{negative, positive, put_literals};
+use fws_rules::{negative, positive, put_literals};
 use std::alloc::Global;
 
 /// The test of the numbers at a place.

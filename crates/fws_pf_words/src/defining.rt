@@ -15,7 +15,7 @@ use crate::statements::is_mark;
 use crate::values::is_any_mark;
 use fws_net::ReadFault;
 use fws_num::{Memory, Text, Word};
-use fws_rule::is;
+use fws_rules::is;
 use std::alloc::Global;
 use std::slice;
 

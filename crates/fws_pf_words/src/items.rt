@@ -9,7 +9,7 @@ use fws_iv::one;
 use fws_net::{Cause, Lang, ReadFault, Site, entry_named};
 use fws_num::{read_dec, read_protocol, value_named};
 use fws_pf::Part;
-use fws_rule::is;
+use fws_rules::is;
 use std::alloc::Global;
 
 /// Types of ICMP messages by their names.

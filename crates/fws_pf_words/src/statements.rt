@@ -14,7 +14,7 @@ use fws_num::{
     next_number, split_once, without_carriage_return,
 };
 use fws_pf::Mode;
-use fws_rule::{before_mark, is};
+use fws_rules::{before_mark, is};
 use std::alloc::Global;
 use std::mem;
 

@@ -13,7 +13,7 @@ use crate::values::is_any_mark;
 use fws_net::{Cause, ReadFault};
 use fws_num::{Text, Word};
 use fws_pf::{TableExpects, ValueKind};
-use fws_rule::is;
+use fws_rules::is;
 use std::alloc::Global;
 
 /// What was read so far of a table: a `TableDraft`, whose list may be long.

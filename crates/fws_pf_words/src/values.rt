@@ -4,7 +4,7 @@ ghost use Rattle.std.specs.Prelude.{◌≡◌, if◌then◌else◌, IfOk, OnOk};
 ghost use Rattle.std.specs.List.{list_any};
 ghost use Rattle.std.specs.Str.{bytes_eq};
 ghost use Rattle.fws_net.specs.Routes.{IsSound};
-ghost use Rattle.fws_rule.specs.Literals.{one};
+ghost use Rattle.fws_rules.specs.Literals.{one};
 ghost use Rattle.fws_pf.specs.declared.value_draft.Part.TheVariants as parts;
 ghost use Rattle.fws_pf.specs.Values.{after_part, alone, begin_step, behind_value, compared_ports, end_step, ended_value, face_name_step, first_step, has_ended, host_step, host_word, icmp_type_part, interface_part, is_any_mark, item_step, marks, may_be_empty, negating, next_step, no_mark, part_taken, plain_step, port_sign_step, port_step, port_taken, port_word, ports_by_ends, protocol_part, range_end_step, range_sign_step, table_name_step, value_expected_step, value_step, with_part};
 ghost use Rattle.fws_pf_words.specs.Taken.{TakenGiven};
@@ -18,7 +18,7 @@ use fws_iv::one;
 use fws_net::{Cause, ReadFault, Site};
 use fws_num::{Memory, Word, read_port, read_quad};
 use fws_pf::{Item, Operator, Part, ValueDraft, ValueExpects, ValueKind};
-use fws_rule::{is, is_one_of};
+use fws_rules::{is, is_one_of};
 use std::alloc::Global;
 
 /// Punctuation outside quotes.

@@ -9,7 +9,7 @@ use Rattle.fws_net.specs.declared.transit.Transit.{Transit}
 use Rattle.fws_net.specs.Conditions.{is_shown}
 use Rattle.fws_net.specs.Showing.{out_of}
 use Rattle.fws_net.specs.Transits.{with_verdict}
-use Rattle.fws_rule.specs.AlikeWays.{AlikeKinds, AlikeTransits, MakeAlike, LeadAlike, StayAlike}
+use Rattle.fws_rules.specs.AlikeWays.{AlikeKinds, AlikeTransits, MakeAlike, LeadAlike, StayAlike}
 use Rattle.fws_pf.specs.Walk.{tagged, written, is_met, interface_of}
 use Rattle.fws_pfo.specs.declared.config.PfoConfig.{PfoConfig}
 use Rattle.fws_pfo.specs.declared.config.PfoKind.{PfoKind}

@@ -6,8 +6,8 @@ use Rattle.fws_net.specs.declared.outcome.End.{End}
 use Rattle.fws_net.specs.declared.site.Site.{Site}
 use Rattle.fws_net.specs.RegularWalks.{IsRegularWalk}
 use Rattle.fws_net.specs.Transits.{entered}
-use Rattle.fws_rule.specs.AlikeWays.{AlikePacketsStayAlike}
-use Rattle.fws_rule.specs.Regular.{AlikeWalksAreRegular, Part, StandsAsWritten, KeepsDestination, IsRegularPart, AreRegularParts, RegularPartsMakeAlikeWalks}
+use Rattle.fws_rules.specs.AlikeWays.{AlikePacketsStayAlike}
+use Rattle.fws_rules.specs.Regular.{AlikeWalksAreRegular, Part, StandsAsWritten, KeepsDestination, IsRegularPart, AreRegularParts, RegularPartsMakeAlikeWalks}
 use Rattle.fws_pf.specs.Soundness.{is_entry}
 use Rattle.fws_pfo.specs.declared.config.PfoConfig.{PfoConfig}
 use Rattle.fws_pfo.specs.Soundness.{rule_fits, is_fitting}

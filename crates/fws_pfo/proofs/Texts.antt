@@ -12,8 +12,8 @@ use Rattle.fws_net.specs.declared.condition.Test.{Test}
 use Rattle.fws_net.specs.declared.condition.Test.TheVariants as tests
 use Rattle.fws_net.specs.declared.site.Site.{Site}
 use Rattle.fws_net.specs.Reading.{located, lines_read}
-use Rattle.fws_rule.specs.AlikeWays.{AlikePacketsStayAlike}
-use Rattle.fws_rule.specs.Regular.{AlikeWalksAreRegular, RegularPartsMakeAlikeWalks}
+use Rattle.fws_rules.specs.AlikeWays.{AlikePacketsStayAlike}
+use Rattle.fws_rules.specs.Regular.{AlikeWalksAreRegular, RegularPartsMakeAlikeWalks}
 use Rattle.fws_pf.specs.declared.rule_draft.RuleDraft.{RuleDraft}
 use Rattle.fws_pf.specs.declared.tables.Table.{Table}
 use Rattle.fws_pf.specs.Drawn.{choices, conditions, has_ports, has_target_port, is_port_protocol, target_end}

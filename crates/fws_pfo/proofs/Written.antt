@@ -15,7 +15,7 @@ use Rattle.fws_net.specs.declared.transit.Transit.{Transit}
 use Rattle.fws_net.specs.declared.view.View.{View}
 use Rattle.fws_net.specs.Conditions.{holds, lit_holds, test_holds}
 use Rattle.fws_net.specs.Fates.{has_ports}
-use Rattle.fws_rule.specs.Regular.{IsPortless}
+use Rattle.fws_rules.specs.Regular.{IsPortless}
 use Rattle.fws_pf.specs.Drawn.{is_port_protocol}
 use Rattle.fws_pf.specs.Soundness.{asks, names_protocol, cond_fits, tag_fits, end_fits}
 use Rattle.fws_pf.specs.Walk.{view_on, written}

@@ -13,8 +13,8 @@ use Rattle.fws_ifcl.specs.declared.diagram.Act.TheVariants as acts
 use Rattle.fws_ifcl.specs.declared.diagram.Rule.{Rule}
 use Rattle.fws_ifcl.specs.declared.step.ChainEnd.{ChainEnd}
 use Rattle.fws_ifcl.specs.declared.step.ChainEnd.TheVariants.{Accepted, Dropped}
-use Rattle.fws_draw.specs.Places.{IsForward, behind_act, sight, run, Stands}
-use Rattle.fws_draw.specs.Rules.{ruled, always, guard, guarded}
+use Rattle.fws_ifcl_rules.specs.Places.{IsForward, behind_act, sight, run, Stands}
+use Rattle.fws_ifcl_rules.specs.Rules.{ruled, always, guard, guarded}
 use Rattle.fws_pfo_ifcl.specs.Blocks.{acting, is_hold}
 use Rattle.fws_pfo_ifcl.specs.Diagram.{pass_stage}
 use Rattle.fws_pfo_ifcl.proofs.Courses.{Course}

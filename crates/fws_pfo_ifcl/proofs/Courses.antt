@@ -5,7 +5,7 @@ use Rattle.fws_net.specs.declared.packet.Packet.{Packet}
 use Rattle.fws_net.specs.declared.site.Site.{Site}
 use Rattle.fws_net.specs.declared.transit.Transit.{Transit}
 use Rattle.fws_ifcl.specs.declared.step.ChainEnd.{ChainEnd}
-use Rattle.fws_draw.specs.Places.{WalksGoByPlaces, Walk, walk_of}
+use Rattle.fws_ifcl_rules.specs.Places.{WalksGoByPlaces, Walk, walk_of}
 use Rattle.fws_pfo.specs.declared.config.PfoConfig.{PfoConfig}
 use Rattle.fws_pfo_ifcl.specs.declared.ruling.Ruling.{Ruling}
 use Rattle.fws_pfo_ifcl.specs.Diagram.{pass_rules, pass_stage}

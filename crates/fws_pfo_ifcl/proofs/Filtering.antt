@@ -12,7 +12,7 @@ use Rattle.fws_net.specs.Transits.{with_verdict}
 use Rattle.fws_ifcl.specs.declared.diagram.Act.{Act}
 use Rattle.fws_ifcl.specs.declared.step.ChainEnd.TheVariants.{Accepted, Dropped}
 use Rattle.fws_ifcl.specs.Walk.{stage_end}
-use Rattle.fws_draw.specs.Places.{run, Stands}
+use Rattle.fws_ifcl_rules.specs.Places.{run, Stands}
 use Rattle.fws_pf.specs.Soundness.{cond_fits, tag_fits}
 use Rattle.fws_pf.specs.Walk.{view_on, tagged, is_met}
 use Rattle.fws_pfo.specs.declared.config.PfoKind.{PfoKind}

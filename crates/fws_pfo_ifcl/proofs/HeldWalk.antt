@@ -9,7 +9,7 @@ use Rattle.fws_net.specs.declared.view.View.{View}
 use Rattle.fws_net.specs.Conditions.{holds}
 use Rattle.fws_ifcl.specs.declared.step.ChainEnd.TheVariants.{Accepted, Through}
 use Rattle.fws_ifcl.specs.Walk.{stage_end, rules_walk as walk_rules}
-use Rattle.fws_draw.specs.Places.{sight, run, Stands}
+use Rattle.fws_ifcl_rules.specs.Places.{sight, run, Stands}
 use Rattle.fws_pfo.specs.Walk.{moved, ended}
 use Rattle.fws_pfo_ifcl.specs.declared.frame.Frame.{Frame}
 use Rattle.fws_pfo_ifcl.specs.Blocks.{writing, held_rule, held_rules}

@@ -8,9 +8,9 @@ use Rattle.fws_ifcl.specs.declared.diagram.Act.{Act}
 use Rattle.fws_ifcl.specs.declared.diagram.Act.TheVariants as acts
 use Rattle.fws_ifcl.specs.declared.diagram.Rule.{Rule}
 use Rattle.fws_ifcl.specs.Soundness.{act_ok, rules_ok, chain_ok, ifcl_ok}
-use Rattle.fws_draw.specs.Right.{RightAmong, RightByParts, RulesAreRightByParts}
-use Rattle.fws_draw.specs.Rules.{ruled, always, guarded}
-use Rattle.fws_draw.specs.Straight.{is_straight}
+use Rattle.fws_ifcl_rules.specs.Right.{RightAmong, RightByParts, RulesAreRightByParts}
+use Rattle.fws_ifcl_rules.specs.Rules.{ruled, always, guarded}
+use Rattle.fws_ifcl_rules.specs.Straight.{is_straight}
 use Rattle.fws_pf.specs.Walk.{is_met}
 use Rattle.fws_pfo.specs.declared.config.PfoConfig.{PfoConfig}
 use Rattle.fws_pfo.specs.declared.config.PfoKind.{PfoKind}

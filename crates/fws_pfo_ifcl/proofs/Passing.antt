@@ -19,8 +19,8 @@ use Rattle.fws_ifcl.specs.declared.diagram.Stage.{Stage}
 use Rattle.fws_ifcl.specs.declared.step.ChainEnd.{ChainEnd}
 use Rattle.fws_ifcl.specs.declared.step.ChainEnd.TheVariants.{Accepted}
 use Rattle.fws_ifcl.specs.Walk.{stage_end, chain_walk, stage_walk, stages_walk, means}
-use Rattle.fws_draw.specs.Places.{WalksGoByPlaces, run, Stands}
-use Rattle.fws_draw.specs.Rules.{always}
+use Rattle.fws_ifcl_rules.specs.Places.{WalksGoByPlaces, run, Stands}
+use Rattle.fws_ifcl_rules.specs.Rules.{always}
 use Rattle.fws_pf.specs.Soundness.{is_entry}
 use Rattle.fws_pf.specs.Walk.{interface_of}
 use Rattle.fws_pfo.specs.declared.config.PfoConfig.{PfoConfig}

@@ -6,7 +6,7 @@ use Rattle.fws_net.specs.declared.outcome.End.{End}
 use Rattle.fws_ifcl.specs.declared.diagram.Act.{Act}
 use Rattle.fws_ifcl.specs.declared.diagram.Act.TheVariants.{Accept, Drop, Hold, Src, Dst, AddTag, OnlyTag, DelTag}
 use Rattle.fws_ifcl.specs.declared.diagram.Rule.{Rule}
-use Rattle.fws_draw.specs.Rules.{ruled, always, guarded}
+use Rattle.fws_ifcl_rules.specs.Rules.{ruled, always, guarded}
 use Rattle.fws_pf.specs.Walk.{is_met}
 use Rattle.fws_pfo.specs.declared.config.PfoKind.{PfoKind}
 use Rattle.fws_pfo.specs.declared.config.PfoKind.TheVariants.{Pass, Block, Match}

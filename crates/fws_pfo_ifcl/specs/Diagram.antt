@@ -7,8 +7,8 @@ use Rattle.fws_ifcl.specs.declared.diagram.Rule.{Rule}
 use Rattle.fws_ifcl.specs.declared.diagram.Chain.{Chain}
 use Rattle.fws_ifcl.specs.declared.diagram.Stage.{Stage}
 use Rattle.fws_ifcl.specs.declared.diagram.Ifcl.{Ifcl}
-use Rattle.fws_rule.specs.Literals.{positive}
-use Rattle.fws_draw.specs.Rules.{ruled, always}
+use Rattle.fws_rules.specs.Literals.{positive}
+use Rattle.fws_ifcl_rules.specs.Rules.{ruled, always}
 use Rattle.fws_pfo.specs.declared.config.PfoConfig.{PfoConfig}
 use Rattle.fws_pfo_ifcl.specs.declared.frame.Frame.{Frame}
 use Rattle.fws_pfo_ifcl.specs.declared.ruling.Ruling.{Ruling}

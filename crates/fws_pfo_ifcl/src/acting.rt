@@ -1,15 +1,15 @@
 //! What rules do, as acts, and the rules that are put for them.
 
 ghost use Rattle.std.specs.Prelude.{◌≡◌, [], ◌∷◌, ◌++◌, length, map, OnOk, IfOk};
-ghost use Rattle.fws_draw.specs.Rules.{always};
+ghost use Rattle.fws_ifcl_rules.specs.Rules.{always};
 ghost use Rattle.fws_ifcl.specs.declared.diagram.Act.TheVariants.{Hold};
 ghost use Rattle.fws_pfo_ifcl.specs.Blocks.{acting, acts_of, changes, decision, ending, holding, is_hold, only_tag, tagging, without_other, without_others, writing};
 
 use crate::ends::number_of;
 use crate::frame::Frame;
 use crate::held::{bits_of, put_telling};
-use fws_draw::{put_always, put_guard, put_rule};
 use fws_ifcl::{Act, Rule};
+use fws_ifcl_rules::{put_always, put_guard, put_rule};
 use fws_net::{Cond, End};
 use fws_num::Memory;
 use fws_pfo::{PfoKind, PfoRule};

@@ -6,8 +6,8 @@ ghost use Rattle.fws_net.specs.declared.packet.Packet.{Packet};
 ghost use Rattle.fws_ifcl.specs.Refusals.{refusal_of};
 ghost use Rattle.fws_ifcl.specs.Soundness.{ifcl_ok};
 ghost use Rattle.fws_ifcl.specs.Walk.{means};
-ghost use Rattle.fws_draw.specs.Rules.{ruled};
-ghost use Rattle.fws_draw.specs.Straight.{is_straight};
+ghost use Rattle.fws_ifcl_rules.specs.Rules.{ruled};
+ghost use Rattle.fws_ifcl_rules.specs.Straight.{is_straight};
 ghost use Rattle.fws_pfo.specs.Soundness.{is_fitting};
 ghost use Rattle.fws_pfo.specs.Walk.{walk};
 ghost use Rattle.fws_pfo_ifcl.specs.Diagram.{ArePasses, IsDrawn, IsPass, clearing, frame_of, front_rules, larger, pass_stage, skipping, tracking};
@@ -16,12 +16,14 @@ use crate::acting::put_acts;
 use crate::filter::put_filter_rules;
 use crate::frame::frame_of;
 use crate::held::{bits_of, put_telling};
-use fws_draw::{ruled_by, rules_are_right_by_parts, straight_diagrams_unfold, walks_go_by_places};
 use fws_ifcl::{Act, Chain, Ifcl, Rule, Stage};
+use fws_ifcl_rules::{
+    ruled_by, rules_are_right_by_parts, straight_diagrams_unfold, walks_go_by_places,
+};
 use fws_net::{Lit, Site, Test};
 use fws_num::{Items, Memory, Text};
 use fws_pfo::PfoConfig;
-use fws_rule::positive;
+use fws_rules::positive;
 use std::alloc::Global;
 
 /// Puts a rule behind the others that acts where the literal holds. An error is want of memory.

@@ -3,8 +3,8 @@
 ghost use Rattle.std.specs.Prelude.{◌≡◌, suc, ◌++◌, IfOk, OnOk};
 ghost use Rattle.fws_pfo_ifcl.specs.Held.{bit_count, bits_of, telling, told};
 
-use fws_draw::sum;
 use fws_ifcl::Act;
+use fws_ifcl_rules::sum;
 use fws_net::{Cond, Lit, Test};
 use fws_num::Memory;
 use std::alloc::Global;

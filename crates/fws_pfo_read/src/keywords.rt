@@ -8,7 +8,7 @@ use fws_net::Cause;
 use fws_num::value_named;
 use fws_pf_read::misplaced as pf_misplaced;
 use fws_pfo::PfoKind;
-use fws_rule::is_one_of;
+use fws_rules::is_one_of;
 
 /// Words with which rules begin.
 const ACTION_WORDS: [(&[u8], PfoKind); 3] = [

@@ -22,7 +22,7 @@ use fws_pf::{Expects, TableExpects, ValueKind};
 use fws_pf_read::{HeldTable, HeldValue, TakesWords};
 use fws_pf_words::{KnownUses, LongValue, Setting, Source, Tags, fresh_table};
 use fws_pfo::{PfoKind, PfoStatement};
-use fws_rule::is;
+use fws_rules::is;
 use std::alloc::Global;
 
 /// What was read so far of a statement. A rule has the tags of the text, until the statement ends.

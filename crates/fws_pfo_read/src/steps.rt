@@ -23,7 +23,7 @@ use fws_pf::{Expects, Place, Target};
 use fws_pf_read::{is_open, kept_static, mapped, may_be_mapped, value_place};
 use fws_pf_words::{KnownUses, Setting, Source, is_mark};
 use fws_pfo::PfoExpects;
-use fws_rule::is;
+use fws_rules::is;
 use std::alloc::Global;
 
 /// Goes on to the words in parentheses behind `scrub`, which stands once.

@@ -14,7 +14,7 @@ use fws_num::{Word, split_once};
 use fws_pf::{Expects, Target};
 use fws_pf_read::{face_target, rule_step};
 use fws_pf_words::{Setting, begins_with_digit, is_mark};
-use fws_rule::is;
+use fws_rules::is;
 use std::alloc::Global;
 
 /// Takes a word as both dialects do.

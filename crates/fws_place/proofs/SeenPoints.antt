@@ -5,8 +5,8 @@ use Rattle.std.specs.Option.{option_map}
 use Rattle.fws_net.specs.declared.connection.Rec.{Rec}
 use Rattle.fws_net.specs.declared.packet.Packet.{Packet}
 use Rattle.fws_net.specs.Transits.{with_rec_dst}
-use Rattle.fws_sight.specs.declared.seen.Seen.TheVariants.{Entered, Routed}
-use Rattle.fws_sight.specs.Shown.{IsSeenAs, field_of, has_field, shown, shown_as, value_of}
+use Rattle.fws_tree_seen.specs.declared.seen.Seen.TheVariants.{Entered, Routed}
+use Rattle.fws_tree_seen.specs.Shown.{IsSeenAs, field_of, has_field, shown, shown_as, value_of}
 use Rattle.fws_place.specs.Meaning.{point_of}
 use Rattle.fws_place.specs.TellingLaws.{IsSeen}
 use Rattle.fws_place.proofs.FieldPoints.{at_field}

@@ -11,9 +11,9 @@ use Rattle.fws_net.specs.Points.{packet_of, tops_of}
 use Rattle.fws_tree.specs.declared.tables.Tables.{Tables}
 use Rattle.fws_tree.specs.Plain.{Plain, value}
 use Rattle.fws_tree.specs.Regular.{AreRegular, is_port}
-use Rattle.fws_sight.specs.declared.seen.Seen.{Seen}
-use Rattle.fws_sight.specs.declared.seen.Seen.TheVariants.{Entered, Routed}
-use Rattle.fws_sight.specs.Shown.{IsTold, has_field, shown}
+use Rattle.fws_tree_seen.specs.declared.seen.Seen.{Seen}
+use Rattle.fws_tree_seen.specs.declared.seen.Seen.TheVariants.{Entered, Routed}
+use Rattle.fws_tree_seen.specs.Shown.{IsTold, has_field, shown}
 use Rattle.fws_place.specs.Meaning.{IsPairOf, est_of, point_of, rec_of}
 use Rattle.fws_place.specs.Pairs.{LookAlike}
 use Rattle.fws_place.specs.Seen.{IsAcceptedSomewhere, IsAcceptedAlike, Tells}

@@ -8,8 +8,8 @@ use Rattle.fws_net.specs.Transits.{with_rec_dst}
 use Rattle.fws_tree.specs.declared.tables.Tables.{Tables}
 use Rattle.fws_tree.specs.Plain.{Plain}
 use Rattle.fws_tree.specs.Regular.{AreRegular}
-use Rattle.fws_sight.specs.declared.seen.Seen.TheVariants.{Entered, Routed}
-use Rattle.fws_sight.specs.Shown.{IsSeenAs, IsTold}
+use Rattle.fws_tree_seen.specs.declared.seen.Seen.TheVariants.{Entered, Routed}
+use Rattle.fws_tree_seen.specs.Shown.{IsSeenAs, IsTold}
 use Rattle.fws_place.specs.Meaning.{point_of}
 use Rattle.fws_place.specs.Seen.{IsAcceptedAlike, IsAcceptedSomewhere, Tells}
 

@@ -7,7 +7,7 @@ ghost use Rattle.fws_ios.specs.Walk.{list_named, permits, says, view_on};
 use crate::config::{IosConfig, IosEntry, IosList};
 use fws_net::{Kind, Packet, Site, Transit, View, holds};
 use fws_num::Memory;
-use fws_rule::is;
+use fws_rules::is;
 use std::alloc::Global;
 
 /// Where a packet is walked, and which one.

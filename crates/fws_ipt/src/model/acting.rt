@@ -17,7 +17,7 @@ use crate::model::writing::{masqueraded, redirect_addr, with_dst, with_mark, wit
 use crate::passage::{ChainEnd, Passage};
 use fws_net::{End, Packet, Site, holds, sending_entry};
 use fws_num::Memory;
-use fws_rule::net_end;
+use fws_rules::net_end;
 use std::alloc::Global;
 
 /// Where rules are walked, and for which packet.

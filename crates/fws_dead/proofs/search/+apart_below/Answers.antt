@@ -5,7 +5,7 @@ use Rattle.fws_tree.specs.declared.node.Kid.{Kid}
 use Rattle.fws_tree.specs.declared.node.Node.TheVariants.{Leaf, Cut}
 use Rattle.fws_tree.specs.Plain.{Plain}
 use Rattle.fws_tree.specs.Shared.{subtree_of}
-use Rattle.fws_sight.specs.Cuts.{IsCutNode}
+use Rattle.fws_tree_seen.specs.Cuts.{IsCutNode}
 use Rattle.fws_dead.proofs.Finding.{Apart, leaf_found, none_passed, kid_found, kid_passed, kids_behind, all_passed}
 use Rattle.fws_dead.proofs.Nodes.{NodeLaws}
 use Rattle.fws_dead.proofs.search.+apart_below.Goals as goal

@@ -3,7 +3,7 @@ use Rattle.fws_box.specs.Boxes.{box_hits, sides_of}
 use Rattle.fws_box.specs.Sides.{sides_have}
 use Rattle.fws_net.specs.Conditions.{holds}
 use Rattle.fws_net.specs.Points.{tops_of}
-use Rattle.fws_scene.specs.Scenes.{view_of}
+use Rattle.fws_box_conditions.specs.Scenes.{view_of}
 use Rattle.fws_tree.specs.Marks.{mark_at}
 use Rattle.fws_exec.proofs.Dividing.{within_length}
 use Rattle.fws_exec.proofs.Marking.{boxed_by}

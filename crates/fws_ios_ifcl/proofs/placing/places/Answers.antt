@@ -8,7 +8,7 @@ use Rattle.fws_ifcl.specs.Soundness.{ifcl_ok}
 use Rattle.fws_ifcl.specs.Spots.{are_spots_of, told}
 use Rattle.fws_ifcl.specs.Uses.{used_places}
 use Rattle.fws_ifcl.specs.Walk.{means}
-use Rattle.fws_draw.specs.Straight.{is_straight}
+use Rattle.fws_ifcl_rules.specs.Straight.{is_straight}
 use Rattle.fws_ios.specs.Uses.{used}
 use Rattle.fws_ios.specs.Walk.{walk}
 use Rattle.fws_ios_ifcl.specs.Placed.{count_of, placed_of, spots_of}

@@ -4,7 +4,7 @@ use Rattle.std.specs.Prelude.{slice_index_or, false, None}
 use Rattle.fws_tree.specs.declared.node.Kid.{Kid}
 use Rattle.fws_tree.specs.declared.node.Node.TheVariants.{Cut, Leaf}
 use Rattle.fws_tree.specs.Plain.{leaf}
-use Rattle.fws_sight.specs.Cuts.{IsCutNode}
+use Rattle.fws_tree_seen.specs.Cuts.{IsCutNode}
 use Rattle.fws_ios_put_entries.specs.Paths.{nothing_asked}
 use Rattle.fws_ios_put_lists.specs.declared.turn.Turn.{Turn}
 use Rattle.fws_ios_put_lists.specs.Blocks.{below, scene, Scene}

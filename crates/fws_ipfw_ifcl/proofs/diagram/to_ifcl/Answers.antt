@@ -4,7 +4,7 @@ use Rattle.fws_net.specs.declared.packet.Packet.{Packet}
 use Rattle.fws_ifcl.specs.Refusals.{refusal_of}
 use Rattle.fws_ifcl.specs.Soundness.{ifcl_ok}
 use Rattle.fws_ifcl.specs.Walk.{means}
-use Rattle.fws_draw.specs.Straight.{is_straight}
+use Rattle.fws_ifcl_rules.specs.Straight.{is_straight}
 use Rattle.fws_ipfw.specs.Walk.{walk}
 use Rattle.fws_ipfw_ifcl.specs.Diagram.{diagram_of}
 use Rattle.fws_ipfw_ifcl.proofs.Numbered.{diagram_ok, diagram_straight}

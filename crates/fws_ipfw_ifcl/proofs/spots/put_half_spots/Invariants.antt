@@ -1,5 +1,5 @@
 use Rattle.std.proofs.Common.{◌≡◌, ◌++◌, drop}
-use Rattle.fws_draw.specs.UsedPlaces.{spots_from}
+use Rattle.fws_ifcl_rules.specs.UsedPlaces.{spots_from}
 use Rattle.fws_ipfw_ifcl.specs.Placed.{half_told}
 use Rattle.fws_ipfw_ifcl.proofs.spots.put_half_spots.Given as goal
 

@@ -1,5 +1,5 @@
 use Rattle.std.proofs.Common.{false, ◌++◌, ap, ◌∙◌}
-use Rattle.fws_draw.specs.UsedPlaces.{spots_from}
+use Rattle.fws_ifcl_rules.specs.UsedPlaces.{spots_from}
 use Rattle.fws_ipfw_ifcl.specs.Diagram.{second_place}
 use Rattle.fws_ipfw_ifcl.specs.Placed.{half_told}
 use Rattle.fws_ipfw_ifcl.proofs.Beside.{all_spots}

@@ -2,7 +2,7 @@ use Rattle.std.proofs.Common.{◌≡◌, List}
 use Rattle.std.proofs.lemmas.Result.{IfOk-weaker}
 use Rattle.std.specs.Prelude.{map}
 use Rattle.fws_net.specs.declared.condition.Lit.{Lit}
-use Rattle.fws_sight.specs.declared.field.PacketField.TheVariants.{Src}
+use Rattle.fws_tree_seen.specs.declared.field.PacketField.TheVariants.{Src}
 use Rattle.fws_ipfw_put_rules.specs.Pieces.{set_lit, ArePieces}
 use Rattle.fws_ipfw_put_rules.proofs.Hitting.{src_pieces}
 use Rattle.fws_ipfw_put_rules.proofs.pieces.sources.Goals as goal

@@ -1,7 +1,7 @@
 use Rattle.std.proofs.Common.{[], ◌∷◌, ◌++◌, List, ◌∙◌, ap}
 use Rattle.fws_iv.specs.declared.iv.Iv.{Iv}
 use Rattle.fws_net.specs.declared.condition.Lit.{Lit}
-use Rattle.fws_sight.specs.declared.field.PacketField.TheVariants.{Icmp}
+use Rattle.fws_tree_seen.specs.declared.field.PacketField.TheVariants.{Icmp}
 use Rattle.fws_ipfw_put_rules.specs.Pieces.{set_lit}
 use Rattle.fws_ipfw_put_rules.proofs.Hitting.{icmp_pieces}
 use Rattle.fws_ipfw_put_rules.proofs.pieces.types.Goals as goal

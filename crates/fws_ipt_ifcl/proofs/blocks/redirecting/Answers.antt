@@ -3,8 +3,8 @@ use Rattle.fws_net.specs.declared.condition.Test.TheVariants.{Recv}
 use Rattle.fws_net.specs.Ends.{host_end}
 use Rattle.fws_net.specs.Faces.{face_addr}
 use Rattle.fws_ifcl.specs.declared.diagram.Act.TheVariants.{Dst}
-use Rattle.fws_rule.specs.Literals.{one, positive}
-use Rattle.fws_draw.specs.Rules.{ruled}
+use Rattle.fws_rules.specs.Literals.{one, positive}
+use Rattle.fws_ifcl_rules.specs.Rules.{ruled}
 use Rattle.fws_ipt_ifcl.proofs.Widths.{entry_built}
 use Rattle.fws_ipt_ifcl.proofs.blocks.redirecting.Goals as goal
 

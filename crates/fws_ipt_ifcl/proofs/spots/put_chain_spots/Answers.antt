@@ -1,5 +1,5 @@
 use Rattle.std.proofs.Common.{◌++◌, ap, ◌∙◌}
-use Rattle.fws_draw.specs.UsedPlaces.{spots_from}
+use Rattle.fws_ifcl_rules.specs.UsedPlaces.{spots_from}
 use Rattle.fws_ipt.specs.Refusals.{head_width}
 use Rattle.fws_ipt_ifcl.specs.Diagram.{is_on_source}
 use Rattle.fws_ipt_ifcl.specs.Placed.{rules_told}

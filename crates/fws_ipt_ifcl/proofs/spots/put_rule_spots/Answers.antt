@@ -1,6 +1,6 @@
 use Rattle.std.proofs.Common.{◌≡◌, ◌+◌, ◌<◌, ◌∷◌, ◌++◌, length, drop, sym, ap, ◌∙◌}
 use Rattle.std.proofs.lemmas.List.{at_drop_more}
-use Rattle.fws_draw.specs.UsedPlaces.{spots_from}
+use Rattle.fws_ifcl_rules.specs.UsedPlaces.{spots_from}
 use Rattle.fws_ipt.specs.Refusals.{width_of}
 use Rattle.fws_ipt_ifcl.specs.declared.side.SideTest.TheVariants.{Each}
 use Rattle.fws_ipt_ifcl.specs.Placed.{rules_told}

@@ -1,5 +1,5 @@
 use Rattle.std.proofs.Common.{◌≡◌, ◌++◌, Bool, drop}
-use Rattle.fws_draw.specs.UsedPlaces.{spots_from}
+use Rattle.fws_ifcl_rules.specs.UsedPlaces.{spots_from}
 use Rattle.fws_ipt_ifcl.specs.Placed.{rules_told}
 use Rattle.fws_ipt_ifcl.proofs.spots.put_rule_spots.Given as goal
 

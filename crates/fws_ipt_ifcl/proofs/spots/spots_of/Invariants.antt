@@ -1,5 +1,5 @@
 use Rattle.std.proofs.Common.{◌≡◌, ◌++◌, drop}
-use Rattle.fws_draw.specs.UsedPlaces.{chain_spots}
+use Rattle.fws_ifcl_rules.specs.UsedPlaces.{chain_spots}
 use Rattle.fws_ipt_ifcl.specs.Placed.{chains_told, spots_of}
 use Rattle.fws_ipt_ifcl.proofs.spots.spots_of.Given as goal
 

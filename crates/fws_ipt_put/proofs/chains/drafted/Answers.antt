@@ -1,5 +1,5 @@
 use Rattle.std.proofs.Common.{◌+◌, ◌++◌, length, ap, ◌∙◌, subst}
-use Rattle.fws_sight.specs.declared.seen.Seen.TheVariants as seens
+use Rattle.fws_tree_seen.specs.declared.seen.Seen.TheVariants as seens
 use Rattle.fws_ipt.specs.declared.config.IptTable.TheVariants.{Filter, Mangle}
 use Rattle.fws_net.specs.Points.{tops_of}
 use Rattle.fws_tree.specs.Plain.{IsReduced}

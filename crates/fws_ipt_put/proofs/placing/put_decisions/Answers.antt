@@ -1,7 +1,7 @@
 use Rattle.std.proofs.Common.{◌+◌, ◌^◌, ◌<◌, List, length, All, arith, sym, ap, ◌∙◌, subst}
 use Rattle.fws_net.specs.Points.{tops_of}
-use Rattle.fws_sight.specs.declared.seen.Seen.TheVariants.{Entered, Routed}
-use Rattle.fws_sight.specs.SightLaws.{HasImages}
+use Rattle.fws_tree_seen.specs.declared.seen.Seen.TheVariants.{Entered, Routed}
+use Rattle.fws_tree_seen.specs.SightLaws.{HasImages}
 use Rattle.fws_ipt_put.specs.declared.marks.Mark.{Mark}
 use Rattle.fws_ipt_put.specs.Drafts.{IsDraft, SetsMarks}
 use Rattle.fws_ipt_put.specs.Marks.{AreMarks, HaveBlocks, passing, verdict_of}

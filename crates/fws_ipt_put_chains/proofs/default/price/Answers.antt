@@ -1,7 +1,7 @@
 use Rattle.std.proofs.Common.{◌≡◌, ℕ, ◌≤◌, true, subst, arith}
 use Rattle.fws_iv.specs.Ivs.{has}
-use Rattle.fws_sight.specs.declared.field.PacketField.{PacketField}
-use Rattle.fws_sight.specs.Fields.{top_of}
+use Rattle.fws_tree_seen.specs.declared.field.PacketField.{PacketField}
+use Rattle.fws_tree_seen.specs.Fields.{top_of}
 use Rattle.fws_ipt_put_chains.proofs.default.price.Goals as goal
 
 pub cubes-requires : goal.cubes-requires

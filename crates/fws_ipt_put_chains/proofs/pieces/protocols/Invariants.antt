@@ -1,4 +1,4 @@
-use Rattle.fws_sight.specs.declared.field.PacketField.TheVariants.{Proto}
+use Rattle.fws_tree_seen.specs.declared.field.PacketField.TheVariants.{Proto}
 use Rattle.fws_ipt_put_chains.specs.Conds.{AreValuesBelow}
 use Rattle.fws_ipt_put_chains.proofs.pieces.protocols.Given as goal
 

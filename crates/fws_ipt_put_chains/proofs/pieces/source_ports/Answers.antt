@@ -1,7 +1,7 @@
 use Rattle.std.proofs.Common.{◌≡◌, List, ap, ◌∙◌}
 use Rattle.std.proofs.lemmas.Result.{IfOk-weaker}
 use Rattle.fws_net.specs.declared.condition.Lit.{Lit}
-use Rattle.fws_sight.specs.declared.field.PacketField.TheVariants.{Sport}
+use Rattle.fws_tree_seen.specs.declared.field.PacketField.TheVariants.{Sport}
 use Rattle.fws_ipt_put_chains.specs.Conds.{port_conds}
 use Rattle.fws_ipt_put_chains.specs.Pieces.{ArePieces}
 use Rattle.fws_ipt_put_chains.proofs.Hits.{sport_pieces}

@@ -2,7 +2,7 @@ use Rattle.std.proofs.Common.{◌≡◌, List}
 use Rattle.std.specs.Prelude.{map}
 use Rattle.std.proofs.lemmas.Result.{IfOk-weaker}
 use Rattle.fws_net.specs.declared.condition.Lit.{Lit}
-use Rattle.fws_sight.specs.declared.field.PacketField.TheVariants.{Src}
+use Rattle.fws_tree_seen.specs.declared.field.PacketField.TheVariants.{Src}
 use Rattle.fws_ipt_put_chains.specs.declared.coming.Coming.{Coming}
 use Rattle.fws_ipt_put_chains.specs.Conds.{range_cond}
 use Rattle.fws_ipt_put_chains.specs.Pieces.{ArePieces}

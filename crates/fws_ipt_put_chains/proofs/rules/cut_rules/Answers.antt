@@ -6,7 +6,7 @@ use Rattle.fws_ipt.specs.declared.config.IptGo.{IptGo}
 use Rattle.fws_ipt.specs.declared.config.IptGo.TheVariants.{Drop}
 use Rattle.fws_ipt.specs.declared.config.IptRule.{IptRule}
 use Rattle.fws_tree.specs.declared.node.Kid.{Kid}
-use Rattle.fws_sight.specs.Fields.{top_of}
+use Rattle.fws_tree_seen.specs.Fields.{top_of}
 use Rattle.fws_ipt_put_chains.specs.Pieces.{unspelled}
 use Rattle.fws_ipt_put_chains.specs.Rules.{act_at, AreKidRules}
 use Rattle.fws_ipt_put_chains.proofs.Sorted.{parts_below, spelled_beside, split_at_place}

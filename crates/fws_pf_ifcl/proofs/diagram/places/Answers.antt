@@ -6,7 +6,7 @@ use Rattle.fws_ifcl.specs.Soundness.{ifcl_ok}
 use Rattle.fws_ifcl.specs.Spots.{are_spots_of, told}
 use Rattle.fws_ifcl.specs.Uses.{used_places}
 use Rattle.fws_ifcl.specs.Walk.{means}
-use Rattle.fws_draw.specs.Straight.{is_straight}
+use Rattle.fws_ifcl_rules.specs.Straight.{is_straight}
 use Rattle.fws_pf.specs.Walk.{walk}
 use Rattle.fws_pf_ifcl.specs.Placed.{placed_of, rule_count}
 use Rattle.fws_pf_ifcl.proofs.Counted.{spots_right}

@@ -1,5 +1,5 @@
 use Rattle.std.proofs.Common.{◌≡◌, ◌++◌, drop}
-use Rattle.fws_draw.specs.UsedPlaces.{spots_from}
+use Rattle.fws_ifcl_rules.specs.UsedPlaces.{spots_from}
 use Rattle.fws_pf_ifcl.specs.Placed.{filter_told}
 use Rattle.fws_pf_ifcl.proofs.spots.put_filter_spots.Given as goal
 

@@ -1,5 +1,5 @@
 use Rattle.std.proofs.Common.{◌++◌, ap, ◌∙◌}
-use Rattle.fws_draw.specs.UsedPlaces.{spots_from}
+use Rattle.fws_ifcl_rules.specs.UsedPlaces.{spots_from}
 use Rattle.fws_pf.specs.Uses.{first_filter_rule, first_translation}
 use Rattle.fws_pf_ifcl.specs.Diagram.{filter_place, translations_place}
 use Rattle.fws_pf_ifcl.specs.Placed.{filter_told, translations_told}

@@ -1,5 +1,5 @@
 use Rattle.std.proofs.Common.{◌≡◌, ℕ, ◌++◌, Bool, drop}
-use Rattle.fws_draw.specs.UsedPlaces.{spots_from}
+use Rattle.fws_ifcl_rules.specs.UsedPlaces.{spots_from}
 use Rattle.fws_pf_ifcl.specs.Placed.{translations_told}
 use Rattle.fws_pf_ifcl.proofs.spots.put_translation_spots.Given as goal
 

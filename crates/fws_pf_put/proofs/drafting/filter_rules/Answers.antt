@@ -3,8 +3,8 @@ use Rattle.fws_net.specs.Points.{tops_of}
 use Rattle.fws_pf.specs.declared.config.PfRule.{PfRule}
 use Rattle.fws_pf_put_filter.specs.Filters.{IsFilter}
 use Rattle.fws_tree.specs.Shared.{IsShared}
-use Rattle.fws_sight.specs.declared.seen.Seen.TheVariants.{Entered}
-use Rattle.fws_sight.specs.Shown.{IsTold}
+use Rattle.fws_tree_seen.specs.declared.seen.Seen.TheVariants.{Entered}
+use Rattle.fws_tree_seen.specs.Shown.{IsTold}
 use Rattle.fws_pf_put.proofs.drafting.filter_rules.Goals as goal
 
 pub put_filter-requires : goal.put_filter-requires

@@ -1,7 +1,7 @@
 use Rattle.std.proofs.Common.{ℕ, List, sym, subst}
 use Rattle.fws_tree.specs.Shared.{IsShared}
-use Rattle.fws_sight.specs.declared.seen.Seen.TheVariants.{Entered}
-use Rattle.fws_sight.specs.Shown.{IsTold}
+use Rattle.fws_tree_seen.specs.declared.seen.Seen.TheVariants.{Entered}
+use Rattle.fws_tree_seen.specs.Shown.{IsTold}
 use Rattle.fws_pf_put_nat.specs.Translations.{IsTranslations, KeepsPortsOutward, WritesOneEnd, WritesPortsOfProtocols}
 use Rattle.fws_pf_put.proofs.Premises.{keeps_ports, one_end, ports_of_protocols}
 use Rattle.fws_pf_put.proofs.drafting.put_pass.Goals as goal

@@ -1,7 +1,7 @@
 use Rattle.std.proofs.Common.{List}
 use Rattle.std.proofs.lemmas.Result.{IfOk-weaker}
 use Rattle.fws_net.specs.declared.condition.Lit.{Lit}
-use Rattle.fws_sight.specs.declared.field.PacketField.TheVariants.{Dst}
+use Rattle.fws_tree_seen.specs.declared.field.PacketField.TheVariants.{Dst}
 use Rattle.fws_pf_put_filter.specs.Pieces.{ArePieces, AreRanges}
 use Rattle.fws_pf_put_filter.proofs.Hitting.{dst_pieces}
 use Rattle.fws_pf_put_filter.proofs.set_pieces.destinations.Goals as goal

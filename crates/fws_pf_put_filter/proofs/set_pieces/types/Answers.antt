@@ -1,7 +1,7 @@
 use Rattle.std.proofs.Common.{List}
 use Rattle.std.proofs.lemmas.Result.{IfOk-weaker}
 use Rattle.fws_net.specs.declared.condition.Lit.{Lit}
-use Rattle.fws_sight.specs.declared.field.PacketField.TheVariants.{Icmp}
+use Rattle.fws_tree_seen.specs.declared.field.PacketField.TheVariants.{Icmp}
 use Rattle.fws_pf_put_filter.specs.Pieces.{ArePieces, AreValuesBelow}
 use Rattle.fws_pf_put_filter.proofs.Hitting.{icmp_pieces}
 use Rattle.fws_pf_put_filter.proofs.set_pieces.types.Goals as goal

@@ -7,7 +7,7 @@ use Rattle.fws_tree.specs.declared.node.Node.{Node}
 use Rattle.fws_tree.specs.declared.node.Node.TheVariants.{Leaf, Cut}
 use Rattle.fws_tree.specs.Plain.{Plain}
 use Rattle.fws_tree.specs.Shared.{subtree_of}
-use Rattle.fws_sight.specs.Cuts.{kids_of}
+use Rattle.fws_tree_seen.specs.Cuts.{kids_of}
 use Rattle.fws_pf_put_nat.specs.declared.ends.Ends.{Ends}
 use Rattle.fws_pf_put_nat.specs.Ends.{IsAccepted, IsKidAccepted, IsOutcome, Tells}
 use Rattle.fws_pf_put_nat.proofs.Joining.{ends_more}

@@ -2,7 +2,7 @@ use Rattle.std.proofs.Common.{◌≡◌, ◌<◌, Some, List, length, slice_get,
 use Rattle.std.proofs.lemmas.List.{take_all}
 use Rattle.std.proofs.lemmas.Option.{slice_get-get_or}
 use Rattle.fws_tree.specs.declared.node.Kid.{Kid}
-use Rattle.fws_sight.specs.Cuts.{kids_of}
+use Rattle.fws_tree_seen.specs.Cuts.{kids_of}
 use Rattle.fws_pf_put_nat.specs.Ends.{IsKidAccepted, Tells}
 use Rattle.fws_pf_put_nat.proofs.Joining.{kid_more}
 use Rattle.fws_pf_put_nat.proofs.ends.kid_ends.Goals as goal

@@ -1,7 +1,7 @@
 use Rattle.std.proofs.Common.{◌≡◌, ℕ, Bool, Some, take, slice_get}
 use Rattle.fws_net.specs.declared.outcome.Outcome.{Outcome}
 use Rattle.fws_tree.specs.Plain.{Plain}
-use Rattle.fws_sight.specs.Cuts.{kids_of}
+use Rattle.fws_tree_seen.specs.Cuts.{kids_of}
 use Rattle.fws_pf_put_nat.specs.declared.ends.Ends.{Ends}
 use Rattle.fws_pf_put_nat.specs.Ends.{IsAccepted, IsKidAccepted, Tells}
 use Rattle.fws_pf_put_nat.proofs.ends.kid_ends.Given as goal

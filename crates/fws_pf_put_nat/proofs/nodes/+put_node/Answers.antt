@@ -2,7 +2,7 @@ use Rattle.std.proofs.Common.{◌≡◌, ◌++◌, [], false, Some, List, length
 use Rattle.std.proofs.lemmas.Option.{slice_get-get_or}
 use Rattle.fws_tree.specs.declared.node.Kid.{Kid}
 use Rattle.fws_tree.specs.declared.node.Node.TheVariants.{Cut}
-use Rattle.fws_sight.specs.Cuts.{IsCutNode}
+use Rattle.fws_tree_seen.specs.Cuts.{IsCutNode}
 use Rattle.fws_pf_put_nat.specs.Scenes.{IsRootNode, Scene}
 use Rattle.fws_pf_put_nat.specs.Turns.{AreTurnRules, AreTurns, IsGoodTurn}
 use Rattle.fws_pf_put_nat.specs.Paths.{no_parts, number_of}

@@ -1,5 +1,5 @@
 use Rattle.std.proofs.Common.{◌≡◌, ◌++◌, drop, map}
-use Rattle.fws_draw.specs.Rules.{always}
+use Rattle.fws_ifcl_rules.specs.Rules.{always}
 use Rattle.fws_pfo_ifcl.proofs.acting.put_acts.Given as goal
 
 abbrev pub invariant-loop-act : goal.invariant-loop-act

@@ -1,5 +1,0 @@
-use Rattle.fws_draw.proofs.Unfolding.{unfolds}
-use Rattle.fws_draw.proofs.laws.straight_diagrams_unfold.Goals as goal
-
-pub returns : goal.returns
-returns c d straight = unfolds d straight

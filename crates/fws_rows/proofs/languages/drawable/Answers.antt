@@ -1,4 +1,0 @@
-use Rattle.fws_rows.proofs.languages.drawable.Goals as goal
-
-pub returns : goal.returns
-returns c = c.spelled_diagrams.ensures c.args.site.now c.args.text.now c.in_ok-config.config c.in_ok-config.ensures

@@ -1,5 +1,0 @@
-use Rattle.fws_rule.proofs.AlikeWays.{alike_packets_stay_alike}
-use Rattle.fws_rule.proofs.laws.alike_packets_stay_alike.Goals as goal
-
-pub returns : goal.returns
-returns c = alike_packets_stay_alike

@@ -1,5 +1,0 @@
-use Rattle.fws_rule.proofs.Parts.{regular_parts_make_alike_walks}
-use Rattle.fws_rule.proofs.laws.regular_parts_make_alike_walks.Goals as goal
-
-pub returns : goal.returns
-returns c = regular_parts_make_alike_walks

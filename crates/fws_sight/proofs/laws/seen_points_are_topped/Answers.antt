@@ -1,5 +1,0 @@
-use Rattle.fws_sight.proofs.Reaching.{topped_by}
-use Rattle.fws_sight.proofs.laws.seen_points_are_topped.Goals as goal
-
-pub returns : goal.returns
-returns c = topped_by

@@ -1,5 +1,0 @@
-use Rattle.fws_sight.proofs.Trees.{kids_before}
-use Rattle.fws_sight.proofs.node_laws.kids_stand_before.Goals as goal
-
-pub returns : goal.returns
-returns c = kids_before
