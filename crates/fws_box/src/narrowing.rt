@@ -13,8 +13,8 @@ use bumpalo::Bump;
 use fws_iv::Ivs;
 use fws_num::Memory;
 
-/// The points of the area whose value of the field is in the set, or `None` where there are none. Where the set
-/// has all of the field's side, the box is the area itself. An error is want of memory.
+/// The points of the area whose value of the field is in the set, or `None` where there are none. Where the set has all of the
+/// field's side, the box is the area itself. Fails if memory runs out.
 pub fn narrow<'b>(
     bump: &'b Bump,
     area: &PBox<'b>,
@@ -41,8 +41,8 @@ fn narrow_by<'b>(
     Ok(area.with(field, side))
 }
 
-/// The box of the points that both boxes have, or `None` where there are none. Where one box's side of a field
-/// lies within the other's, that side itself is kept. An error is want of memory.
+/// The box of the points that both boxes have, or `None` where there are none. Where one box's side of a field lies within the
+/// other's, that side itself is kept. Fails if memory runs out.
 pub fn meet<'b>(bump: &'b Bump, a: &PBox<'b>, b: &PBox<'b>) -> Result<Option<PBox<'b>>, Memory>
     ensures common { IfOk result (λ o. (p : List ℕ) → length p ≡ 12 → unwrap_or (option_map (λ m. sides_have (sides_of m) p) o) false ≡ (sides_have (sides_of a.now) p && sides_have (sides_of b.now) p)) }
     ensures some { IfOk result (λ o. IfSome o (λ m. (p : List ℕ) × (length p ≡ 12) × (sides_have (sides_of m) p ≡ true))) }

@@ -74,7 +74,7 @@ impl<'b> PBox<'b> {
         point
     }
 
-    /// The sides as sets of their own, which outlive the arena. An error is want of memory.
+    /// The sides as sets of their own, which outlive the arena. Fails if memory runs out.
     pub fn to_sides(&self, alloc: Global) -> Result<[Ivs; 12], Memory>
         ensures { IfOk result (λ sides. sides ≡ sides_of self.now) }
     {

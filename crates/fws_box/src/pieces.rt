@@ -34,9 +34,8 @@ fn add_outside<'b>(
     Ok(())
 }
 
-/// Boxes that share no point, of the points of `a` that `b` has not: at most twelve. Each field has at most two
-/// new sides, what the boxes share and what is left of `a`, and the pieces have them in common. An error is
-/// want of memory.
+/// Boxes that share no point, of the points of `a` that `b` has not: at most twelve. Each field has at most two new sides, what the
+/// boxes share and what is left of `a`, and the pieces have them in common. Fails if memory runs out.
 pub fn cut<'b>(
     alloc: Global,
     bump: &'b Bump,

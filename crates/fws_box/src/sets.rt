@@ -57,8 +57,7 @@ fn room_for(side: &[Iv], set: &[Iv]) -> usize {
     side.len().saturating_add(set.len()).saturating_sub(1)
 }
 
-/// The numbers of the side that are in the set: the side itself where all of them are. An error is want of
-/// memory.
+/// The numbers of the side that are in the set: the side itself where all of them are. Fails if memory runs out.
 pub(crate) fn common<'b>(bump: &'b Bump, side: &'b [Iv], set: &[Iv]) -> Result<&'b [Iv], Memory>
     requires side { IsRegular side.now }
     requires set { IsRegular set.now }
@@ -73,8 +72,7 @@ pub(crate) fn common<'b>(bump: &'b Bump, side: &'b [Iv], set: &[Iv]) -> Result<&
     Ok(into_bump_slice(both))
 }
 
-/// The numbers that the sides share: one of the sides itself where it lies within the other. An error is want
-/// of memory.
+/// The numbers that the sides share: one of the sides itself where it lies within the other. Fails if memory runs out.
 pub(crate) fn shared<'b>(bump: &'b Bump, a: &'b [Iv], b: &'b [Iv]) -> Result<&'b [Iv], Memory>
     requires first { IsRegular a.now }
     requires second { IsRegular b.now }
@@ -87,7 +85,7 @@ pub(crate) fn shared<'b>(bump: &'b Bump, a: &'b [Iv], b: &'b [Iv]) -> Result<&'b
     common(bump, a, b)
 }
 
-/// The numbers of the side that are not in the set. An error is want of memory.
+/// The numbers of the side that are not in the set. Fails if memory runs out.
 pub(crate) fn rest<'b>(bump: &'b Bump, side: &[Iv], set: &[Iv]) -> Result<&'b [Iv], Memory>
     requires side { IsRegular side.now }
     requires set { IsRegular set.now }

@@ -15,7 +15,7 @@ pub fn no_sides(alloc: Global) -> [Ivs; 12]
     array::from_fn(|_| Ivs::none(alloc))
 }
 
-/// The whole range of each field, up to its top. An error is want of memory.
+/// The whole range of each field, up to its top. Fails if memory runs out.
 pub fn whole_sides(alloc: Global, tops: &[u32; 12]) -> Result<[Ivs; 12], Memory>
     ensures { IfOk result (λ sides. sides ≡ whole_sides tops.now) }
 {
@@ -26,7 +26,7 @@ pub fn whole_sides(alloc: Global, tops: &[u32; 12]) -> Result<[Ivs; 12], Memory>
     Ok(sides)
 }
 
-/// Equal sides. An error is want of memory.
+/// Equal sides. Fails if memory runs out.
 pub fn copy_sides(alloc: Global, sides: &[Ivs; 12]) -> Result<[Ivs; 12], Memory>
     ensures { IfOk result (λ copies. copies ≡ sides.now) }
 {
@@ -37,8 +37,7 @@ pub fn copy_sides(alloc: Global, sides: &[Ivs; 12]) -> Result<[Ivs; 12], Memory>
     Ok(copies)
 }
 
-/// The sides of the points that lie in both. The time is linear in the number of intervals. An error
-/// is want of memory.
+/// The sides of the points that lie in both. The time is linear in the number of intervals. Fails if memory runs out.
 pub fn meet_sides(alloc: Global, a: &[Ivs; 12], b: &[Ivs; 12]) -> Result<[Ivs; 12], Memory>
     ensures { IfOk result (λ m. (p : List ℕ) → sides_have m p ≡ (sides_have a.now p && sides_have b.now p)) }
 {

@@ -10,7 +10,7 @@ use bumpalo::Bump;
 use fws_iv::Iv;
 use fws_num::Memory;
 
-/// The box of the points of which no value is past its top. An error is want of memory.
+/// The box of the points of which no value is past its top. Fails if memory runs out.
 pub fn full<'b>(bump: &'b Bump, tops: &Point) -> Result<PBox<'b>, Memory>
     ensures { IfOk result (λ b. sides_of b ≡ whole_sides tops.now) }
 {

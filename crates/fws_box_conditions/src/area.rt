@@ -12,7 +12,7 @@ use fws_box::{PBox, full};
 use fws_net::{Site, tops};
 use fws_num::Memory;
 
-/// The box of all points of the site. An error is want of memory.
+/// The box of all points of the site. Fails if memory runs out.
 pub fn whole_site<'b>(bump: &'b Bump, site: &Site) -> Result<PBox<'b>, Memory>
     requires { IsSound site.now }
     ensures whole { IfOk result (λ b. sides_of b ≡ whole_sides (tops_of site.now)) }

@@ -86,8 +86,8 @@ fn those_where<'b>(
     Ok(boxes)
 }
 
-/// Where the condition holds in the area, as rules see the packets in the scene: boxes that share no point. An
-/// error is want of memory.
+/// Where the condition holds in the area, as rules see the packets in the scene: boxes that share no point. Fails if memory runs
+/// out.
 ///
 /// The number of boxes grows with that of the literals, and with that of the blocks of addresses over which
 /// an end of fewer than 32 bits is written where a test tells addresses of one block apart.

@@ -19,8 +19,7 @@ pub struct Ways {
 }
 
 impl Ways {
-    /// The sets of the site. The time grows with the number of interfaces times that of routes. An error is want
-    /// of memory.
+    /// The sets of the site. The time grows with the number of interfaces times that of routes. Fails if memory runs out.
     pub fn of_site(alloc: Global, site: &Site) -> Result<Ways, Memory>
         requires { IsSound site.now }
         ensures { IfOk result (λ ways. AreWaysOf site.now ways) }

@@ -47,8 +47,7 @@ fn differing(packet: Packet, kind: Kind, first: &Outcome, second: &Outcome) -> C
     }
 }
 
-/// A point at which two tables come to different fates of packets of this kind, if there is one. An error is want of
-/// memory.
+/// A point at which two tables come to different fates of packets of this kind, if there is one. Fails if memory runs out.
 fn difference(
     alloc: Global,
     state: State,
@@ -64,7 +63,7 @@ fn difference(
     Ok(found)
 }
 
-/// What is said of two tables of packets of this kind. An error is want of memory.
+/// What is said of two tables of packets of this kind. Fails if memory runs out.
 fn compared(
     alloc: Global,
     site: &Site,
@@ -90,9 +89,9 @@ fn compared(
     }
 }
 
-/// Whether two policies do the same: `Same` exactly where their tables give every packet of the site, new or established, the
-/// same fate, and else a packet with its two fates, which differ. Outcomes that are written differently may come to the same
-/// fate. An error is want of memory. Where the tables are those of two walks, it is said of these.
+/// Whether two policies do the same: `Same` exactly where their tables give every packet of the site, new or established, the same
+/// fate, and else a packet with its two fates, which differ. Outcomes that are written differently may come to the same fate. Fails
+/// if memory runs out. Where the tables are those of two walks, it is said of these.
 ///
 /// The time is that of pairing the tables of each kind, which grows with the pairs of nodes that meet, and that of going through the
 /// rows of the pairs that aren't equal as written, up to the first one that has a packet with different fates. A row takes time by its

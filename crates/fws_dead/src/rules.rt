@@ -17,8 +17,8 @@ fn put_label(out: &mut Text, labels: &[Text], n: u32) -> Result<(), Memory>
     }
 }
 
-/// Appends the line of a rule, of which the number is counted from 0: its number counted from 1, a blank, and its label. An
-/// error is want of memory.
+/// Appends the line of a rule, of which the number is counted from 0: its number counted from 1, a blank, and its label. Fails if
+/// memory runs out.
 pub fn put_rule_line(out: &mut Text, labels: &[Text], n: u32) -> Result<(), Memory>
     ensures { OnOk result (out.new ≡ out.old ++ rule_line labels.now n) }
 {
@@ -39,8 +39,7 @@ fn put_rules(out: &mut Text, labels: &[Text], numbers: &[u32]) -> Result<(), Mem
     Ok(())
 }
 
-/// The text of these rules: `dead`, how many they are, and a line for each. Linear in what is written. An error is want of
-/// memory.
+/// The text of these rules: `dead`, how many they are, and a line for each. Linear in what is written. Fails if memory runs out.
 pub fn put_dead(alloc: Global, labels: &[Text], numbers: &[u32]) -> Result<Text, Memory>
     ensures { IfOk result (λ text. text ≡ dead_text labels.now numbers.now) }
 {

@@ -89,7 +89,7 @@ fn apart_below(
     Ok(None)
 }
 
-/// A point at which the outcomes of the tree come to different fates, if there is one. An error is want of memory.
+/// A point at which the outcomes of the tree come to different fates, if there is one. Fails if memory runs out.
 pub(crate) fn apart(
     alloc: Global,
     state: State,

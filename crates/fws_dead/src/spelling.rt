@@ -72,7 +72,7 @@ fn put_established(out: &mut Text, site: &Site, p: Packet, r: Rec) -> Result<(),
 }
 
 /// Appends the words of a packet with blanks between: eight, as a text of packets has them, and four more for the ends with which
-/// its connection sends it, where it has one. An error is want of memory.
+/// its connection sends it, where it has one. Fails if memory runs out.
 pub fn put_pair_words(
     out: &mut Text,
     site: &Site,
@@ -115,7 +115,7 @@ fn differing_line(
 }
 
 /// The line of a comparison: `same`, or `differ`, the words of a packet, and its two fates as a trace has them, with ` : ` ahead of
-/// each. An error is want of memory.
+/// each. Fails if memory runs out.
 pub fn put_comparison(alloc: Global, site: &Site, comparison: &Compare) -> Result<Text, Memory>
     ensures { IfOk result (λ text. text ≡ comparison_text site.now comparison.now) }
 {

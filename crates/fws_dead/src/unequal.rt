@@ -26,8 +26,8 @@ impl<L: Leaf> Relabelling<(L, L), Option<(L, L)>> for Unequal {
     }
 }
 
-/// The tree of the leaves that two trees have where these aren't equal. An error is want of memory. The time grows with the
-/// pairs of nodes that meet; where the trees are equal everywhere the result is one leaf.
+/// The tree of the leaves that two trees have where these aren't equal. Fails if memory runs out. The time grows with the pairs of
+/// nodes that meet; where the trees are equal everywhere the result is one leaf.
 pub(crate) fn unequal_leaves<L: Leaf>(
     alloc: Global,
     first: &Tree<L>,

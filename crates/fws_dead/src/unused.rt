@@ -25,7 +25,7 @@ use fws_unfold::{UnfoldAnswer, unfold_from};
 use std::alloc::Global;
 use std::collections::HashSet;
 
-/// For each of so many rules, whether one of its spots is at one of the places. An error is want of memory.
+/// For each of so many rules, whether one of its spots is at one of the places. Fails if memory runs out.
 fn used_rules(
     alloc: Global,
     rules: u32,
@@ -45,7 +45,7 @@ fn used_rules(
     Ok(marks)
 }
 
-/// The numbers of the rules that aren't marked, ascending. An error is want of memory.
+/// The numbers of the rules that aren't marked, ascending. Fails if memory runs out.
 fn unmarked(alloc: Global, rules: u32, marks: &[bool]) -> Result<Vec<u32>, Memory>
     requires { length marks.now ≡ rules }
     ensures { IfOk result (λ numbers. numbers.items ≡ filter (λ n. not (slice_index_or marks.now n false)) (range_with_len 0 rules)) }
@@ -60,7 +60,7 @@ fn unmarked(alloc: Global, rules: u32, marks: &[bool]) -> Result<Vec<u32>, Memor
 }
 
 /// The numbers of the rules, ascending, that no packet of the site uses, where the instructions of the code stand for rules at
-/// these places. An error is want of memory.
+/// these places. Fails if memory runs out.
 fn unused_by(
     alloc: Global,
     f: &Flat,

@@ -63,7 +63,7 @@ fn add_reached(
     Ok(())
 }
 
-/// Adds the places whose rules packets of this kind use. An error is want of memory.
+/// Adds the places whose rules packets of this kind use. Fails if memory runs out.
 fn add_used(
     alloc: Global,
     used: &mut HashSet<PlaceKey>,
@@ -83,8 +83,8 @@ fn add_used(
     Ok(())
 }
 
-/// The places whose rules packets of the site use, new or established ones, where the instructions of the code stand for the
-/// rules at these places. An error is want of memory.
+/// The places whose rules packets of the site use, new or established ones, where the instructions of the code stand for the rules
+/// at these places. Fails if memory runs out.
 pub(crate) fn used_places(
     alloc: Global,
     f: &Flat,

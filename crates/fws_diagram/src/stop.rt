@@ -6,7 +6,7 @@ use std::alloc::{AllocError, AllocFailed};
 /// Why a search ends early.
 #[derive(Clone, Copy, Debug, PartialEq, Eq)]
 pub enum Stop {
-    /// Want of memory.
+    /// Memory ran out.
     Memory,
     /// It took all the steps that it may take.
     Late,

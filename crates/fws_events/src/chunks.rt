@@ -165,7 +165,7 @@ impl Chunk {
         self.classes.class(p)
     }
 
-    /// Puts a connection behind the others. An error is want of memory, after which they are as before.
+    /// Puts a connection behind the others. Fails if memory runs out, and then they are as before.
     pub(crate) fn append(&mut self, conn: Conn) -> Result<(), Memory>
         ensures appended { OnOk result (self.new ≡ self.old ++ conn ∷ []) }
         ensures kept { OnErr result (self.new ≡ self.old) }

@@ -175,7 +175,7 @@ fn put_entry(
     }
 }
 
-/// How many there are with one more. An error is want of memory, as which a number past all others counts.
+/// How many there are with one more. Fails if memory or numbers run out.
 fn one_more(count: usize) -> Result<usize, Memory>
     ensures { IfOk result (λ next. next ≡ count + 1) }
 {
@@ -216,7 +216,7 @@ impl Listed {
         self.classes.class(p)
     }
 
-    /// Puts a connection behind the others. An error is want of memory, after which they are as before.
+    /// Puts a connection behind the others. Fails if memory runs out, and then they are as before.
     pub fn append(&mut self, conn: Conn) -> Result<(), Memory>
         ensures appended { OnOk result (self.new ≡ self.old ++ conn ∷ []) }
         ensures kept { OnErr result (self.new ≡ self.old) }

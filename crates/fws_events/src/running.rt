@@ -184,9 +184,9 @@ impl<'a> Run<'a> {
         }
     }
 
-    /// Answers an event by the tables, and leaves the list of connections that is behind it. A packet is met as
-    /// one of the site, with ends for which there is room. Site, tables and `tracks` stay. An error is want of memory, which comes only where a connection is to be appended; the
-    /// list is then as before.
+    /// Answers an event by the tables, and leaves the list of connections that is behind it. A packet is met as one of the site,
+    /// with ends for which there is room. Site, tables and `tracks` stay. Fails if memory runs out, which comes only where a
+    /// connection is to be appended; the list is then as before.
     ///
     /// Where a walk gives each packet of the site and each class the fate of the tables, answer and list are
     /// those of the walk; and so where the tables are those of the walk.

@@ -150,11 +150,10 @@ fn put_answers(
     Ok(())
 }
 
-/// The text of a run of events of the site that begins with no connections: for each packet its trace line, as
-/// `new drop` or, with the ends with which it is sent on, `est accept src=198.51.100.9:443 dst=10.0.0.7:40001`;
-/// for each expiry `expired k` or `no entry k`; and then `conns N` and the connections that are listed at the
-/// end, each in nine words, as `fws_trace::read_conns` reads them. Each packet is met as one of the site. An
-/// error is want of memory.
+/// The text of a run of events of the site that begins with no connections: for each packet its trace line, as `new drop` or, with
+/// the ends with which it is sent on, `est accept src=198.51.100.9:443 dst=10.0.0.7:40001`; for each expiry `expired k` or `no
+/// entry k`; and then `conns N` and the connections that are listed at the end, each in nine words, as `fws_trace::read_conns`
+/// reads them. Each packet is met as one of the site. Fails if memory runs out.
 ///
 /// Where a walk gives each packet of the site and each class the fate of the tables, the text is that of the
 /// walk; and so where the tables are those of the walk.

@@ -119,8 +119,8 @@ impl Sheet {
         Ok(())
     }
 
-    /// The points of the group go where the condition holds, as rules of the part see them. An error is want of memory, and a
-    /// group whose classes differ in what the sides show.
+    /// The points of the group go where the condition holds, as rules of the part see them. Fails if memory runs out, and a group
+    /// whose classes differ in what the sides show.
     fn divide(
         &mut self,
         alloc: Global,

@@ -139,7 +139,7 @@ pub(crate) fn execute_code(
 }
 
 /// The tree of what becomes of each packet of the site on the sides: of new ones, or of those of tracked connections, each with the
-/// ends with which its connection sends it. Off the sides it has `Drop`. An error is want of memory.
+/// ends with which its connection sends it. Off the sides it has `Drop`. Fails if memory runs out.
 ///
 /// Packets off the sides are left out before anything is executed, so that the work grows with the number of instructions and the
 /// pieces into which they cut each other's packets on the sides.
@@ -180,8 +180,8 @@ pub fn execute_within(
     }
 }
 
-/// The tree of what becomes of each packet of the site: of new ones, or of those of tracked connections,
-/// each with the ends with which its connection sends it. An error is want of memory.
+/// The tree of what becomes of each packet of the site: of new ones, or of those of tracked connections, each with the ends with
+/// which its connection sends it. Fails if memory runs out.
 ///
 /// The work grows with the number of instructions and the pieces into which they cut each other's packets,
 /// and not with the number of packets.

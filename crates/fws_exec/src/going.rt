@@ -27,8 +27,8 @@ pub(crate) enum Going {
     Leaving(Stage, u32),
 }
 
-/// The label of an act in a run that begins at the place. An error is want of memory, and a jump that goes further than
-/// labels can tell.
+/// The label of an act in a run that begins at the place. Fails if memory runs out, and a jump that goes further than labels can
+/// tell.
 pub(crate) fn label_of(place: u32, act: FlatAct) -> Result<u32, Memory>
     ensures told { IfOk result (λ label. label ≡ label_of place act) }
     ensures some { IfOk result (λ label. 1 ≤ label) }
@@ -51,8 +51,8 @@ fn label_to(place: u32, to: u32) -> Result<u32, Memory>
     }
 }
 
-/// The spot to which the label sends packets in a run that begins at the place. An error is want of memory, and a place
-/// that can't be.
+/// The spot to which the label sends packets in a run that begins at the place. Fails if memory runs out, and a place that can't
+/// be.
 fn spot_of(stage: Stage, place: u32, label: u32) -> Result<Spot, Memory>
     ensures { IfOk result (λ spot. spot ≡ spot_of stage place label) }
 {

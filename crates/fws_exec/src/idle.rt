@@ -102,7 +102,7 @@ fn act_without_idle(tested: &HashSet<u32>, mark: u32, act: FlatAct) -> FlatAct
     }
 }
 
-/// The code with what stands for its acts, so that no tag is put that isn't tested, but the mark. An error is want of memory.
+/// The code with what stands for its acts, so that no tag is put that isn't tested, but the mark. Fails if memory runs out.
 fn without_idle(
     alloc: Global,
     tested: &HashSet<u32>,
@@ -134,8 +134,8 @@ fn are_kept(tested: &HashSet<u32>, mark: u32, code: &[Ins]) -> bool
 }
 
 /// Code that does to every packet what the code of `f` does, and of which it uses the same instructions, and that puts no tag which
-/// no condition tests, but for one that stands for all that were made the only one. None where that is the code of `f` itself. An
-/// error is want of memory.
+/// no condition tests, but for one that stands for all that were made the only one. None where that is the code of `f` itself.
+/// Fails if memory runs out.
 pub(crate) fn without_idle_tags(alloc: Global, f: &Flat) -> Result<Option<Items<Ins>>, Memory>
     ensures idle { IfOk result (λ o. (mark : ℕ) × (unwrap_or o f.now.code ≡ without_idle (is_tested f.now.code) mark f.now.code)) }
     ensures ok { IfOk result (λ o. IfSome o (λ code. flat_ok (record f.now { code = code }) ≡ flat_ok f.now)) }

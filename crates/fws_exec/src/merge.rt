@@ -85,8 +85,8 @@ impl Roll {
         Ok(twins)
     }
 
-    /// Lets the numbers be given again of those classes that have become their twins. An error is want of memory, and a class
-    /// that has none.
+    /// Lets the numbers be given again of those classes that have become their twins. Fails if memory runs out, and a class that
+    /// has none.
     fn release_all(&mut self, alloc: Global, twins: &[u32], joined: &[u32]) -> Result<(), Memory>
         ensures released { OnOk result (AreReleased (is_joined twins.now joined.now) self.old.classes.items self.new.classes.items) }
     {
@@ -137,7 +137,8 @@ fn forget(hulls: &mut Vec<Hull>, twins: &[u32], joined: &[u32])
 }
 
 impl Sheet {
-    /// The classes that have a twin become it, whose hulls have their points already. An error is want of memory, and a twin that isn't one.
+    /// The classes that have a twin become it, whose hulls have their points already. Fails if memory runs out, or at a twin that
+    /// isn't one.
     fn join_all(&mut self, alloc: Global, twins: &[u32], joined: &[u32]) -> Result<(), Memory>
         requires sheet { IsSheet self.old }
         requires taken { (p : List ℕ) → IsWithin (tops_in self.old) p → HasAt self.old.hulls.items (slice_index_or twins.now (class_at self.old p) (class_at self.old p)) p }

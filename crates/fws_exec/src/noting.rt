@@ -58,8 +58,8 @@ fn note_place(reached: &mut Vec<bool>, place: u32)
     }
 }
 
-/// Notes that the instruction is used that the label tells, in a run from the place on. An error is want of memory, and a place
-/// that can't be.
+/// Notes that the instruction is used that the label tells, in a run from the place on. Fails if memory runs out, and a place that
+/// can't be.
 fn note_label(reached: &mut Vec<bool>, place: u32, touch: &Touch) -> Result<(), Memory>
     ensures set { OnOk result (AreSet (says_from place touch.now.label) reached.old.items reached.new.items) }
     ensures count { length reached.new.items ≡ length reached.old.items }

@@ -71,7 +71,7 @@ fn reach_code(
 }
 
 /// For each instruction of the code whether some packet of the site uses it: whether the packet's walk comes to it and its
-/// condition holds there. The packets are new ones, or those of tracked connections. An error is want of memory.
+/// condition holds there. The packets are new ones, or those of tracked connections. Fails if memory runs out.
 ///
 /// The work is that of executing the code, and of asking for the points of each instruction until one is found.
 pub fn reach(alloc: Global, f: &Flat, site: &Site, state: State) -> Result<Vec<bool>, Memory>

@@ -119,7 +119,7 @@ impl Roll {
         }
     }
 
-    /// The number of one more class. A value is added for the one behind it. An error is want of memory.
+    /// The number of one more class. A value is added for the one behind it. Fails if memory runs out.
     fn add_number(&self, values: &mut Values) -> Result<u32, Memory>
         ensures number { IfOk result (λ n. n ≡ length self.now.classes.items) }
         ensures values { Extends values.old values.new }
@@ -240,7 +240,7 @@ impl Roll {
         Ok(())
     }
 
-    /// Notes that the class with this number is at the place. An error is want of memory, and a place that isn't one of the code.
+    /// Notes that the class with this number is at the place. Fails if memory runs out, or at a place that isn't one of the code.
     fn wait(&mut self, number: u32, place: u32) -> Result<(), Memory>
         ensures { self.new.classes ≡ self.old.classes }
     {
@@ -327,8 +327,8 @@ impl Roll {
         }
     }
 
-    /// The class of the packets of the class with this number that go at the label. An error is want of memory, and a class
-    /// that isn't used.
+    /// The class of the packets of the class with this number that go at the label. Fails if memory runs out, or at a class that
+    /// isn't used.
     pub(crate) fn gone(
         &self,
         alloc: Global,

@@ -18,8 +18,8 @@ use fws_num::Memory;
 use fws_tree::Row;
 use std::alloc::Global;
 
-/// What becomes of each packet of the site, as rows: the paths of the reduced tree. Each packet lies in just
-/// one of them. For new packets no row asks for the last four fields. An error is want of memory.
+/// What becomes of each packet of the site, as rows: the paths of the reduced tree. Each packet lies in just one of them. For new
+/// packets no row asks for the last four fields. Fails if memory runs out.
 ///
 /// There may be many more rows than the tree has nodes, where tests of several fields cross.
 pub fn execute(

@@ -45,8 +45,8 @@ impl Going {
 }
 
 impl Roll {
-    /// Whether the packets of the class with this number that go at label 1 stand at the spot then, and rules did the same to
-    /// them as before. False tells nothing. An error is want of memory, and a class that isn't used.
+    /// Whether the packets of the class with this number that go at label 1 stand at the spot then, and rules did the same to them
+    /// as before. False tells nothing. Fails if memory runs out, or at a class that isn't used.
     fn stays(&self, alloc: Global, number: u32, going: Going, spot: Spot) -> Result<bool, Memory>
         ensures { IfOk result (λ stays. stays ≡ true → (c : AnyClass) → slice_get self.now.classes.items number ≡ Some c → Goes going 1 c.progress (record { spot = spot; progress = c.progress })) }
     {
@@ -58,8 +58,8 @@ impl Roll {
         Ok(gone.is(spot, &class.progress))
     }
 
-    /// Those of the numbers whose classes stand at the spot, as they are, when they go at label 1. An error is want of
-    /// memory, and a class that isn't used.
+    /// Those of the numbers whose classes stand at the spot, as they are, when they go at label 1. Fails if memory runs out, or at
+    /// a class that isn't used.
     pub(crate) fn stayers(
         &self,
         alloc: Global,

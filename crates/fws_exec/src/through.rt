@@ -166,8 +166,8 @@ impl Sheet {
         Ok(())
     }
 
-    /// The points of the group go where the instructions of the run send them. An error is want of memory, and a group whose
-    /// classes differ in what the sides show.
+    /// The points of the group go where the instructions of the run send them. Fails if memory runs out, and a group whose classes
+    /// differ in what the sides show.
     fn divide_run(
         &mut self,
         alloc: Global,

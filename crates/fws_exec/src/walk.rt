@@ -120,8 +120,8 @@ impl Sheet {
         Ok(())
     }
 
-    /// The classes at the first instruction of the part pass all of its instructions. An error is want of memory, and a class
-    /// that was left behind.
+    /// The classes at the first instruction of the part pass all of its instructions. Fails if memory runs out, and a class that
+    /// was left behind.
     pub(crate) fn walk(&mut self, alloc: Global, errand: &Errand<'_, '_>) -> Result<(), Memory>
         requires sheet { IsSheet self.old }
         requires ground { IsGround errand.now.ground }

@@ -4,14 +4,14 @@ ghost use Rattle.std.specs.Prelude.{◌≡◌, ◌+◌, IfOk};
 
 use fws_num::Memory;
 
-/// The sum. An error is want of memory, which a sum past all numbers counts as.
+/// The sum. Fails if memory runs out, or at a sum past all numbers.
 pub fn sum(a: usize, b: usize) -> Result<usize, Memory>
     ensures { IfOk result (λ n. n ≡ a + b) }
 {
     a.checked_add(b).ok_or(Memory)
 }
 
-/// The place `more` rules behind another one. An error is want of memory.
+/// The place `more` rules behind another one. Fails if memory runs out.
 pub fn place_behind(at: usize, more: usize) -> Result<u32, Memory>
     ensures { IfOk result (λ n. n ≡ at + more) }
 {

@@ -19,7 +19,7 @@ pub fn always(alloc: Global, act: Act) -> Rule
     }
 }
 
-/// The rule that acts where the literal holds. An error is want of memory.
+/// The rule that acts where the literal holds. Fails if memory runs out.
 pub fn ruled_by(alloc: Global, lit: Lit, act: Act) -> Result<Rule, Memory>
     ensures { IfOk result (λ rule. rule ≡ ruled (lit ∷ []) act) }
 {
@@ -28,7 +28,7 @@ pub fn ruled_by(alloc: Global, lit: Lit, act: Act) -> Result<Rule, Memory>
     Ok(Rule { cond, act })
 }
 
-/// Puts a rule behind the others. An error is want of memory.
+/// Puts a rule behind the others. Fails if memory runs out.
 pub fn put_rule(rules: &mut Vec<Rule>, cond: Cond, act: Act) -> Result<(), Memory>
     ensures { OnOk result (rules.new.items ≡ rules.old.items ++ ruled cond act ∷ []) }
 {
@@ -36,7 +36,7 @@ pub fn put_rule(rules: &mut Vec<Rule>, cond: Cond, act: Act) -> Result<(), Memor
     Ok(())
 }
 
-/// Puts a rule that acts everywhere behind the others. An error is want of memory.
+/// Puts a rule that acts everywhere behind the others. Fails if memory runs out.
 pub fn put_always(alloc: Global, rules: &mut Vec<Rule>, act: Act) -> Result<(), Memory>
     ensures { OnOk result (rules.new.items ≡ rules.old.items ++ always act ∷ []) }
 {
@@ -44,8 +44,8 @@ pub fn put_always(alloc: Global, rules: &mut Vec<Rule>, act: Act) -> Result<(), 
     Ok(())
 }
 
-/// Puts the two rules ahead of so many inner ones: where the condition holds the walk comes to them, else
-/// it goes on behind them. An error is want of memory.
+/// Puts the two rules ahead of so many inner ones: where the condition holds the walk comes to them, else it goes on behind them.
+/// Fails if memory runs out.
 pub fn put_guard(
     alloc: Global,
     rules: &mut Vec<Rule>,
@@ -60,7 +60,7 @@ pub fn put_guard(
     put_always(alloc, rules, Act::Skip(past))
 }
 
-/// The condition with the literal behind the others. An error is want of memory.
+/// The condition with the literal behind the others. Fails if memory runs out.
 pub fn narrowed(mut cond: Cond, lit: Lit) -> Result<Cond, Memory>
     ensures { IfOk result (λ c. c ≡ cond ++ lit ∷ []) }
 {

@@ -7,16 +7,15 @@ ghost use Rattle.fws_ifcl_rules.specs.UsedPlaces.{first_told, spots_from};
 use fws_ifcl::{Place, Spot};
 use fws_num::Memory;
 
-/// The number. An error is want of memory, which one past all numbers counts as.
+/// The number. Fails if memory or numbers run out.
 fn narrow(n: usize) -> Result<u32, Memory>
     ensures { IfOk result (λ m. m ≡ n) }
 {
     u32::try_from(n).map_err(|_| Memory)
 }
 
-/// Puts the spot behind the others of the configuration's rule with this number, for which a chain has the rules from
-/// one place on, up to the other: where the first of them stands, and none where it has none. An error is want of
-/// memory, or of numbers for rules.
+/// Puts the spot behind the others of the configuration's rule with this number, for which a chain has the rules from one place on,
+/// up to the other: where the first of them stands, and none where it has none. Fails if memory or numbers for rules run out.
 pub fn put_spot(
     spots: &mut Vec<Spot>,
     number: usize,

@@ -67,7 +67,7 @@ impl Contents {
         }
     }
 
-    /// Gives the name this content in place of an earlier one. After want of memory all is as before.
+    /// Gives the name this content in place of an earlier one. If memory runs out all is as before.
     pub(crate) fn hold(&mut self, name: &[u8], content: &[u8]) -> Result<(), Memory>
         ensures told { OnOk result (content_of self.new ≡ with_content (content_of self.old) name.now content.now) }
         ensures held { OnOk result ((asked : List ℕ) → is_held self.new asked ≡ (bytes_eq name.now asked || is_held self.old asked)) }

@@ -39,8 +39,7 @@ impl MemShelf {
         }
     }
 
-    /// Gives the name this content in place of an earlier one and changes nothing else. After want
-    /// of memory the shelf is as before.
+    /// Gives the name this content in place of an earlier one and changes nothing else. If memory runs out the shelf is as before.
     pub fn hold(&mut self, name: &[u8], content: &[u8]) -> Result<(), Memory>
         ensures told { OnOk result ((held : List ℕ → List ℕ) → ⟦<MemShelf as Shelf>⟧.told self.old ≡ Some held → ⟦<MemShelf as Shelf>⟧.told self.new ≡ Some (with_content held name.now content.now)) }
         ensures held { OnOk result ((asked : List ℕ) → shelf_holds self.new asked ≡ (bytes_eq name.now asked || shelf_holds self.old asked)) }

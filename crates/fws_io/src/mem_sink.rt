@@ -9,8 +9,8 @@ use fws_num::{Items, Text};
 use std::alloc::Global;
 
 /// Bytes in memory, a greatest length for one put, and a list of the puts that fail. A put that
-/// fails, or for which there is no memory, raises the count of faults; want of memory has a count of its
-/// own besides.
+/// fails, or for which there is no memory, raises the count of faults; those for which there is no memory
+/// have a count of their own besides.
 #[derive(Drop)]
 pub struct MemSink {
     bytes: Text,
@@ -109,8 +109,8 @@ impl Sink for MemSink {
         ensures count { OnOk result (⟦<MemSink as Sink>⟧.faults self.new ≡ ⟦<MemSink as Sink>⟧.faults self.old) }
         ensures never_falls { ⟦<MemSink as Sink>⟧.faults self.old ≤ ⟦<MemSink as Sink>⟧.faults self.new }
 
-        // A piece that isn't empty is a call, which fails where its number is listed, or for want of memory, and else
-        // takes what it may.
+        // A piece that isn't empty is a call, which fails where its number is listed, or because memory ran out, and else takes
+        // what it may.
         ensures taken { IfOk result (λ taken. taken ≡ min (length piece.now) (most_of self.old)) }
         ensures listed { 0 < length piece.now → IsTrue (is_listed (sink_fails self.old) (puts_made self.new)) → IsErr result }
         ensures fails { OnErr result (IsTrue (is_listed (sink_fails self.old) (puts_made self.new)) ⊎ Rose (puts_refused self.old) (puts_refused self.new)) }

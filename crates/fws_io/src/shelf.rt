@@ -13,7 +13,7 @@ pub enum ShelfAnswer {
     Failed,
     /// So many bytes were taken, and they are more than the limit.
     TooLong(usize),
-    /// Want of memory.
+    /// Memory ran out.
     Memory,
 }
 
@@ -38,9 +38,9 @@ pub trait Shelf {
     // How often the outside was asked for bytes.
     ghost turns: { Self → ℕ };
 
-    /// The whole content of the name. Answers `Failed` where a fault was counted for the name,
-    /// `TooLong` where the content has more than `limit` bytes, and `Memory` for want of memory. A call
-    /// takes at most `limit` and 1 turns, whatever the outside gives.
+    /// The whole content of the name. Answers `Failed` where a fault was counted for the name, `TooLong` where the content has more
+    /// than `limit` bytes, and `Memory` because memory ran out. A call takes at most `limit` and 1 turns, whatever the outside
+    /// gives.
     fn read(&mut self, alloc: Global, name: &[u8], limit: usize) -> Result<Text, ShelfAnswer>
         ensures same { told self.new ≡ told self.old }
         ensures whole { IfOk result (λ text. (held : List ℕ → List ℕ) → told self.old ≡ Some held → text ≡ held name.now) }

@@ -27,8 +27,7 @@ impl SureShelf {
         }
     }
 
-    /// Gives the name this content in place of an earlier one and changes nothing else. After want
-    /// of memory the shelf is as before.
+    /// Gives the name this content in place of an earlier one and changes nothing else. If memory runs out the shelf is as before.
     pub fn hold(&mut self, name: &[u8], content: &[u8]) -> Result<(), Memory>
         ensures told { OnOk result ((held : List ℕ → List ℕ) → ⟦<SureShelf as Shelf>⟧.told self.old ≡ Some held → ⟦<SureShelf as Shelf>⟧.told self.new ≡ Some (with_content held name.now content.now)) }
         ensures none { ⟦<SureShelf as Shelf>⟧.faults self.new ≡ (λ name. 0) }

@@ -15,7 +15,7 @@ use fws_num::Memory;
 use fws_rules::positive;
 use std::alloc::Global;
 
-/// The condition of packets that come in by an interface, or go out by it. An error is want of memory.
+/// The condition of packets that come in by an interface, or go out by it. Fails if memory runs out.
 fn at_face(alloc: Global, outward: bool, face: u8) -> Result<Cond, Memory>
     ensures { IfOk result (λ c. c ≡ at_face outward face) }
 {
@@ -30,8 +30,8 @@ fn at_face(alloc: Global, outward: bool, face: u8) -> Result<Cond, Memory>
     Ok(cond)
 }
 
-/// Puts the rules of a list that is applied behind the others: every packet passes where there is no list of the name. An error
-/// is want of memory.
+/// Puts the rules of a list that is applied behind the others: every packet passes where there is no list of the name. Fails if
+/// memory runs out.
 fn put_applying(
     alloc: Global,
     rules: &mut Vec<Rule>,
@@ -63,7 +63,7 @@ pub(crate) fn is_directed(outward: bool, group: &IosGroup) -> bool
     }
 }
 
-/// Puts the rules of a list behind the others if it is applied in this direction. An error is want of memory.
+/// Puts the rules of a list behind the others if it is applied in this direction. Fails if memory runs out.
 pub(crate) fn put_applied(
     alloc: Global,
     rules: &mut Vec<Rule>,
@@ -80,7 +80,7 @@ pub(crate) fn put_applied(
     Ok(())
 }
 
-/// Puts the rules of all lists that are applied in this direction behind the others. An error is want of memory.
+/// Puts the rules of all lists that are applied in this direction behind the others. Fails if memory runs out.
 pub(crate) fn put_all_applied(
     alloc: Global,
     rules: &mut Vec<Rule>,

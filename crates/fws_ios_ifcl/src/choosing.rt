@@ -13,8 +13,8 @@ use fws_num::{Memory, Text};
 use indexmap::IndexSet;
 use std::alloc::Global;
 
-/// Puts the rules of a list that chooses packets for an address behind the others: two rules behind the list write the address
-/// as the source of what it permits, and what it denies goes on behind these. An error is want of memory.
+/// Puts the rules of a list that chooses packets for an address behind the others: two rules behind the list write the address as
+/// the source of what it permits, and what it denies goes on behind these. Fails if memory runs out.
 fn put_choosing(
     alloc: Global,
     rules: &mut Vec<Rule>,
@@ -37,7 +37,7 @@ fn put_choosing(
     Ok(())
 }
 
-/// Puts the rules of a translation by the list of this name behind the others. An error is want of memory.
+/// Puts the rules of a translation by the list of this name behind the others. Fails if memory runs out.
 fn put_named(
     alloc: Global,
     rules: &mut Vec<Rule>,
@@ -56,8 +56,8 @@ fn put_named(
     }
 }
 
-/// Puts the rules of a translation by the list of this name behind the others, unless the list was asked before, whose answer
-/// would be the same. An error is want of memory.
+/// Puts the rules of a translation by the list of this name behind the others, unless the list was asked before, whose answer would
+/// be the same. Fails if memory runs out.
 fn put_listed(
     alloc: Global,
     rules: &mut Vec<Rule>,
@@ -77,7 +77,7 @@ fn put_listed(
     Ok(())
 }
 
-/// Puts the rules of a translation behind the others if it is by a list that wasn't asked before. An error is want of memory.
+/// Puts the rules of a translation behind the others if it is by a list that wasn't asked before. Fails if memory runs out.
 fn put_choosing_rules(
     alloc: Global,
     rules: &mut Vec<Rule>,
@@ -97,8 +97,7 @@ fn put_choosing_rules(
     }
 }
 
-/// Puts the rules of a translation behind the others if it is by a list, also one that was asked before. An error is want of
-/// memory.
+/// Puts the rules of a translation behind the others if it is by a list, also one that was asked before. Fails if memory runs out.
 pub(crate) fn put_asking(
     alloc: Global,
     rules: &mut Vec<Rule>,
@@ -116,7 +115,7 @@ pub(crate) fn put_asking(
     }
 }
 
-/// Puts the rules of all translations by lists behind the others. An error is want of memory.
+/// Puts the rules of all translations by lists behind the others. Fails if memory runs out.
 pub(crate) fn put_all_choosing(
     alloc: Global,
     rules: &mut Vec<Rule>,

@@ -25,7 +25,7 @@ use fws_num::{Items, Memory, Text};
 use fws_rules::{negative, positive};
 use std::alloc::Global;
 
-/// Puts a rule behind the others that acts where the literal holds. An error is want of memory.
+/// Puts a rule behind the others that acts where the literal holds. Fails if memory runs out.
 fn put_where(alloc: Global, rules: &mut Vec<Rule>, lit: Lit, act: Act) -> Result<(), Memory>
     ensures { OnOk result (rules.new.items ≡ rules.old.items ++ ruled (lit ∷ []) act ∷ []) }
 {
@@ -34,7 +34,7 @@ fn put_where(alloc: Global, rules: &mut Vec<Rule>, lit: Lit, act: Act) -> Result
     Ok(())
 }
 
-/// The rules of the lists that are applied in a direction. An error is want of memory.
+/// The rules of the lists that are applied in a direction. Fails if memory runs out.
 fn list_rules(
     alloc: Global,
     outward: bool,
@@ -49,7 +49,7 @@ fn list_rules(
     Ok(rules)
 }
 
-/// The rules of packets that keep their destinations, or have that of their connection. An error is want of memory.
+/// The rules of packets that keep their destinations, or have that of their connection. Fails if memory runs out.
 pub(crate) fn kept_destinations(alloc: Global, c: &IosConfig) -> Result<Vec<Rule>, Memory>
     ensures { IfOk result (λ rules. rules.items ≡ kept_destinations c.now) }
 {
@@ -66,7 +66,7 @@ pub(crate) fn kept_destinations(alloc: Global, c: &IosConfig) -> Result<Vec<Rule
     Ok(rules)
 }
 
-/// The rules that translate destinations. An error is want of memory.
+/// The rules that translate destinations. Fails if memory runs out.
 fn destination_rules(alloc: Global, c: &IosConfig) -> Result<Vec<Rule>, Memory>
     ensures { IfOk result (λ rules. rules.items ≡ destination_rules c.now) }
 {
@@ -75,7 +75,7 @@ fn destination_rules(alloc: Global, c: &IosConfig) -> Result<Vec<Rule>, Memory>
     Ok(rules)
 }
 
-/// The rules of packets that keep their sources, or have that of their connection. An error is want of memory.
+/// The rules of packets that keep their sources, or have that of their connection. Fails if memory runs out.
 pub(crate) fn kept_sources(alloc: Global, c: &IosConfig) -> Result<Vec<Rule>, Memory>
     ensures { IfOk result (λ rules. rules.items ≡ kept_sources c.now) }
 {
@@ -94,7 +94,7 @@ pub(crate) fn kept_sources(alloc: Global, c: &IosConfig) -> Result<Vec<Rule>, Me
     Ok(rules)
 }
 
-/// The rules that translate sources, by statics first and by lists then. An error is want of memory.
+/// The rules that translate sources, by statics first and by lists then. Fails if memory runs out.
 fn source_rules(alloc: Global, lists: &Lists, c: &IosConfig) -> Result<Vec<Rule>, Memory>
     requires { lists.now ≡ c.now.lists }
     ensures { IfOk result (λ rules. rules.items ≡ source_rules c.now) }
@@ -106,7 +106,7 @@ fn source_rules(alloc: Global, lists: &Lists, c: &IosConfig) -> Result<Vec<Rule>
     Ok(rules)
 }
 
-/// The chain of these rules. An error is want of memory.
+/// The chain of these rules. Fails if memory runs out.
 fn chain(alloc: Global, name: &[u8], rules: Vec<Rule>) -> Result<Chain, Memory>
     ensures { IfOk result (λ chain. chain ≡ record { name = name.now; rules = rules.items }) }
 {
@@ -116,7 +116,7 @@ fn chain(alloc: Global, name: &[u8], rules: Vec<Rule>) -> Result<Chain, Memory>
     })
 }
 
-/// Puts the chain of these rules behind the others. An error is want of memory.
+/// Puts the chain of these rules behind the others. Fails if memory runs out.
 pub(crate) fn put_chain(
     alloc: Global,
     chains: &mut Items<Chain>,
@@ -130,7 +130,7 @@ pub(crate) fn put_chain(
     Ok(())
 }
 
-/// Puts the chains behind the others, with the lists by their names. An error is want of memory.
+/// Puts the chains behind the others, with the lists by their names. Fails if memory runs out.
 fn put_chains(
     alloc: Global,
     chains: &mut Items<Chain>,
@@ -147,7 +147,7 @@ fn put_chains(
     Ok(())
 }
 
-/// Puts the chains behind the others, by their lists. An error is want of memory.
+/// Puts the chains behind the others, by their lists. Fails if memory runs out.
 fn put_all_chains(alloc: Global, chains: &mut Items<Chain>, c: &IosConfig) -> Result<(), Memory>
     ensures { OnOk result (chains.new ≡ chains.old ++ chains_of c.now) }
 {
@@ -155,7 +155,7 @@ fn put_all_chains(alloc: Global, chains: &mut Items<Chain>, c: &IosConfig) -> Re
     put_chains(alloc, chains, &lists, c)
 }
 
-/// The chains: lists as packets come in, destinations, sources, and lists as packets go out. An error is want of memory.
+/// The chains: lists as packets come in, destinations, sources, and lists as packets go out. Fails if memory runs out.
 fn chains_of(alloc: Global, c: &IosConfig) -> Result<Items<Chain>, Memory>
     ensures { IfOk result (λ chains. chains ≡ chains_of c.now) }
 {
@@ -177,7 +177,7 @@ fn stage_of(outward: bool, chain: u32) -> Stage
     }
 }
 
-/// The stages of two chains, on the side of packets that come in or that go out. An error is want of memory.
+/// The stages of two chains, on the side of packets that come in or that go out. Fails if memory runs out.
 pub(crate) fn two_stages(
     alloc: Global,
     outward: bool,
@@ -192,7 +192,7 @@ pub(crate) fn two_stages(
     Ok(stages)
 }
 
-/// The diagram, put together from its chains and stages. An error is want of memory.
+/// The diagram, put together from its chains and stages. Fails if memory runs out.
 fn drawn(alloc: Global, c: &IosConfig) -> Result<Ifcl, Memory>
     ensures { IfOk result (λ d. d ≡ diagram_of c.now) }
 {
@@ -209,9 +209,9 @@ fn drawn(alloc: Global, c: &IosConfig) -> Result<Ifcl, Memory>
 
 /// The control diagram of a configuration. On every site it does with each packet what the configuration does, new or of a
 /// connection, and it can be unfolded. One chain has the lists that are applied to packets that come in, one translates
-/// destinations, one sources, and one has the lists of packets that go out. An error is want of memory, or of numbers for
-/// rules. Linear in the entries of the lists that are applied, each time that they are, in the translations, and in the entries
-/// of the lists that these ask.
+/// destinations, one sources, and one has the lists of packets that go out. Fails if memory or numbers for rules run out. Linear in
+/// the entries of the lists that are applied, each time that they are, in the translations, and in the entries of the lists that
+/// these ask.
 pub fn to_ifcl(alloc: Global, c: &IosConfig, site: &Site) -> Result<Ifcl, Memory>
     ensures diagram { IfOk result (λ d. d ≡ diagram_of c.now) }
     ensures ok { IfOk result (λ d. ifcl_ok d ≡ true) }

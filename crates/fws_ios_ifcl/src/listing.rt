@@ -9,8 +9,8 @@ use fws_ios::IosEntry;
 use fws_num::Memory;
 use std::alloc::Global;
 
-/// Puts the rule of an entry behind the others, by what is done where the list permits and where it denies. An error is want
-/// of memory.
+/// Puts the rule of an entry behind the others, by what is done where the list permits and where it denies. Fails if memory runs
+/// out.
 fn put_entry(
     alloc: Global,
     rules: &mut Vec<Rule>,
@@ -25,7 +25,7 @@ fn put_entry(
     Ok(())
 }
 
-/// Puts the rules of a list behind the others, which denies behind its entries. An error is want of memory.
+/// Puts the rules of a list behind the others, which denies behind its entries. Fails if memory runs out.
 pub(crate) fn put_listing(
     alloc: Global,
     rules: &mut Vec<Rule>,

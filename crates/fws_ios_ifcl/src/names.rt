@@ -37,8 +37,8 @@ impl<'c> Model for Lists<'c> {
     ghost invariant = { λ l. (name : List ℕ) → lookup (bytes_eq name) l.places.entries ≡ position_from (λ (list : AnyList). bytes_eq list.name name) 0 l.lists.now };
 }
 
-/// The place of the first list of each name: the last one's is put first, so that those ahead take its place. An error is
-/// want of memory.
+/// The place of the first list of each name: the last one's is put first, so that those ahead take its place. Fails if memory runs
+/// out.
 fn places_of(alloc: Global, lists: &[IosList]) -> Result<IndexMap<Text, usize>, Memory>
     ensures { IfOk result (λ places. (name : List ℕ) → lookup (bytes_eq name) places.entries ≡ position_from (λ (list : AnyList). bytes_eq list.name name) 0 lists.now) }
 {
@@ -51,7 +51,7 @@ fn places_of(alloc: Global, lists: &[IosList]) -> Result<IndexMap<Text, usize>, 
 }
 
 impl<'c> Lists<'c> {
-    /// These lists. An error is want of memory.
+    /// These lists. Fails if memory runs out.
     pub(crate) fn of(alloc: Global, lists: &'c [IosList]) -> Result<Lists<'c>, Memory>
         ensures { IfOk result (λ l. l ≡ lists.now) }
     {
@@ -99,7 +99,7 @@ impl<'c> Model for Counted<'c> {
     ghost invariant = { λ l. l.firsts.items ≡ first_entries 0 l.lists };
 }
 
-/// The number of the first entry of each list. An error is want of memory, or of numbers.
+/// The number of the first entry of each list. Fails if memory or numbers run out.
 fn first_entries(alloc: Global, lists: &[IosList]) -> Result<Vec<usize>, Memory>
     ensures { IfOk result (λ firsts. firsts.items ≡ first_entries 0 lists.now) }
 {
@@ -124,7 +124,7 @@ pub(crate) fn entry_count(lists: &[IosList]) -> Result<usize, Memory>
 }
 
 impl<'c> Counted<'c> {
-    /// These lists. An error is want of memory, or of numbers.
+    /// These lists. Fails if memory or numbers run out.
     pub(crate) fn of(alloc: Global, lists: &'c [IosList]) -> Result<Counted<'c>, Memory>
         ensures { IfOk result (λ l. l ≡ lists.now) }
     {

@@ -31,8 +31,8 @@ use fws_net::Site;
 use fws_num::{Items, Memory};
 use std::alloc::Global;
 
-/// Puts the rules of all lists that are applied in this direction behind the others, and the spots of their entries. An error is
-/// want of memory, or of numbers.
+/// Puts the rules of all lists that are applied in this direction behind the others, and the spots of their entries. Fails if
+/// memory or numbers run out.
 fn put_all_applied(
     alloc: Global,
     rules: &mut Vec<Rule>,
@@ -52,8 +52,8 @@ fn put_all_applied(
     Ok(())
 }
 
-/// Puts the rules of all statics behind the others, and their spots; the first translation has this number. An error is want of
-/// memory, or of numbers.
+/// Puts the rules of all statics behind the others, and their spots; the first translation has this number. Fails if memory or
+/// numbers run out.
 fn put_all_statics(
     alloc: Global,
     rules: &mut Vec<Rule>,
@@ -76,7 +76,7 @@ fn put_all_statics(
 }
 
 /// Puts the rules of all translations by lists behind the others, and the spots of what these use; the first translation has this
-/// number. An error is want of memory, or of numbers.
+/// number. Fails if memory or numbers run out.
 fn put_all_asking(
     alloc: Global,
     rules: &mut Vec<Rule>,
@@ -98,8 +98,8 @@ fn put_all_asking(
     Ok(())
 }
 
-/// The rules of the lists that are applied in a direction, and the spots of their entries behind the others. An error is want of
-/// memory, or of numbers.
+/// The rules of the lists that are applied in a direction, and the spots of their entries behind the others. Fails if memory or
+/// numbers run out.
 fn placed_lists(
     alloc: Global,
     spots: &mut Vec<Spot>,
@@ -125,7 +125,7 @@ fn placed_lists(
     Ok(rules)
 }
 
-/// The rules that translate destinations, and the spots of statics behind the others. An error is want of memory, or of numbers.
+/// The rules that translate destinations, and the spots of statics behind the others. Fails if memory or numbers run out.
 fn placed_destinations(
     alloc: Global,
     spots: &mut Vec<Spot>,
@@ -141,7 +141,7 @@ fn placed_destinations(
     Ok(rules)
 }
 
-/// The rules that translate sources, and the spots of translations behind the others. An error is want of memory, or of numbers.
+/// The rules that translate sources, and the spots of translations behind the others. Fails if memory or numbers run out.
 fn placed_sources(
     alloc: Global,
     spots: &mut Vec<Spot>,
@@ -161,8 +161,8 @@ fn placed_sources(
     Ok(rules)
 }
 
-/// Puts the chains behind the others, with the lists by their names, and the spots of all entries and translations. An error is
-/// want of memory, or of numbers.
+/// Puts the chains behind the others, with the lists by their names, and the spots of all entries and translations. Fails if memory
+/// or numbers run out.
 fn put_chains(
     alloc: Global,
     chains: &mut Items<Chain>,
@@ -187,8 +187,8 @@ fn put_chains(
     Ok(())
 }
 
-/// Puts the chains behind the others, by their lists, and the spots of all entries and translations. An error is want of memory,
-/// or of numbers.
+/// Puts the chains behind the others, by their lists, and the spots of all entries and translations. Fails if memory or numbers run
+/// out.
 fn put_all_chains(
     alloc: Global,
     chains: &mut Items<Chain>,
@@ -204,7 +204,7 @@ fn put_all_chains(
     Ok(())
 }
 
-/// The chains, and the spots of all entries and translations behind the others. An error is want of memory, or of numbers.
+/// The chains, and the spots of all entries and translations behind the others. Fails if memory or numbers run out.
 fn chains_of(alloc: Global, spots: &mut Vec<Spot>, c: &IosConfig) -> Result<Items<Chain>, Memory>
     ensures chains { IfOk result (λ chains. chains ≡ chains_with (placed_sources c.now) c.now) }
     ensures spots { OnOk result (spots.new.items ≡ spots.old.items ++ spots_of c.now) }
@@ -214,8 +214,8 @@ fn chains_of(alloc: Global, spots: &mut Vec<Spot>, c: &IosConfig) -> Result<Item
     Ok(chains)
 }
 
-/// The diagram, put together from its chains and stages, and the spots of all entries and translations behind the others. An
-/// error is want of memory, or of numbers.
+/// The diagram, put together from its chains and stages, and the spots of all entries and translations behind the others. Fails if
+/// memory or numbers run out.
 fn placed(alloc: Global, spots: &mut Vec<Spot>, c: &IosConfig) -> Result<Ifcl, Memory>
     ensures diagram { IfOk result (λ d. d ≡ placed_of c.now) }
     ensures spots { OnOk result (spots.new.items ≡ spots.old.items ++ spots_of c.now) }
@@ -231,12 +231,12 @@ fn placed(alloc: Global, spots: &mut Vec<Spot>, c: &IosConfig) -> Result<Ifcl, M
     })
 }
 
-/// A diagram of a configuration, and where in it each entry and each translation has its places. Entries are counted from 0
-/// through the lists, and translations behind them. On every site the diagram does with each packet what the configuration does, new
-/// or of a connection, it can be unfolded, and what stands at the places that a packet's walk comes to is told in the order in
-/// which the configuration uses it, and as often. It is the control diagram but for lists that several translations ask, which it
-/// has once for each of them. An error is want of memory, or of numbers for rules. Linear in the entries of the lists that are
-/// applied, each time that they are, in the translations, and in the entries of the lists that these ask, each time that they do.
+/// A diagram of a configuration, and where in it each entry and each translation has its places. Entries are counted from 0 through
+/// the lists, and translations behind them. On every site the diagram does with each packet what the configuration does, new or of
+/// a connection, it can be unfolded, and what stands at the places that a packet's walk comes to is told in the order in which the
+/// configuration uses it, and as often. It is the control diagram but for lists that several translations ask, which it has once
+/// for each of them. Fails if memory or numbers for rules run out. Linear in the entries of the lists that are applied, each time
+/// that they are, in the translations, and in the entries of the lists that these ask, each time that they do.
 pub fn places(alloc: Global, c: &IosConfig, site: &Site) -> Result<(Ifcl, Vec<Spot>), Memory>
     ensures ok { IfOk result (λ x. ifcl_ok x.0 ≡ true) }
     ensures means { IfOk result (λ x. (p : Packet) (k : Kind) → means x.0 site.now p k ≡ walk c.now site.now p k) }

@@ -20,8 +20,8 @@ fn number(n: usize) -> Result<u32, Memory>
     u32::try_from(n).map_err(|_| Memory)
 }
 
-/// Puts the spot of the entry or translation with this number behind the others, at a place of a chain. An error is want of
-/// memory, or of numbers.
+/// Puts the spot of the entry or translation with this number behind the others, at a place of a chain. Fails if memory or numbers
+/// run out.
 fn put_spot(spots: &mut Vec<Spot>, chain: u32, at: usize, rule: usize) -> Result<(), Memory>
     ensures { OnOk result (spots.new.items ≡ spots.old.items ++ spot chain at rule ∷ []) }
 {
@@ -34,8 +34,8 @@ fn put_spot(spots: &mut Vec<Spot>, chain: u32, at: usize, rule: usize) -> Result
     Ok(())
 }
 
-/// Puts the spots of a list's entries behind the others, of which the first has this number and place. An error is want of
-/// memory, or of numbers.
+/// Puts the spots of a list's entries behind the others, of which the first has this number and place. Fails if memory or numbers
+/// run out.
 fn put_listing_spots(
     spots: &mut Vec<Spot>,
     chain: u32,
@@ -55,8 +55,8 @@ fn put_listing_spots(
     Ok(())
 }
 
-/// Puts the spots of the entries of the list of this name behind the others, of which the first has the place. An error is
-/// want of memory, or of numbers.
+/// Puts the spots of the entries of the list of this name behind the others, of which the first has the place. Fails if memory or
+/// numbers run out.
 fn put_named_spots(
     spots: &mut Vec<Spot>,
     chain: u32,
@@ -76,8 +76,8 @@ fn put_named_spots(
     }
 }
 
-/// Puts the spots of a list's entries behind the others if it is applied in this direction; the first of its rules has the
-/// place. An error is want of memory, or of numbers.
+/// Puts the spots of a list's entries behind the others if it is applied in this direction; the first of its rules has the place.
+/// Fails if memory or numbers run out.
 pub(crate) fn put_applied_spots(
     spots: &mut Vec<Spot>,
     chain: u32,
@@ -95,8 +95,8 @@ pub(crate) fn put_applied_spots(
     Ok(())
 }
 
-/// Puts the spot of a translation with this number behind the others if it is a static; the first of its rules has the place.
-/// An error is want of memory, or of numbers.
+/// Puts the spot of a translation with this number behind the others if it is a static; the first of its rules has the place. Fails
+/// if memory or numbers run out.
 pub(crate) fn put_static_spots(
     spots: &mut Vec<Spot>,
     chain: u32,
@@ -116,7 +116,7 @@ pub(crate) fn put_static_spots(
 }
 
 /// Puts the spots of a list's entries behind the others, of which the first has the number `first` and the place, and that of the
-/// translation that asks it, with the number `rule`. An error is want of memory, or of numbers.
+/// translation that asks it, with the number `rule`. Fails if memory or numbers run out.
 fn put_choosing_spots(
     spots: &mut Vec<Spot>,
     chain: u32,
@@ -134,7 +134,7 @@ fn put_choosing_spots(
 }
 
 /// Puts the spots of a translation with this number behind the others if it is by a list: that of the translation behind those of
-/// the list's entries, of which the first has the place. An error is want of memory, or of numbers.
+/// the list's entries, of which the first has the place. Fails if memory or numbers run out.
 pub(crate) fn put_asking_spots(
     spots: &mut Vec<Spot>,
     chain: u32,
@@ -154,8 +154,7 @@ pub(crate) fn put_asking_spots(
     }
 }
 
-/// Puts the spots of a translation with this number by the list of this name behind the others. An error is want of memory, or of
-/// numbers.
+/// Puts the spots of a translation with this number by the list of this name behind the others. Fails if memory or numbers run out.
 fn put_asked_spots(
     spots: &mut Vec<Spot>,
     chain: u32,

@@ -14,7 +14,7 @@ use fws_num::Memory;
 use fws_rules::{positive, protocol_literal, put_literals};
 use std::alloc::Global;
 
-/// The literal of packets that come from an address, or go to it. An error is want of memory.
+/// The literal of packets that come from an address, or go to it. Fails if memory runs out.
 fn at_address(alloc: Global, outward: bool, addr: u32) -> Result<Lit, Memory>
     ensures { IfOk result (λ lit. lit ≡ positive (if outward then Test.Src (one addr addr) else Test.Dst (one addr addr))) }
 {
@@ -26,7 +26,7 @@ fn at_address(alloc: Global, outward: bool, addr: u32) -> Result<Lit, Memory>
     }
 }
 
-/// The literal of packets that come from a port, or go to it. An error is want of memory.
+/// The literal of packets that come from a port, or go to it. Fails if memory runs out.
 fn at_port(alloc: Global, outward: bool, port: u16) -> Result<Lit, Memory>
     ensures { IfOk result (λ lit. lit ≡ positive (if outward then Test.Sport (one port port) else Test.Dport (one port port))) }
 {
@@ -38,7 +38,7 @@ fn at_port(alloc: Global, outward: bool, port: u16) -> Result<Lit, Memory>
     }
 }
 
-/// Puts behind the others what holds of packets that come from an end, or go to it. An error is want of memory.
+/// Puts behind the others what holds of packets that come from an end, or go to it. Fails if memory runs out.
 fn put_end(alloc: Global, cond: &mut Cond, outward: bool, end: End) -> Result<(), Memory>
     ensures { OnOk result (cond.new ≡ cond.old ++ at_end outward end) }
 {
@@ -52,7 +52,7 @@ fn put_end(alloc: Global, cond: &mut Cond, outward: bool, end: End) -> Result<()
     }
 }
 
-/// The condition of a static at one of its ends. An error is want of memory.
+/// The condition of a static at one of its ends. Fails if memory runs out.
 fn static_cond(alloc: Global, outward: bool, proto: Option<u8>, end: End) -> Result<Cond, Memory>
     ensures { IfOk result (λ c. c ≡ static_cond outward proto end) }
 {
@@ -62,7 +62,7 @@ fn static_cond(alloc: Global, outward: bool, proto: Option<u8>, end: End) -> Res
     Ok(cond)
 }
 
-/// Puts the rules behind the others that write an end where the condition holds. An error is want of memory.
+/// Puts the rules behind the others that write an end where the condition holds. Fails if memory runs out.
 fn put_writing(alloc: Global, rules: &mut Vec<Rule>, cond: Cond, writing: Act) -> Result<(), Memory>
     ensures { OnOk result (rules.new.items ≡ rules.old.items ++ guarded (length rules.old.items) cond (always writing ∷ always Act.Accept ∷ [])) }
 {
@@ -71,8 +71,8 @@ fn put_writing(alloc: Global, rules: &mut Vec<Rule>, cond: Cond, writing: Act) -
     put_always(alloc, rules, Act::Accept)
 }
 
-/// Puts the rules of a translation behind the others if it is a static: as packets go out its outer end stands for the inner
-/// one as the source, and as they come in the inner end stands for the outer one as the destination. An error is want of memory.
+/// Puts the rules of a translation behind the others if it is a static: as packets go out its outer end stands for the inner one as
+/// the source, and as they come in the inner end stands for the outer one as the destination. Fails if memory runs out.
 pub(crate) fn put_static(
     alloc: Global,
     rules: &mut Vec<Rule>,
@@ -100,7 +100,7 @@ pub(crate) fn put_static(
     }
 }
 
-/// Puts the rules of all statics behind the others. An error is want of memory.
+/// Puts the rules of all statics behind the others. Fails if memory runs out.
 pub(crate) fn put_statics(
     alloc: Global,
     rules: &mut Vec<Rule>,

@@ -37,9 +37,9 @@ fn put_lists(alloc: Global, labels: &mut Vec<Text>, lists: &[IosList]) -> Result
     Ok(())
 }
 
-/// The labels of a configuration's entries, through its lists in their order, and of its translations behind them: the list
-/// and the place in it, counted from 1, as `list OUTSIDE 2`, and the place of a translation, as `nat 1`. Linear in both. An
-/// error is want of memory.
+/// The labels of a configuration's entries, through its lists in their order, and of its translations behind them: the list and the
+/// place in it, counted from 1, as `list OUTSIDE 2`, and the place of a translation, as `nat 1`. Linear in both. Fails if memory
+/// runs out.
 pub fn labels(alloc: Global, c: &IosConfig) -> Result<Vec<Text>, Memory>
     ensures { IfOk result (λ labels. labels.items ≡ labels_of c.now) }
 {

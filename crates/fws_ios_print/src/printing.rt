@@ -67,7 +67,7 @@ fn put_nat_section(out: &mut Text, nats: &[IosNat]) -> Result<(), Memory>
     Ok(())
 }
 
-/// The text of a configuration: comments, interfaces, lists and translations. An error is want of memory.
+/// The text of a configuration: comments, interfaces, lists and translations. Fails if memory runs out.
 fn config_text(alloc: Global, c: &IosConfig, site: &Site) -> Result<Text, Memory>
     ensures { IfOk result (λ text. text ≡ config_text site.now c.now) }
 {
@@ -78,8 +78,8 @@ fn config_text(alloc: Global, c: &IosConfig, site: &Site) -> Result<Text, Memory
     Ok(out)
 }
 
-/// The text of a printable configuration, as Cisco IOS takes it in configuration mode. It is read as that
-/// configuration. An error is want of memory.
+/// The text of a printable configuration, as Cisco IOS takes it in configuration mode. It is read as that configuration. Fails if
+/// memory runs out.
 pub fn print(alloc: Global, c: &IosConfig, site: &Site) -> Result<Text, Memory>
     requires orderly { IsOrderly site.now }
     requires printable { is_printable site.now c.now ≡ true }

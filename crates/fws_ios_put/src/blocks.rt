@@ -21,7 +21,7 @@ use fws_num::{Items, Memory};
 use fws_tree::Tree;
 use std::alloc::Global;
 
-// Where packets of TCP are in the first set and not in the second one. An error is want of memory.
+// Where packets of TCP are in the first set and not in the second one. Fails if memory runs out.
 fn needed_of(
     alloc: Global,
     site: &Site,
@@ -39,7 +39,7 @@ fn needed_of(
 }
 
 // Appends entries that permit packets of TCP with ACK or RST or deny them: all of these where the first tree is true, and none but
-// those where the second one is. An error is want of memory.
+// those where the second one is. Fails if memory runs out.
 fn put_needed(
     alloc: Global,
     entries: &mut Items<IosEntry>,
@@ -64,8 +64,8 @@ fn put_needed(
     Ok(())
 }
 
-// Appends entries that permit packets of TCP with ACK or RST or deny them: none but those where the first tree is true, and
-// all of these where the second one isn't. An error is want of memory.
+// Appends entries that permit packets of TCP with ACK or RST or deny them: none but those where the first tree is true, and all of
+// these where the second one isn't. Fails if memory runs out.
 fn put_marked(
     alloc: Global,
     entries: &mut Items<IosEntry>,
@@ -84,8 +84,8 @@ fn put_marked(
     Ok(())
 }
 
-// Appends entries that deny packets of TCP with ACK or RST: none but those where the first tree is true, and all of these where
-// the second one isn't true either. An error is want of memory.
+// Appends entries that deny packets of TCP with ACK or RST: none but those where the first tree is true, and all of these where the
+// second one isn't true either. Fails if memory runs out.
 fn put_outside(
     alloc: Global,
     entries: &mut Items<IosEntry>,
@@ -104,7 +104,7 @@ fn put_outside(
 }
 
 // Appends entries that deny packets of TCP with ACK or RST: none where the first tree is true, and all others where the second one
-// is. An error is want of memory.
+// is. Fails if memory runs out.
 fn put_lacking(
     alloc: Global,
     entries: &mut Items<IosEntry>,
@@ -122,7 +122,7 @@ fn put_lacking(
     Ok(())
 }
 
-// Appends entries that deny all packets where the tree isn't true. An error is want of memory.
+// Appends entries that deny all packets where the tree isn't true. Fails if memory runs out.
 fn put_denied(
     alloc: Global,
     entries: &mut Items<IosEntry>,
@@ -143,7 +143,7 @@ fn put_denied(
     Ok(())
 }
 
-// Appends the blocks that stand ahead of the entry for packets of connections. An error is want of memory.
+// Appends the blocks that stand ahead of the entry for packets of connections. Fails if memory runs out.
 fn put_ahead(
     alloc: Global,
     entries: &mut Items<IosEntry>,
@@ -160,7 +160,7 @@ fn put_ahead(
     Ok(())
 }
 
-// Whether the first tree is true at some point where the second one isn't. An error is want of memory.
+// Whether the first tree is true at some point where the second one isn't. Fails if memory runs out.
 fn is_beyond(
     alloc: Global,
     site: &Site,
@@ -175,7 +175,7 @@ fn is_beyond(
     is_somewhere(alloc, site, &beyond)
 }
 
-// Whether the tree isn't true at some point. An error is want of memory.
+// Whether the tree isn't true at some point. Fails if memory runs out.
 fn is_lacking(alloc: Global, site: &Site, tree: &Tree<bool>) -> Result<bool, Memory>
     requires { IsAskable site.now tree.now }
     ensures { IfOk result (λ b. b ≡ false → (x : List ℕ) → IsWithin (tops_of site.now) x → truth tree.now.1 x ≡ true) }
@@ -184,7 +184,7 @@ fn is_lacking(alloc: Global, site: &Site, tree: &Tree<bool>) -> Result<bool, Mem
     is_somewhere(alloc, site, &none)
 }
 
-// Whether the tree is true at some point of TCP. An error is want of memory.
+// Whether the tree is true at some point of TCP. Fails if memory runs out.
 fn is_for_tcp(alloc: Global, site: &Site, tree: &Tree<bool>) -> Result<bool, Memory>
     requires sound { IsSound site.now }
     requires tree { IsAskable site.now tree.now }
@@ -194,7 +194,7 @@ fn is_for_tcp(alloc: Global, site: &Site, tree: &Tree<bool>) -> Result<bool, Mem
     is_somewhere(alloc, site, &tcp)
 }
 
-// Whether the first tree is true at some point of TCP where the second one isn't. An error is want of memory.
+// Whether the first tree is true at some point of TCP where the second one isn't. Fails if memory runs out.
 fn is_beyond_for_tcp(
     alloc: Global,
     site: &Site,
@@ -210,7 +210,7 @@ fn is_beyond_for_tcp(
     is_for_tcp(alloc, site, &beyond)
 }
 
-// Whether the tree isn't true at some point of TCP. An error is want of memory.
+// Whether the tree isn't true at some point of TCP. Fails if memory runs out.
 fn is_lacking_for_tcp(alloc: Global, site: &Site, tree: &Tree<bool>) -> Result<bool, Memory>
     requires sound { IsSound site.now }
     requires tree { IsAskable site.now tree.now }
@@ -220,7 +220,7 @@ fn is_lacking_for_tcp(alloc: Global, site: &Site, tree: &Tree<bool>) -> Result<b
     is_for_tcp(alloc, site, &none)
 }
 
-// Whether packets of connections are permitted that aren't as new ones. An error is want of memory.
+// Whether packets of connections are permitted that aren't as new ones. Fails if memory runs out.
 fn some_alone(alloc: Global, site: &Site, c: &Choices) -> Result<bool, Memory>
     requires sound { IsSound site.now }
     requires askable { AreAskable site.now c.now }
@@ -232,7 +232,7 @@ fn some_alone(alloc: Global, site: &Site, c: &Choices) -> Result<bool, Memory>
     is_beyond_for_tcp(alloc, site, &c.acked_known, &c.acked_fresh)
 }
 
-// Whether packets are denied in all connections. An error is want of memory.
+// Whether packets are denied in all connections. Fails if memory runs out.
 fn some_denied(alloc: Global, site: &Site, c: &Choices) -> Result<bool, Memory>
     requires sound { IsSound site.now }
     requires askable { AreAskable site.now c.now }
@@ -244,7 +244,7 @@ fn some_denied(alloc: Global, site: &Site, c: &Choices) -> Result<bool, Memory>
     is_lacking_for_tcp(alloc, site, &c.acked_known)
 }
 
-// Appends what stands ahead of the entries for new packets. An error is want of memory.
+// Appends what stands ahead of the entries for new packets. Fails if memory runs out.
 fn put_front(
     alloc: Global,
     entries: &mut Items<IosEntry>,
@@ -267,7 +267,7 @@ fn put_front(
     Ok(())
 }
 
-// Appends the entries for new packets. An error is want of memory.
+// Appends the entries for new packets. Fails if memory runs out.
 fn put_back(
     alloc: Global,
     entries: &mut Items<IosEntry>,
@@ -284,7 +284,7 @@ fn put_back(
     Ok(())
 }
 
-/// The entries of the list that permits what the choices say. An error is want of memory.
+/// The entries of the list that permits what the choices say. Fails if memory runs out.
 pub(crate) fn list_of(alloc: Global, site: &Site, c: &Choices) -> Result<Items<IosEntry>, Memory>
     requires sound { IsSound site.now }
     requires askable { AreAskable site.now c.now }

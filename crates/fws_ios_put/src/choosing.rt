@@ -15,7 +15,7 @@ use fws_num::Memory;
 use fws_tree::Tree;
 use std::alloc::Global;
 
-// Where packets that are lost where they arrive are known with ACK alone. An error is want of memory.
+// Where packets that are lost where they arrive are known with ACK alone. Fails if memory runs out.
 fn known_strays(
     alloc: Global,
     site: &Site,
@@ -32,7 +32,7 @@ fn known_strays(
     of_strays(alloc, site, &alone)
 }
 
-// Where those are packets of TCP. An error is want of memory.
+// Where those are packets of TCP. Fails if memory runs out.
 fn tcp_strays(
     alloc: Global,
     site: &Site,
@@ -49,8 +49,8 @@ fn tcp_strays(
     of_tcp(alloc, site, &strays)
 }
 
-// Where new packets with ACK may be permitted: besides where they are, also where they are lost and are known with ACK alone. An
-// error is want of memory.
+// Where new packets with ACK may be permitted: besides where they are, also where they are lost and are known with ACK alone. Fails
+// if memory runs out.
 fn with_strays(
     alloc: Global,
     site: &Site,
@@ -70,7 +70,7 @@ fn with_strays(
 }
 
 // Where packets with ACK that come in by an entry may be permitted as new ones, by what trees tell of new packets and of those of
-// connections. An error is want of memory.
+// connections. Fails if memory runs out.
 fn acked_fresh(
     alloc: Global,
     site: &Site,
@@ -93,7 +93,7 @@ fn acked_fresh(
 }
 
 // Which packets that come in by an entry are permitted in some connection, without flags and with ACK, by what a tree tells of
-// those. An error is want of memory.
+// those. Fails if memory runs out.
 fn known_kinds(
     alloc: Global,
     site: &Site,
@@ -114,7 +114,7 @@ fn known_kinds(
     Ok((plain, acked))
 }
 
-// Which of them are permitted as new ones, by what a tree tells of those. An error is want of memory.
+// Which of them are permitted as new ones, by what a tree tells of those. Fails if memory runs out.
 fn fresh_kinds(
     alloc: Global,
     site: &Site,
@@ -154,8 +154,8 @@ fn chosen(fresh: (Tree<bool>, Tree<bool>), known: (Tree<bool>, Tree<bool>)) -> C
 // Trees that aren't wanted any more.
 fn dismiss(_kinds: (Tree<bool>, Tree<bool>)) {}
 
-/// The choices of the packets that come in by an entry, by what trees tell of new packets and of those that are accepted in
-/// some connection. An error is want of memory.
+/// The choices of the packets that come in by an entry, by what trees tell of new packets and of those that are accepted in some
+/// connection. Fails if memory runs out.
 pub(crate) fn choices_of(
     alloc: Global,
     site: &Site,

@@ -20,7 +20,7 @@ use fws_num::{Items, Memory};
 use fws_tree::{Tables, Tree};
 use std::alloc::Global;
 
-// Appends the lists. An error is want of memory.
+// Appends the lists. Fails if memory runs out.
 fn put_lists(lists: &mut Items<IosList>, others: Items<IosList>) -> Result<(), Memory>
     ensures { OnOk result (lists.new ≡ lists.old ++ others) }
 {
@@ -31,7 +31,7 @@ fn put_lists(lists: &mut Items<IosList>, others: Items<IosList>) -> Result<(), M
 }
 
 /// The configuration of tables that fit: with a list for the packets that come in by entries with one leader, by what the trees
-/// tell of new packets and of those that are accepted in some connection. An error is want of memory.
+/// tell of new packets and of those that are accepted in some connection. Fails if memory runs out.
 pub(crate) fn drafted(
     alloc: Global,
     site: &Site,

@@ -18,7 +18,7 @@ use fws_tree::Tree;
 use fws_truth::fields::{ALL, ENTRY, FLAGS};
 use std::alloc::Global;
 
-/// The tree that is this one at points of TCP and false elsewhere. An error is want of memory.
+/// The tree that is this one at points of TCP and false elsewhere. Fails if memory runs out.
 pub(crate) fn of_tcp(alloc: Global, site: &Site, tree: &Tree<bool>) -> Result<Tree<bool>, Memory>
     requires sound { IsSound site.now }
     requires tree { IsAskable site.now tree.now }
@@ -32,7 +32,7 @@ pub(crate) fn of_tcp(alloc: Global, site: &Site, tree: &Tree<bool>) -> Result<Tr
     Ok(part)
 }
 
-// The destinations of packets that are lost where they arrive. An error is want of memory.
+// The destinations of packets that are lost where they arrive. Fails if memory runs out.
 fn stray_set(alloc: Global, site: &Site) -> Result<Ivs, Memory>
     ensures { IfOk result (λ set. (a : ℕ) → a ≤ 2 ^ 32 - 1 → has set a ≡ (not site.now.forwarding && not (is_local site.now a))) }
 {
@@ -43,7 +43,7 @@ fn stray_set(alloc: Global, site: &Site) -> Result<Ivs, Memory>
     Ok(one(alloc, 0, u32::MAX)?.minus(alloc, &local)?)
 }
 
-/// The tree that is this one at points with a stray destination and false elsewhere. An error is want of memory.
+/// The tree that is this one at points with a stray destination and false elsewhere. Fails if memory runs out.
 pub(crate) fn of_strays(alloc: Global, site: &Site, tree: &Tree<bool>) -> Result<Tree<bool>, Memory>
     requires sound { IsSound site.now }
     requires tree { IsAskable site.now tree.now }
@@ -60,7 +60,7 @@ pub(crate) fn of_strays(alloc: Global, site: &Site, tree: &Tree<bool>) -> Result
 // The fields of the entry and of flags.
 const ENTRY_AND_FLAGS: u16 = ENTRY | FLAGS;
 
-// The sides of the points with this entry and these flags. An error is want of memory.
+// The sides of the points with this entry and these flags. Fails if memory runs out.
 fn framed_sides(alloc: Global, site: &Site, entry: u8, flags: u8) -> Result<[Ivs; 12], Memory>
     requires { IsSound site.now }
     ensures { IfOk result (HaveWhere (tops_of site.now) (is_framed entry flags)) }
@@ -72,7 +72,7 @@ fn framed_sides(alloc: Global, site: &Site, entry: u8, flags: u8) -> Result<[Ivs
     Ok(sides)
 }
 
-// The tree that is this one at points with this entry and these flags, and false elsewhere. An error is want of memory.
+// The tree that is this one at points with this entry and these flags, and false elsewhere. Fails if memory runs out.
 fn framed_part(
     alloc: Global,
     site: &Site,
@@ -89,7 +89,7 @@ fn framed_part(
     tree.restrict(alloc, &sides, false)
 }
 
-/// The tree as it is at points with this entry and these flags. An error is want of memory.
+/// The tree as it is at points with this entry and these flags. Fails if memory runs out.
 pub(crate) fn fixed(
     alloc: Global,
     site: &Site,
@@ -110,7 +110,7 @@ pub(crate) fn fixed(
     Ok(fixed)
 }
 
-/// Whether the tree is true at some point of the site. An error is want of memory.
+/// Whether the tree is true at some point of the site. Fails if memory runs out.
 pub(crate) fn is_somewhere(alloc: Global, site: &Site, tree: &Tree<bool>) -> Result<bool, Memory>
     requires { tree.now.0 ≡ tops_of site.now }
     ensures { IfOk result (λ b. b ≡ false → IsNowhere site.now tree.now.1) }

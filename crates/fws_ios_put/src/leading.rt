@@ -52,7 +52,7 @@ fn leader_of(new: &Tree<bool>, known: &Tree<bool>, leaders: &[u8], entry: u8) ->
     entry
 }
 
-/// The leaders of so many entries. An error is want of memory.
+/// The leaders of so many entries. Fails if memory runs out.
 pub(crate) fn leaders_of(
     alloc: Global,
     new: &Tree<bool>,

@@ -18,7 +18,7 @@ use fws_num::{Items, Memory};
 use fws_tree::Tree;
 use std::alloc::Global;
 
-// The entries of the list of an entry. An error is want of memory.
+// The entries of the list of an entry. Fails if memory runs out.
 fn own_entries(
     alloc: Global,
     site: &Site,
@@ -38,7 +38,7 @@ fn own_entries(
     list_of(alloc, site, &choices)
 }
 
-// The list of an entry. An error is want of memory.
+// The list of an entry. Fails if memory runs out.
 fn own_list(
     alloc: Global,
     site: &Site,
@@ -62,7 +62,7 @@ fn own_list(
     Ok(IosList { name, entries })
 }
 
-// Appends the list of an entry, if it leads. An error is want of memory.
+// Appends the list of an entry, if it leads. Fails if memory runs out.
 fn put_own(
     alloc: Global,
     lists: &mut Items<IosList>,
@@ -89,7 +89,7 @@ fn put_own(
     Ok(())
 }
 
-/// The lists of the entries that lead. An error is want of memory.
+/// The lists of the entries that lead. Fails if memory runs out.
 pub(crate) fn lists_of(
     alloc: Global,
     site: &Site,
@@ -113,7 +113,7 @@ pub(crate) fn lists_of(
     Ok(lists)
 }
 
-/// Where packets that come in meet lists: at each entry that of its leader. An error is want of memory.
+/// Where packets that come in meet lists: at each entry that of its leader. Fails if memory runs out.
 pub(crate) fn groups_of(
     alloc: Global,
     site: &Site,

@@ -32,7 +32,7 @@ fn ending(shared: bool) -> &'static [u8]
     if shared { b"+OTHERS" } else { &[] }
 }
 
-/// The name of an entry's list. An error is want of memory.
+/// The name of an entry's list. Fails if memory runs out.
 pub(crate) fn list_name(
     alloc: Global,
     site: &Site,

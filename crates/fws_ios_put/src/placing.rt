@@ -24,8 +24,8 @@ use fws_rules::orderly_sites_are_named;
 use fws_tree::{Tables, Tree};
 use std::alloc::Global;
 
-/// The configuration of tables that fit, by what trees tell of new packets and of those that are accepted in some connection.
-/// An error is want of memory.
+/// The configuration of tables that fit, by what trees tell of new packets and of those that are accepted in some connection. Fails
+/// if memory runs out.
 fn put_told(
     alloc: Global,
     site: &Site,
@@ -55,7 +55,7 @@ fn put_told(
     Ok(config)
 }
 
-/// The configuration of tables that fit, by what a tree tells of new packets. An error is want of memory.
+/// The configuration of tables that fit, by what a tree tells of new packets. Fails if memory runs out.
 fn put_new(alloc: Global, site: &Site, t: &Tables, new: &Tree<bool>) -> Result<IosConfig, Memory>
     requires sound { IsSound site.now }
     requires orderly { IsOrderly site.now }
@@ -68,7 +68,7 @@ fn put_new(alloc: Global, site: &Site, t: &Tables, new: &Tree<bool>) -> Result<I
     put_told(alloc, site, t, new, &known)
 }
 
-/// The configuration of tables that fit. An error is want of memory.
+/// The configuration of tables that fit. Fails if memory runs out.
 fn put_tables(alloc: Global, site: &Site, t: &Tables) -> Result<IosConfig, Memory>
     requires sound { IsSound site.now }
     requires orderly { IsOrderly site.now }

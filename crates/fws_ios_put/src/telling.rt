@@ -27,7 +27,7 @@ impl Relabelling<Outcome, bool> for Accepting {
     }
 }
 
-/// The tree that tells of each new packet whether it is accepted. An error is want of memory.
+/// The tree that tells of each new packet whether it is accepted. Fails if memory runs out.
 pub(crate) fn new_tree(alloc: Global, _site: &Site, tables: &Tables) -> Result<Tree<bool>, Memory>
     requires { AreRegular _site.now tables.now }
     ensures { IfOk result (TellsNew _site.now tables.now) }
@@ -38,7 +38,7 @@ pub(crate) fn new_tree(alloc: Global, _site: &Site, tables: &Tables) -> Result<T
     Ok(made)
 }
 
-/// The tree that tells of each packet whether it is accepted in some connection. An error is want of memory.
+/// The tree that tells of each packet whether it is accepted in some connection. Fails if memory runs out.
 pub(crate) fn known_tree(alloc: Global, site: &Site, tables: &Tables) -> Result<Tree<bool>, Memory>
     requires { AreRegular site.now tables.now }
     ensures { IfOk result (TellsKnown site.now tables.now) }

@@ -9,7 +9,7 @@ use fws_num::Memory;
 use fws_tree::Tree;
 use std::alloc::Global;
 
-/// The tree that is true where the first one is and the second one isn't. An error is want of memory.
+/// The tree that is true where the first one is and the second one isn't. Fails if memory runs out.
 pub(crate) fn without(
     alloc: Global,
     _site: &Site,
@@ -25,7 +25,7 @@ pub(crate) fn without(
     Ok(made)
 }
 
-/// The tree that is true where one of the two is. An error is want of memory.
+/// The tree that is true where one of the two is. Fails if memory runs out.
 pub(crate) fn either(
     alloc: Global,
     _site: &Site,
@@ -41,7 +41,7 @@ pub(crate) fn either(
     Ok(made)
 }
 
-/// The tree that is true where this one isn't. An error is want of memory.
+/// The tree that is true where this one isn't. Fails if memory runs out.
 pub(crate) fn negated(alloc: Global, _site: &Site, tree: &Tree<bool>) -> Result<Tree<bool>, Memory>
     requires { IsAskable _site.now tree.now }
     ensures askable { IfOk result (λ t. IsAskable _site.now t) }

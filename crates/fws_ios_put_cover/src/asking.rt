@@ -116,7 +116,7 @@ fn first_paths(alloc: Global, sides: &[Ivs; 12]) -> Result<Items<Path>, Memory>
     Ok(paths)
 }
 
-/// The paths of the packets that the box asks for. An error is want of memory.
+/// The paths of the packets that the box asks for. Fails if memory runs out.
 pub(crate) fn paths_for(alloc: Global, sides: &[Ivs; 12]) -> Result<Items<Path>, Memory>
     requires low { (side : Side) (v : ℕ) → has (part sides.now (number_of side)) v ≡ true → v ≤ top_of side }
     ensures { IfOk result (AreBoxPaths sides.now) }

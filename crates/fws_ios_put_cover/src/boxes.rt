@@ -14,7 +14,7 @@ use fws_num::Memory;
 use fws_tree::{Row, Tree};
 use std::alloc::Global;
 
-/// The sets of a box as far as they are asked of the packets of a class. An error is want of memory.
+/// The sets of a box as far as they are asked of the packets of a class. Fails if memory runs out.
 pub(crate) fn part_of(
     alloc: Global,
     tops: &[u32; 12],
@@ -55,7 +55,7 @@ fn is_true(alloc: Global, tree: &Tree<bool>) -> Result<bool, Memory>
     Ok(all_true(&rows))
 }
 
-/// Whether the set has all points of the box. An error is want of memory.
+/// Whether the set has all points of the box. Fails if memory runs out.
 pub(crate) fn lies_inside(
     alloc: Global,
     within: &Tree<bool>,

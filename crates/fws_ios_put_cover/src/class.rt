@@ -29,7 +29,7 @@ const OTHERS: [Iv; 4] = [
     Iv { lo: 18, hi: 255 },
 ];
 
-/// The protocols of the packets. An error is want of memory.
+/// The protocols of the packets. Fails if memory runs out.
 pub(crate) fn protocols(alloc: Global, class: Class) -> Result<Ivs, Memory>
     ensures { IfOk result (λ set. (v : ℕ) → has set v ≡ takes class v) }
 {

@@ -60,8 +60,8 @@ fn paths_over(
     listed(alloc, kept)
 }
 
-/// Appends entries that do this and that each packet of the first set meets, and none outside the second one; where
-/// `established` is asked, each with ACK or RST. An error is want of memory.
+/// Appends entries that do this and that each packet of the first set meets, and none outside the second one; where `established`
+/// is asked, each with ACK or RST. Fails if memory runs out.
 pub fn put_cover(
     alloc: Global,
     entries: &mut Items<IosEntry>,

@@ -10,7 +10,7 @@ use fws_ios_put_entries::{Act, Path, entry_of};
 use fws_num::{Items, Memory};
 use std::alloc::Global;
 
-/// Appends an entry for each path. An error is want of memory.
+/// Appends an entry for each path. Fails if memory runs out.
 pub(crate) fn put_entries(
     alloc: Global,
     entries: &mut Items<IosEntry>,

@@ -22,7 +22,7 @@ impl Exact for Path {
     ghost exact = { path_exact _ prefix_exact _ iv_exact };
 }
 
-/// Puts the value behind the others, unless it is there. An error is want of memory.
+/// Puts the value behind the others, unless it is there. Fails if memory runs out.
 pub(crate) fn put_new<T: Exact>(kept: &mut IndexSet<T>, value: T) -> Result<(), Memory>
     ensures { OnOk result (IsPut kept.old.keys kept.new.keys value) }
 {

@@ -9,7 +9,7 @@ use fws_num::{Items, Memory};
 use indexmap::IndexSet;
 use std::alloc::Global;
 
-/// Keeps the paths behind those that are there. An error is want of memory.
+/// Keeps the paths behind those that are there. Fails if memory runs out.
 pub(crate) fn put_paths(kept: &mut IndexSet<Path>, paths: &[Path]) -> Result<(), Memory>
     ensures { OnOk result (AreKept kept.old.keys kept.new.keys paths.now) }
 {
@@ -19,7 +19,7 @@ pub(crate) fn put_paths(kept: &mut IndexSet<Path>, paths: &[Path]) -> Result<(),
     Ok(())
 }
 
-/// The paths that were kept, in their order. An error is want of memory.
+/// The paths that were kept, in their order. Fails if memory runs out.
 pub(crate) fn listed(alloc: Global, kept: IndexSet<Path>) -> Result<Items<Path>, Memory>
     ensures { IfOk result (λ paths. paths ≡ kept.keys) }
 {

@@ -106,8 +106,8 @@ fn put_box(
     Ok(())
 }
 
-/// Keeps the paths of the packets of the rows that are true; where `established` is asked, of those of TCP. An error
-/// is want of memory.
+/// Keeps the paths of the packets of the rows that are true; where `established` is asked, of those of TCP. Fails if memory runs
+/// out.
 pub(crate) fn put_rows(
     alloc: Global,
     kept: &mut IndexSet<Path>,

@@ -94,8 +94,8 @@ fn without_addresses(
     Ok(sides)
 }
 
-/// The box without the fields of which nothing need be asked: without them it stays in the set. The protocol of
-/// `established` is asked. An error is want of memory.
+/// The box without the fields of which nothing need be asked: without them it stays in the set. The protocol of `established` is
+/// asked. Fails if memory runs out.
 pub(crate) fn widest(
     alloc: Global,
     within: &Tree<bool>,

@@ -121,7 +121,7 @@ fn cond_for(alloc: Global, path: Path, established: bool) -> Result<Cond, Memory
     Ok(cond)
 }
 
-/// The entry that does this with the packets on the path. An error is want of memory.
+/// The entry that does this with the packets on the path. Fails if memory runs out.
 pub fn entry_of(alloc: Global, act: Act, path: Path) -> Result<IosEntry, Memory>
     requires writable { IsWritable path }
     requires tcp { act.established ≡ true → path.proto ≡ Some 6 }
@@ -135,7 +135,7 @@ pub fn entry_of(alloc: Global, act: Act, path: Path) -> Result<IosEntry, Memory>
     })
 }
 
-/// The entry that permits the packets of connections. `evaluate`. An error is want of memory.
+/// The entry that permits the packets of connections. `evaluate`. Fails if memory runs out.
 pub fn state_entry(alloc: Global) -> Result<IosEntry, Memory>
     ensures { IfOk result IsStateEntry }
 {

@@ -128,8 +128,8 @@ fn net_paths(alloc: Global, side: Side, set: &Ivs, path: Path) -> Result<Items<P
     Ok(paths)
 }
 
-/// The paths of the packets on a path whose field is a member of the set; the path asks nothing of the field.
-/// An error is want of memory.
+/// The paths of the packets on a path whose field is a member of the set; the path asks nothing of the field. Fails if memory runs
+/// out.
 pub fn narrowed(alloc: Global, path: Path, side: Side, set: &Ivs) -> Result<Items<Path>, Memory>
     requires writable { IsWritable path }
     requires free { asks side path ≡ false }

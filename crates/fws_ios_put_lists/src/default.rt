@@ -48,7 +48,7 @@ fn last_size(sheet: &Sheet<'_>, node: u32, falls: Option<bool>) -> usize
     }
 }
 
-/// The node of the first kid of those that save most entries where they are left to the end. An error is want of memory.
+/// The node of the first kid of those that save most entries where they are left to the end. Fails if memory runs out.
 pub(crate) fn dearest(
     alloc: Global,
     sheet: &Sheet<'_>,

@@ -45,7 +45,7 @@ fn act_for(permit: bool, keep: bool) -> Act
     }
 }
 
-/// Appends the entry that permits packets on the path, or denies them. An error is want of memory.
+/// Appends the entry that permits packets on the path, or denies them. Fails if memory runs out.
 pub(crate) fn put_entry(
     alloc: Global,
     entries: &mut Items<IosEntry>,
@@ -60,7 +60,7 @@ pub(crate) fn put_entry(
     Ok(())
 }
 
-// Appends the entry of a leaf for packets on the path, unless they fall to its value. An error is want of memory.
+// Appends the entry of a leaf for packets on the path, unless they fall to its value. Fails if memory runs out.
 fn put_leaf(
     alloc: Global,
     entries: &mut Items<IosEntry>,
@@ -79,8 +79,8 @@ fn put_leaf(
     Ok(())
 }
 
-/// Appends the entries of a node for packets on the path. Those need none whose value is what they fall to behind
-/// them. An error is want of memory.
+/// Appends the entries of a node for packets on the path. Those need none whose value is what they fall to behind them. Fails if
+/// memory runs out.
 pub(crate) fn put_node(
     alloc: Global,
     entries: &mut Items<IosEntry>,

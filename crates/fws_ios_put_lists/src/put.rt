@@ -50,8 +50,8 @@ fn put_all(alloc: Global, entries: &mut Items<IosEntry>, sheet: &Sheet<'_>) -> R
     Ok(())
 }
 
-/// Appends entries of which the first that a packet meets permits it just where the tree is true. Behind the
-/// last one packets are denied. An error is want of memory; entries may then stand behind the others.
+/// Appends entries of which the first that a packet meets permits it just where the tree is true. Behind the last one packets are
+/// denied. Fails if memory runs out; entries may then stand behind the others.
 pub fn put_list(
     alloc: Global,
     entries: &mut Items<IosEntry>,

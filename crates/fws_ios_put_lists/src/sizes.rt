@@ -16,7 +16,7 @@ fn members(set: &Ivs) -> usize {
     count
 }
 
-// How many entries ask for the members of a set, where the protocol is asked already. An error is want of memory.
+// How many entries ask for the members of a set, where the protocol is asked already. Fails if memory runs out.
 fn pieces(alloc: Global, side: Side, set: &Ivs) -> Result<usize, Memory> {
     Ok(match side {
         Side::Proto | Side::Icmp => members(set),
@@ -31,7 +31,7 @@ pub(crate) fn size_at(sizes: &[usize], node: u32) -> usize {
     if at < sizes.len() { sizes[at] } else { 1 }
 }
 
-/// How many entries a kid takes whose set is asked for. An error is want of memory.
+/// How many entries a kid takes whose set is asked for. Fails if memory runs out.
 pub(crate) fn kid_size(
     alloc: Global,
     sizes: &[usize],
@@ -68,7 +68,7 @@ fn cut_size(alloc: Global, sizes: &[usize], f: u8, kids: &[Kid]) -> Result<usize
     }
 }
 
-/// How many entries each node takes. An error is want of memory.
+/// How many entries each node takes. Fails if memory runs out.
 pub(crate) fn sizes_of(alloc: Global, nodes: &[Node]) -> Result<Vec<usize>, Memory> {
     let mut sizes = Vec::new(alloc);
     for node in nodes {

@@ -77,8 +77,8 @@ fn put_kids(
     Ok(())
 }
 
-// The turns of a node that cuts a field for which entries ask: those for the sets of all kids but one, and at the end
-// one for all that no set before takes. An error is want of memory.
+// The turns of a node that cuts a field for which entries ask: those for the sets of all kids but one, and at the end one for all
+// that no set before takes. Fails if memory runs out.
 fn asked_turns(
     alloc: Global,
     sheet: &Sheet<'_>,
@@ -116,8 +116,7 @@ fn asked_turns(
     Ok(turns)
 }
 
-// The turn of a node that cuts a field for which entries don't ask: all kids give packets the same. An error is want
-// of memory.
+// The turn of a node that cuts a field for which entries don't ask: all kids give packets the same. Fails if memory runs out.
 fn other_turns(
     alloc: Global,
     sheet: &Sheet<'_>,
@@ -146,7 +145,7 @@ fn other_turns(
     Ok(turns)
 }
 
-/// The turns of a node that cuts a field into the sets of kids, for packets on the path. An error is want of memory.
+/// The turns of a node that cuts a field into the sets of kids, for packets on the path. Fails if memory runs out.
 pub(crate) fn cut_turns(
     alloc: Global,
     sheet: &Sheet<'_>,

@@ -10,7 +10,7 @@ use fws_tree::Tree;
 use indexmap::IndexSet;
 use std::alloc::Global;
 
-// Puts the address behind the others, unless it is there. An error is want of memory.
+// Puts the address behind the others, unless it is there. Fails if memory runs out.
 fn put_address(addrs: &mut IndexSet<u32>, addr: u32) -> Result<(), Memory>
     ensures there { OnOk result (Contains addrs.new.keys addr) }
     ensures extends { Extends addrs.old.keys addrs.new.keys }
@@ -19,7 +19,7 @@ fn put_address(addrs: &mut IndexSet<u32>, addr: u32) -> Result<(), Memory>
     Ok(())
 }
 
-// Puts the address of a source behind the others, if one is written and it isn't there. An error is want of memory.
+// Puts the address of a source behind the others, if one is written and it isn't there. Fails if memory runs out.
 fn put_source(addrs: &mut IndexSet<u32>, rewrite: &Rewrite) -> Result<(), Memory>
     ensures there { OnOk result (HasSource addrs.new.keys (Accept rewrite.now)) }
     ensures extends { Extends addrs.old.keys addrs.new.keys }
@@ -30,8 +30,7 @@ fn put_source(addrs: &mut IndexSet<u32>, rewrite: &Rewrite) -> Result<(), Memory
     }
 }
 
-// Puts the address of the source of an outcome behind the others, if one is written and it isn't there. An error is want of
-// memory.
+// Puts the address of the source of an outcome behind the others, if one is written and it isn't there. Fails if memory runs out.
 fn put_leaf(addrs: &mut IndexSet<u32>, leaf: &Outcome) -> Result<(), Memory>
     ensures there { OnOk result (HasSource addrs.new.keys leaf.now) }
     ensures extends { Extends addrs.old.keys addrs.new.keys }
@@ -42,7 +41,7 @@ fn put_leaf(addrs: &mut IndexSet<u32>, leaf: &Outcome) -> Result<(), Memory>
     }
 }
 
-// The addresses of the sources of outcomes, each once. An error is want of memory.
+// The addresses of the sources of outcomes, each once. Fails if memory runs out.
 fn of_leaves(alloc: Global, leaves: &[Outcome]) -> Result<IndexSet<u32>, Memory>
     ensures { IfOk result (λ addrs. All (HasSource addrs.keys) leaves.now) }
 {
@@ -53,7 +52,7 @@ fn of_leaves(alloc: Global, leaves: &[Outcome]) -> Result<IndexSet<u32>, Memory>
     Ok(addrs)
 }
 
-/// The addresses that packets get for their sources, each once. An error is want of memory.
+/// The addresses that packets get for their sources, each once. Fails if memory runs out.
 pub(crate) fn addresses(alloc: Global, crossing: &Tree<Outcome>) -> Result<IndexSet<u32>, Memory>
     ensures { IfOk result (λ addrs. HasSources addrs.keys crossing.now.1) }
 {

@@ -15,7 +15,7 @@ use fws_num::Memory;
 use fws_tree::{Tables, Tree};
 use std::alloc::Global;
 
-// The sides of packets that cross. An error is want of memory.
+// The sides of packets that cross. Fails if memory runs out.
 fn crossing_sides(alloc: Global, site: &Site) -> Result<[Ivs; 12], Memory>
     requires { IsSound site.now }
     ensures { IfOk result (λ sides. (x : List ℕ) → IsWithin (tops_of site.now) x → sides_have sides x ≡ crosses site.now (packet_of x)) }
@@ -27,7 +27,7 @@ fn crossing_sides(alloc: Global, site: &Site) -> Result<[Ivs; 12], Memory>
     Ok(sides)
 }
 
-/// The outcomes of new packets, where others than those that cross are dropped. An error is want of memory.
+/// The outcomes of new packets, where others than those that cross are dropped. Fails if memory runs out.
 pub(crate) fn crossing(alloc: Global, site: &Site, tables: &Tables) -> Result<Tree<Outcome>, Memory>
     requires sound { IsSound site.now }
     requires tops { tables.now.fresh.0 ≡ tops_of site.now }

@@ -20,7 +20,7 @@ use fws_place::{ios_keeps_new_packets, ios_sources_agree};
 use fws_tree::{Tables, Tree};
 use std::alloc::Global;
 
-// The translations of the packets that cross. An error is want of memory.
+// The translations of the packets that cross. Fails if memory runs out.
 fn translations_of(alloc: Global, site: &Site, crossing: &Tree<Outcome>) -> Result<Sources, Memory>
     requires sound { IsSound site.now }
     requires tops { crossing.now.0 ≡ tops_of site.now }
@@ -34,8 +34,8 @@ fn translations_of(alloc: Global, site: &Site, crossing: &Tree<Outcome>) -> Resu
     lists_of(alloc, site, crossing, &addrs)
 }
 
-/// Translation lists for the sources of tables: one for each source that new packets get. A packet gets that of the first
-/// list that permits it. An error is want of memory.
+/// Translation lists for the sources of tables: one for each source that new packets get. A packet gets that of the first list that
+/// permits it. Fails if memory runs out.
 pub fn sources_of(alloc: Global, tables: &Tables, site: &Site) -> Result<Sources, Memory>
     requires sound { IsSound site.now }
     requires regular { AreRegular site.now tables.now }

@@ -21,7 +21,7 @@ use fws_tree::Tree;
 use indexmap::IndexSet;
 use std::alloc::Global;
 
-// The name of the list that gives an address. An error is want of memory.
+// The name of the list that gives an address. Fails if memory runs out.
 fn list_name(alloc: Global, addr: u32) -> Result<Text, Memory>
     ensures { IfOk result (λ name. name ≡ list_name addr) }
 {
@@ -30,7 +30,7 @@ fn list_name(alloc: Global, addr: u32) -> Result<Text, Memory>
     Ok(name)
 }
 
-// The entries of a list that permits packets just where the tree is true. An error is want of memory.
+// The entries of a list that permits packets just where the tree is true. Fails if memory runs out.
 fn entries_for(alloc: Global, site: &Site, tree: &Tree<bool>) -> Result<Items<IosEntry>, Memory>
     requires sound { IsSound site.now }
     requires tops { tree.now.0 ≡ tops_of site.now }
@@ -42,7 +42,7 @@ fn entries_for(alloc: Global, site: &Site, tree: &Tree<bool>) -> Result<Items<Io
     Ok(entries)
 }
 
-// The entries of the list at a place. An error is want of memory.
+// The entries of the list at a place. Fails if memory runs out.
 fn entries_at(
     alloc: Global,
     site: &Site,
@@ -59,7 +59,7 @@ fn entries_at(
     entries_for(alloc, site, &sets.permitted)
 }
 
-// The list at a place, which gives the address. An error is want of memory.
+// The list at a place, which gives the address. Fails if memory runs out.
 fn list_at(
     alloc: Global,
     site: &Site,
@@ -78,7 +78,7 @@ fn list_at(
     Ok(IosList { name, entries })
 }
 
-// Puts the list at a place, which gives the address, and the translation that asks it. An error is want of memory.
+// Puts the list at a place, which gives the address, and the translation that asks it. Fails if memory runs out.
 fn put_list_at(
     alloc: Global,
     sources: &mut Sources,
@@ -112,7 +112,7 @@ fn address_at(addrs: &IndexSet<u32>, place: usize) -> u32
     }
 }
 
-/// The lists that give the addresses, and the translations that ask them. An error is want of memory.
+/// The lists that give the addresses, and the translations that ask them. Fails if memory runs out.
 pub(crate) fn lists_of(
     alloc: Global,
     site: &Site,

@@ -40,7 +40,7 @@ fn has_true(leaves: &[bool]) -> bool
     leaves.iter().any(|leaf| *leaf)
 }
 
-// Whether no packet is in both sets. An error is want of memory.
+// Whether no packet is in both sets. Fails if memory runs out.
 fn are_apart(alloc: Global, first: &Tree<bool>, second: &Tree<bool>) -> Result<bool, Memory>
     requires { second.now.0 ≡ first.now.0 }
     ensures { IfOk result (λ apart. apart ≡ true → AreApart first.now.0 first.now.1 second.now.1) }
@@ -52,7 +52,7 @@ fn are_apart(alloc: Global, first: &Tree<bool>, second: &Tree<bool>) -> Result<b
 // Sets that aren't wanted any more.
 fn dismiss(_sets: Parted) {}
 
-// The sets without a test of the fields, which may not stay apart. An error is want of memory.
+// The sets without a test of the fields, which may not stay apart. Fails if memory runs out.
 fn projected(alloc: Global, sets: &Parted, fields: u16) -> Result<Parted, Memory>
     requires look { keeps_look fields ≡ true }
     requires parted { IsParted sets.now }
@@ -75,7 +75,7 @@ fn kept_if(apart: bool, sets: Parted) -> Option<Parted>
     None
 }
 
-// The sets without a test of the fields, if they stay apart. An error is want of memory.
+// The sets without a test of the fields, if they stay apart. Fails if memory runs out.
 fn parted_without(alloc: Global, sets: &Parted, fields: u16) -> Result<Option<Parted>, Memory>
     requires look { keeps_look fields ≡ true }
     requires parted { IsParted sets.now }
@@ -92,7 +92,7 @@ fn parted_without(alloc: Global, sets: &Parted, fields: u16) -> Result<Option<Pa
     }
 }
 
-// The sets without a test of the fields, where they stay apart; else as they are. An error is want of memory.
+// The sets without a test of the fields, where they stay apart; else as they are. Fails if memory runs out.
 fn left_out(alloc: Global, sets: Parted, fields: u16) -> Result<Parted, Memory>
     requires look { keeps_look fields ≡ true }
     requires parted { IsParted sets }
@@ -114,7 +114,7 @@ fn left_out(alloc: Global, sets: Parted, fields: u16) -> Result<Parted, Memory>
 
 // The sets without tests of fields that needn't be tested. Fields are left out one after another, each where what is permitted
 // stays apart from what is denied: the type of ICMP, the ports of the source and of the destination, the protocol with all of
-// these, and the addresses. An error is want of memory.
+// these, and the addresses. Fails if memory runs out.
 fn freed(alloc: Global, sets: Parted) -> Result<Parted, Memory>
     requires { IsParted sets }
     ensures parted { IfOk result IsParted }
@@ -129,8 +129,7 @@ fn freed(alloc: Global, sets: Parted) -> Result<Parted, Memory>
     Ok(sets)
 }
 
-// The packets that get the source of the list at a place, and those that get that of a later one or none. An error is want
-// of memory.
+// The packets that get the source of the list at a place, and those that get that of a later one or none. Fails if memory runs out.
 fn picked_at(
     alloc: Global,
     crossing: &Tree<Outcome>,
@@ -145,8 +144,8 @@ fn picked_at(
     Ok(Parted { permitted, denied })
 }
 
-/// What the list at a place permits and denies: it permits the packets to which it gives a source, and denies those that get
-/// that of a later one or none. An error is want of memory.
+/// What the list at a place permits and denies: it permits the packets to which it gives a source, and denies those that get that
+/// of a later one or none. Fails if memory runs out.
 pub(crate) fn parted_at(
     alloc: Global,
     crossing: &Tree<Outcome>,

@@ -68,8 +68,8 @@ impl Relabelling<Outcome, bool> for GivenAt<'_> {
     }
 }
 
-/// The packets that are accepted, with a source that is given at a place or behind it, whatever their entry and their
-/// flags. An error is want of memory.
+/// The packets that are accepted, with a source that is given at a place or behind it, whatever their entry and their flags. Fails
+/// if memory runs out.
 pub(crate) fn picked(
     alloc: Global,
     crossing: &Tree<Outcome>,

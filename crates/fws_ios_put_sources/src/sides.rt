@@ -36,7 +36,7 @@ fn is_on(site: &Site, entry: u8, outside: bool) -> bool
     }
 }
 
-/// The entry numbers of the interfaces on the outside, or of those on the inside. An error is want of memory.
+/// The entry numbers of the interfaces on the outside, or of those on the inside. Fails if memory runs out.
 pub fn entries_on(alloc: Global, site: &Site, outside: bool) -> Result<Ivs, Memory>
     requires { IsSound site.now }
     ensures { IfOk result (λ set. (n : ℕ) → has set n ≡ is_on outside (side_of site.now n)) }
@@ -51,7 +51,7 @@ pub fn entries_on(alloc: Global, site: &Site, outside: bool) -> Result<Ivs, Memo
     Ok(set)
 }
 
-// The addresses for which packets are sent to an interface on the outside. An error is want of memory.
+// The addresses for which packets are sent to an interface on the outside. Fails if memory runs out.
 fn outside_routes(alloc: Global, site: &Site) -> Result<Ivs, Memory>
     requires { IsSound site.now }
     ensures { IfOk result (λ set. (a : ℕ) → has set a ≡ is_outside_route site.now a) }
@@ -67,7 +67,7 @@ fn outside_routes(alloc: Global, site: &Site) -> Result<Ivs, Memory>
     Ok(set)
 }
 
-/// The addresses for which packets that arrive are forwarded to an interface on the outside. An error is want of memory.
+/// The addresses for which packets that arrive are forwarded to an interface on the outside. Fails if memory runs out.
 pub(crate) fn sent_outside(alloc: Global, site: &Site) -> Result<Ivs, Memory>
     requires { IsSound site.now }
     ensures { IfOk result (λ set. (a : ℕ) → has set a ≡ is_sent_outside site.now a) }

@@ -132,7 +132,7 @@ fn tried(alloc: Global, tables: &Tables, site: &Site, hints: &Flat) -> Result<Te
 }
 
 /// Texts of Cisco IOS that may do what the tables say, best first: none where the search gave up. Nothing is promised of them.
-/// An error is want of memory.
+/// Fails if memory runs out.
 pub fn suggest(
     alloc: Global,
     tables: &Tables,

@@ -30,7 +30,7 @@ pub(crate) struct Leads {
     pub(crate) to: usize,
 }
 
-/// How a pass ends accepted. An error is want of memory.
+/// How a pass ends accepted. Fails if memory runs out.
 fn accepting(translated: bool, ends: usize) -> Result<Act, Memory>
     ensures { IfOk result (λ act. act ≡ accepting translated ends) }
 {
@@ -41,7 +41,7 @@ fn accepting(translated: bool, ends: usize) -> Result<Act, Memory>
     }
 }
 
-/// Puts a rule that skips to a place where its condition holds. An error is want of memory.
+/// Puts a rule that skips to a place where its condition holds. Fails if memory runs out.
 fn put_skipping(rules: &mut Vec<Rule>, cond: Cond, to: usize) -> Result<(), Memory>
     ensures { OnOk result (rules.new.items ≡ rules.old.items ++ ruled cond (Act.Skip to) ∷ []) }
 {
@@ -49,8 +49,8 @@ fn put_skipping(rules: &mut Vec<Rule>, cond: Cond, to: usize) -> Result<(), Memo
     put_rule(rules, cond, Act::Skip(place))
 }
 
-/// Puts behind the others the rules that translate by an instance where the condition holds, behind which
-/// the walk goes on at the place done. An error is want of memory.
+/// Puts behind the others the rules that translate by an instance where the condition holds, behind which the walk goes on at the
+/// place done. Fails if memory runs out.
 fn put_by_instance(
     alloc: Global,
     rules: &mut Vec<Rule>,
@@ -66,8 +66,8 @@ fn put_by_instance(
     Ok(())
 }
 
-/// Puts behind the others the rules that translate by the instance with a number where the condition
-/// holds, unless the packet was translated. An error is want of memory.
+/// Puts behind the others the rules that translate by the instance with a number where the condition holds, unless the packet was
+/// translated. Fails if memory runs out.
 fn put_translating_once(
     alloc: Global,
     rules: &mut Vec<Rule>,
@@ -94,7 +94,7 @@ fn put_translating_once(
     }
 }
 
-/// Puts the rules of an act behind the others. An error is want of memory.
+/// Puts the rules of an act behind the others. Fails if memory runs out.
 fn put_acting(
     alloc: Global,
     rules: &mut Vec<Rule>,
@@ -125,8 +125,8 @@ fn put_acting(
     }
 }
 
-/// Puts the rule that puts or takes away a tag behind the others, and then the rules of an act, all of
-/// which are met where the condition holds. An error is want of memory.
+/// Puts the rule that puts or takes away a tag behind the others, and then the rules of an act, all of which are met where the
+/// condition holds. Fails if memory runs out.
 fn put_tagged(
     alloc: Global,
     rules: &mut Vec<Rule>,
@@ -148,7 +148,7 @@ fn put_tagged(
     Ok(())
 }
 
-/// Puts the rules of a rule's tag and act behind the others. An error is want of memory.
+/// Puts the rules of a rule's tag and act behind the others. Fails if memory runs out.
 fn put_tagging_first(
     alloc: Global,
     rules: &mut Vec<Rule>,
@@ -174,8 +174,7 @@ fn put_tagging_first(
     }
 }
 
-/// Puts the rule behind the others at which packets of connections pass, if the rule keeps state. An error
-/// is want of memory.
+/// Puts the rule behind the others at which packets of connections pass, if the rule keeps state. Fails if memory runs out.
 fn put_keeping(alloc: Global, rules: &mut Vec<Rule>, leads: Leads, keep: bool) -> Result<(), Memory>
     ensures { OnOk result (rules.new.items ≡ rules.old.items ++ keeping keep leads.translated leads.ends) }
 {
@@ -187,7 +186,7 @@ fn put_keeping(alloc: Global, rules: &mut Vec<Rule>, leads: Leads, keep: bool) -
     Ok(())
 }
 
-/// Puts the rules to which a rule is unfolded behind the others. An error is want of memory.
+/// Puts the rules to which a rule is unfolded behind the others. Fails if memory runs out.
 pub(crate) fn put_block(
     alloc: Global,
     rules: &mut Vec<Rule>,

@@ -26,7 +26,7 @@ pub(crate) fn looks_up(rule: &IpfwRule) -> bool
     rule.keep || is_check(rule.act)
 }
 
-/// The rule that counts what the rule's condition holds of, with the same number. An error is want of memory.
+/// The rule that counts what the rule's condition holds of, with the same number. Fails if memory runs out.
 fn counting(alloc: Global, rule: &IpfwRule) -> Result<IpfwRule, Memory>
     ensures { IfOk result (λ r. r ≡ counting rule.now) }
 {
@@ -40,7 +40,7 @@ fn counting(alloc: Global, rule: &IpfwRule) -> Result<IpfwRule, Memory>
     })
 }
 
-/// An equal rule. An error is want of memory.
+/// An equal rule. Fails if memory runs out.
 fn copied_rule(alloc: Global, rule: &IpfwRule) -> Result<IpfwRule, Memory>
     ensures { IfOk result (λ r. r ≡ rule.now) }
 {
@@ -54,8 +54,7 @@ fn copied_rule(alloc: Global, rule: &IpfwRule) -> Result<IpfwRule, Memory>
     })
 }
 
-/// Puts a rule behind the others, and ahead of it the one that counts, if it looks up connections. An error
-/// is want of memory.
+/// Puts a rule behind the others, and ahead of it the one that counts, if it looks up connections. Fails if memory runs out.
 fn put_counted(alloc: Global, all: &mut Vec<IpfwRule>, rule: &IpfwRule) -> Result<(), Memory>
     ensures { OnOk result (all.new.items ≡ all.old.items ++ counted (rule.now ∷ [])) }
 {
@@ -66,7 +65,7 @@ fn put_counted(alloc: Global, all: &mut Vec<IpfwRule>, rule: &IpfwRule) -> Resul
     Ok(())
 }
 
-/// The rules, with a rule that counts ahead of each that looks up connections. An error is want of memory.
+/// The rules, with a rule that counts ahead of each that looks up connections. Fails if memory runs out.
 fn counted(alloc: Global, rules: &[IpfwRule]) -> Result<Vec<IpfwRule>, Memory>
     ensures { IfOk result (λ all. all.items ≡ counted rules.now) }
 {
@@ -77,7 +76,7 @@ fn counted(alloc: Global, rules: &[IpfwRule]) -> Result<Vec<IpfwRule>, Memory>
     Ok(all)
 }
 
-/// Equal redirects. An error is want of memory.
+/// Equal redirects. Fails if memory runs out.
 fn copied_redirects(alloc: Global, redirects: &[Redirect]) -> Result<Vec<Redirect>, Memory>
     ensures { IfOk result (λ all. all.items ≡ redirects.now) }
 {
@@ -88,7 +87,7 @@ fn copied_redirects(alloc: Global, redirects: &[Redirect]) -> Result<Vec<Redirec
     Ok(all)
 }
 
-/// An equal instance. An error is want of memory.
+/// An equal instance. Fails if memory runs out.
 fn copied_nat(alloc: Global, nat: &IpfwNat) -> Result<IpfwNat, Memory>
     ensures { IfOk result (λ n. n ≡ nat.now) }
 {
@@ -100,7 +99,7 @@ fn copied_nat(alloc: Global, nat: &IpfwNat) -> Result<IpfwNat, Memory>
     })
 }
 
-/// Equal instances. An error is want of memory.
+/// Equal instances. Fails if memory runs out.
 fn copied_nats(alloc: Global, nats: &[IpfwNat]) -> Result<Vec<IpfwNat>, Memory>
     ensures { IfOk result (λ all. all.items ≡ nats.now) }
 {
@@ -111,8 +110,7 @@ fn copied_nats(alloc: Global, nats: &[IpfwNat]) -> Result<Vec<IpfwNat>, Memory>
     Ok(all)
 }
 
-/// The configuration, with a rule that counts ahead of each that looks up connections. An error is want of
-/// memory.
+/// The configuration, with a rule that counts ahead of each that looks up connections. Fails if memory runs out.
 pub(crate) fn with_counts(alloc: Global, c: &IpfwConfig) -> Result<IpfwConfig, Memory>
     ensures { IfOk result (λ d. d ≡ with_counts c.now) }
 {

@@ -74,7 +74,7 @@ pub(crate) struct Layout {
     ends: usize,
 }
 
-/// The layout of a configuration's diagram. An error is want of memory.
+/// The layout of a configuration's diagram. Fails if memory runs out.
 pub(crate) fn laid_out(
     alloc: Global,
     instances: &Instances,
@@ -108,16 +108,16 @@ pub(crate) fn laid_out(
     })
 }
 
-/// Where a packet goes on behind the translation of a rule, of which the next has this place in the second
-/// half. An error is want of memory.
+/// Where a packet goes on behind the translation of a rule, of which the next has this place in the second half. Fails if memory
+/// runs out.
 fn place_behind(one_pass: bool, ends: usize, next: usize) -> Result<usize, Memory>
     ensures { IfOk result (λ place. place ≡ place_behind one_pass ends next) }
 {
     if one_pass { sum(ends, 2) } else { Ok(next) }
 }
 
-/// Puts the rules of one half behind the others, which begin at these places, and those of the second half
-/// at the others. An error is want of memory.
+/// Puts the rules of one half behind the others, which begin at these places, and those of the second half at the others. Fails if
+/// memory runs out.
 fn put_half(
     alloc: Global,
     rules: &mut Vec<Rule>,
@@ -153,7 +153,7 @@ fn put_half(
     Ok(())
 }
 
-/// Puts the rules that end a pass behind the others. An error is want of memory.
+/// Puts the rules that end a pass behind the others. Fails if memory runs out.
 fn put_ending(alloc: Global, rules: &mut Vec<Rule>) -> Result<(), Memory>
     ensures { OnOk result (rules.new.items ≡ rules.old.items ++ ending) }
 {
@@ -164,8 +164,7 @@ fn put_ending(alloc: Global, rules: &mut Vec<Rule>) -> Result<(), Memory>
     put_always(alloc, rules, Act::Accept)
 }
 
-/// Puts the rules of the second half behind the others, where some packet may go on behind a translation.
-/// An error is want of memory.
+/// Puts the rules of the second half behind the others, where some packet may go on behind a translation. Fails if memory runs out.
 fn put_second_half(
     alloc: Global,
     rules: &mut Vec<Rule>,
@@ -191,7 +190,7 @@ fn put_second_half(
     Ok(())
 }
 
-/// All rules of a pass. An error is want of memory.
+/// All rules of a pass. Fails if memory runs out.
 fn all_rules(alloc: Global, c: &IpfwConfig, site: &Site) -> Result<Vec<Rule>, Memory>
     requires { IsDrawable c.now }
     ensures { IfOk result (λ rules. rules.items ≡ all_rules site.now c.now) }
@@ -221,8 +220,7 @@ fn all_rules(alloc: Global, c: &IpfwConfig, site: &Site) -> Result<Vec<Rule>, Me
     Ok(rules)
 }
 
-/// The chain of all rules of a pass, and the one that puts the destination of a connection in place. An
-/// error is want of memory.
+/// The chain of all rules of a pass, and the one that puts the destination of a connection in place. Fails if memory runs out.
 fn chains_of(alloc: Global, c: &IpfwConfig, site: &Site) -> Result<Items<Chain>, Memory>
     requires { IsDrawable c.now }
     ensures { IfOk result (λ chains. chains ≡ chains_of site.now c.now) }
@@ -267,7 +265,7 @@ fn destination_stage() -> Stage
     }
 }
 
-/// The diagram, put together from its chains and stages. An error is want of memory.
+/// The diagram, put together from its chains and stages. Fails if memory runs out.
 fn drawn(alloc: Global, c: &IpfwConfig, site: &Site) -> Result<Ifcl, Memory>
     requires { IsDrawable c.now }
     ensures { IfOk result (λ d. d ≡ diagram_of site.now c.now) }
@@ -288,11 +286,10 @@ fn drawn(alloc: Global, c: &IpfwConfig, site: &Site) -> Result<Ifcl, Memory>
     })
 }
 
-/// The control diagram of a configuration on a site. It does with each packet what the configuration does,
-/// new or of a connection, and it can be unfolded. One chain has the rules of all passes, each rule in its
-/// place, and once more for packets that were translated where these go on; another puts the destination
-/// of a connection in place for packets of the host. An error is want of memory, or of numbers for rules.
-/// Linear in the rules and in the redirects of the instances that they name.
+/// The control diagram of a configuration on a site. It does with each packet what the configuration does, new or of a connection,
+/// and it can be unfolded. One chain has the rules of all passes, each rule in its place, and once more for packets that were
+/// translated where these go on; another puts the destination of a connection in place for packets of the host. Fails if memory or
+/// numbers for rules run out. Linear in the rules and in the redirects of the instances that they name.
 pub fn to_ifcl(alloc: Global, c: &IpfwConfig, site: &Site) -> Result<Ifcl, Memory>
     requires { IsDrawable c.now }
     ensures diagram { IfOk result (λ d. d ≡ diagram_of site.now c.now) }
@@ -308,13 +305,13 @@ pub fn to_ifcl(alloc: Global, c: &IpfwConfig, site: &Site) -> Result<Ifcl, Memor
     Ok(d)
 }
 
-/// A control diagram of a configuration on a site, and where the configuration's rules stand in it. It does with each
-/// packet what the configuration does, as the diagram of `to_ifcl` does, and the rules whose places a packet's walk uses
-/// are those that the configuration's walk uses, as often and in the same order. So ahead of a rule that keeps state or
-/// checks it one is drawn that has its condition and does nothing: packets of connections pass at the rules behind it by
-/// other conditions. A rule has one place in each half: in the one for packets that weren't translated in their pass,
-/// and in the other, where there is one. The rules are counted from 0, as they stand. An error is want of memory, or of
-/// numbers for rules. Linear in the rules and in the redirects of the instances that they name.
+/// A control diagram of a configuration on a site, and where the configuration's rules stand in it. It does with each packet what
+/// the configuration does, as the diagram of `to_ifcl` does, and the rules whose places a packet's walk uses are those that the
+/// configuration's walk uses, as often and in the same order. So ahead of a rule that keeps state or checks it one is drawn that
+/// has its condition and does nothing: packets of connections pass at the rules behind it by other conditions. A rule has one place
+/// in each half: in the one for packets that weren't translated in their pass, and in the other, where there is one. The rules are
+/// counted from 0, as they stand. Fails if memory or numbers for rules run out. Linear in the rules and in the redirects of the
+/// instances that they name.
 pub fn places(alloc: Global, c: &IpfwConfig, site: &Site) -> Result<(Ifcl, Vec<Spot>), Memory>
     requires { IsDrawable c.now }
     ensures ok { IfOk result (λ x. ifcl_ok x.0 ≡ true) }

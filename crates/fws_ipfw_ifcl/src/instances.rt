@@ -16,7 +16,7 @@ pub(crate) struct Instances {
 }
 
 impl Instances {
-    /// Where these stand. An error is want of memory.
+    /// Where these stand. Fails if memory runs out.
     pub(crate) fn of(alloc: Global, nats: &[IpfwNat]) -> Result<Instances, Memory> {
         let mut places = IndexMap::new(alloc);
         for (place, nat) in nats.iter().enumerate() {

@@ -14,7 +14,7 @@ use fws_ipfw::{IpfwAct, IpfwNat, IpfwRule};
 use fws_num::Memory;
 use std::alloc::Global;
 
-/// The places of the rules of each rule, and the one behind all of them. An error is want of memory.
+/// The places of the rules of each rule, and the one behind all of them. Fails if memory runs out.
 fn places_of(
     alloc: Global,
     instances: &Instances,
@@ -37,8 +37,8 @@ fn places_of(
     Ok(starts)
 }
 
-/// The places at which the rules of each rule begin in a half, of which the first has the place `first`,
-/// and the place behind all of them: one more than there are rules. An error is want of memory.
+/// The places at which the rules of each rule begin in a half, of which the first has the place `first`, and the place behind all
+/// of them: one more than there are rules. Fails if memory runs out.
 pub(crate) fn starts_from(
     alloc: Global,
     instances: &Instances,

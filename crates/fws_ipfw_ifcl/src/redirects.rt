@@ -14,7 +14,7 @@ use fws_num::Memory;
 use fws_rules::positive;
 use std::alloc::Global;
 
-/// Puts those that redirect ports behind the others. An error is want of memory.
+/// Puts those that redirect ports behind the others. Fails if memory runs out.
 fn put_of_ports(tried: &mut Vec<Redirect>, redirects: &[Redirect]) -> Result<(), Memory>
     ensures { OnOk result (tried.new.items ≡ tried.old.items ++ filter is_of_ports redirects.now) }
 {
@@ -26,7 +26,7 @@ fn put_of_ports(tried: &mut Vec<Redirect>, redirects: &[Redirect]) -> Result<(),
     Ok(())
 }
 
-/// Puts those that redirect addresses behind the others. An error is want of memory.
+/// Puts those that redirect addresses behind the others. Fails if memory runs out.
 fn put_of_address(tried: &mut Vec<Redirect>, redirects: &[Redirect]) -> Result<(), Memory>
     ensures { OnOk result (tried.new.items ≡ tried.old.items ++ filter is_of_address redirects.now) }
 {
@@ -38,7 +38,7 @@ fn put_of_address(tried: &mut Vec<Redirect>, redirects: &[Redirect]) -> Result<(
     Ok(())
 }
 
-/// The redirects in the order in which they are tried. An error is want of memory.
+/// The redirects in the order in which they are tried. Fails if memory runs out.
 pub(crate) fn by_trial(alloc: Global, redirects: &[Redirect]) -> Result<Vec<Redirect>, Memory>
     ensures { IfOk result (λ tried. tried.items ≡ by_trial redirects.now) }
 {
@@ -48,14 +48,14 @@ pub(crate) fn by_trial(alloc: Global, redirects: &[Redirect]) -> Result<Vec<Redi
     Ok(tried)
 }
 
-/// The set of one number. An error is want of memory.
+/// The set of one number. Fails if memory runs out.
 fn single(alloc: Global, value: u32) -> Result<Ivs, Memory>
     ensures { IfOk result (λ set. set ≡ one value value) }
 {
     one(alloc, value, value)
 }
 
-/// The condition with a protocol behind the others, if there is one. An error is want of memory.
+/// The condition with a protocol behind the others, if there is one. Fails if memory runs out.
 fn with_protocol(alloc: Global, mut cond: Cond, proto: Option<u8>) -> Result<Cond, Memory>
     ensures { IfOk result (λ c. c ≡ cond ++ just Proto proto) }
 {
@@ -68,7 +68,7 @@ fn with_protocol(alloc: Global, mut cond: Cond, proto: Option<u8>) -> Result<Con
     }
 }
 
-/// The condition of a packet that goes to the outer end. An error is want of memory.
+/// The condition of a packet that goes to the outer end. Fails if memory runs out.
 fn goes_to(alloc: Global, redirect: Redirect) -> Result<Cond, Memory>
     ensures { IfOk result (λ c. c ≡ goes_to redirect) }
 {
@@ -83,7 +83,7 @@ fn goes_to(alloc: Global, redirect: Redirect) -> Result<Cond, Memory>
     }
 }
 
-/// The condition of a packet that comes from the inner end. An error is want of memory.
+/// The condition of a packet that comes from the inner end. Fails if memory runs out.
 fn comes_from(alloc: Global, redirect: Redirect) -> Result<Cond, Memory>
     ensures { IfOk result (λ c. c ≡ comes_from redirect) }
 {
@@ -98,8 +98,7 @@ fn comes_from(alloc: Global, redirect: Redirect) -> Result<Cond, Memory>
     }
 }
 
-/// The condition of a packet that the redirect is for, as it goes out or as it comes in. An error is want
-/// of memory.
+/// The condition of a packet that the redirect is for, as it goes out or as it comes in. Fails if memory runs out.
 pub(crate) fn asking(alloc: Global, outward: bool, redirect: Redirect) -> Result<Cond, Memory>
     ensures { IfOk result (λ c. c ≡ asking outward redirect) }
 {

@@ -17,7 +17,7 @@ use fws_net::Site;
 use fws_num::Memory;
 use std::alloc::Global;
 
-/// How many rules a rule is unfolded to in a half, with the one ahead of it. An error is want of memory.
+/// How many rules a rule is unfolded to in a half, with the one ahead of it. Fails if memory runs out.
 fn placed_width(
     instances: &Instances,
     nats: &[IpfwNat],
@@ -35,8 +35,8 @@ fn placed_width(
     }
 }
 
-/// Puts the spots of the rules of a half behind the others, of which the first has the place. An error is
-/// want of memory, or of numbers for rules.
+/// Puts the spots of the rules of a half behind the others, of which the first has the place. Fails if memory or numbers for rules
+/// run out.
 fn put_half_spots(
     spots: &mut Vec<Spot>,
     instances: &Instances,
@@ -60,8 +60,8 @@ fn put_half_spots(
     Ok(())
 }
 
-/// Puts the spots of the rules of the second half behind the others, where some packet may go on behind a
-/// translation. An error is want of memory, or of numbers for rules.
+/// Puts the spots of the rules of the second half behind the others, where some packet may go on behind a translation. Fails if
+/// memory or numbers for rules run out.
 fn put_second_spots(
     spots: &mut Vec<Spot>,
     instances: &Instances,
@@ -82,8 +82,8 @@ fn put_second_spots(
     Ok(())
 }
 
-/// Where the rules of a configuration stand, in the diagram of the one that has rules that count. An error
-/// is want of memory, or of numbers for rules.
+/// Where the rules of a configuration stand, in the diagram of the one that has rules that count. Fails if memory or numbers for
+/// rules run out.
 pub(crate) fn spots_of(
     alloc: Global,
     c: &IpfwConfig,

@@ -13,7 +13,7 @@ use fws_num::Memory;
 use fws_rules::{negative, positive};
 use std::alloc::Global;
 
-/// Puts a rule that skips to a place behind the others. An error is want of memory.
+/// Puts a rule that skips to a place behind the others. Fails if memory runs out.
 pub(crate) fn put_skip(alloc: Global, rules: &mut Vec<Rule>, to: usize) -> Result<(), Memory>
     ensures { OnOk result (rules.new.items ≡ rules.old.items ++ always (Act.Skip to) ∷ []) }
 {
@@ -21,8 +21,8 @@ pub(crate) fn put_skip(alloc: Global, rules: &mut Vec<Rule>, to: usize) -> Resul
     put_always(alloc, rules, Act::Skip(place))
 }
 
-/// Puts a rule for each redirect behind the others, that skips where its condition holds: the first to
-/// this place, each other one two further. An error is want of memory.
+/// Puts a rule for each redirect behind the others, that skips where its condition holds: the first to this place, each other one
+/// two further. Fails if memory runs out.
 fn put_choosing(
     alloc: Global,
     rules: &mut Vec<Rule>,
@@ -41,8 +41,8 @@ fn put_choosing(
     Ok(())
 }
 
-/// Puts behind the others what is written for each redirect, behind which the walk goes on at the place
-/// done. An error is want of memory.
+/// Puts behind the others what is written for each redirect, behind which the walk goes on at the place done. Fails if memory runs
+/// out.
 fn put_writing(
     alloc: Global,
     rules: &mut Vec<Rule>,
@@ -59,7 +59,7 @@ fn put_writing(
     Ok(())
 }
 
-/// Puts behind the others what is written without a redirect. An error is want of memory.
+/// Puts behind the others what is written without a redirect. Fails if memory runs out.
 fn put_aliasing(
     alloc: Global,
     rules: &mut Vec<Rule>,
@@ -82,7 +82,7 @@ fn aliasing_width(outward: bool) -> usize
     if outward { 1 } else { 0 }
 }
 
-/// How many rules translate one end by so many redirects. An error is want of memory.
+/// How many rules translate one end by so many redirects. Fails if memory runs out.
 pub(crate) fn redirecting_width(outward: bool, redirects: usize) -> Result<usize, Memory>
     ensures { IfOk result (λ n. n ≡ 3 * redirects + (aliasing_width outward + 1)) }
 {
@@ -90,8 +90,8 @@ pub(crate) fn redirecting_width(outward: bool, redirects: usize) -> Result<usize
     sum(all, aliasing_width(outward) + 1)
 }
 
-/// Puts behind the others the rules that write one end by the redirects, behind which the walk goes on at
-/// the place done. An error is want of memory.
+/// Puts behind the others the rules that write one end by the redirects, behind which the walk goes on at the place done. Fails if
+/// memory runs out.
 fn put_redirecting(
     alloc: Global,
     rules: &mut Vec<Rule>,
@@ -110,9 +110,8 @@ fn put_redirecting(
     put_writing(alloc, rules, outward, done, redirects)
 }
 
-/// Puts behind the others the four rules ahead of the redirects: a packet of a connection gets the end
-/// with which it leaves, and the walk goes on at the place done; a new one that goes out skips to another
-/// place. An error is want of memory.
+/// Puts behind the others the four rules ahead of the redirects: a packet of a connection gets the end with which it leaves, and
+/// the walk goes on at the place done; a new one that goes out skips to another place. Fails if memory runs out.
 fn put_tracking(
     alloc: Global,
     rules: &mut Vec<Rule>,
@@ -134,8 +133,8 @@ fn put_tracking(
     Ok(())
 }
 
-/// Puts behind the others the rules that translate by an instance, behind which the walk goes on at the
-/// place done. An error is want of memory.
+/// Puts behind the others the rules that translate by an instance, behind which the walk goes on at the place done. Fails if memory
+/// runs out.
 pub(crate) fn put_translating(
     alloc: Global,
     rules: &mut Vec<Rule>,

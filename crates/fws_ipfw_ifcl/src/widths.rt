@@ -11,7 +11,7 @@ use fws_ifcl_rules::sum;
 use fws_ipfw::{IpfwAct, IpfwNat, IpfwRule, IpfwTag};
 use fws_num::Memory;
 
-/// How many rules translate by an instance. An error is want of memory.
+/// How many rules translate by an instance. Fails if memory runs out.
 pub(crate) fn translating_width(nat: &IpfwNat) -> Result<usize, Memory>
     ensures { IfOk result (λ n. n ≡ translating_width (Some nat.now)) }
 {
@@ -22,8 +22,7 @@ pub(crate) fn translating_width(nat: &IpfwNat) -> Result<usize, Memory>
     Ok(all)
 }
 
-/// How many rules an act is unfolded to, in the half of packets that were translated or in the other. An
-/// error is want of memory.
+/// How many rules an act is unfolded to, in the half of packets that were translated or in the other. Fails if memory runs out.
 pub(crate) fn acting_width(
     instances: &Instances,
     nats: &[IpfwNat],
@@ -69,7 +68,7 @@ fn keeping_width(keep: bool) -> usize
     if keep { 1 } else { 0 }
 }
 
-/// How many rules a rule is unfolded to in a half. An error is want of memory.
+/// How many rules a rule is unfolded to in a half. Fails if memory runs out.
 pub(crate) fn width(
     instances: &Instances,
     nats: &[IpfwNat],

@@ -27,8 +27,8 @@ fn put_rules(alloc: Global, labels: &mut Vec<Text>, rules: &[IpfwRule]) -> Resul
     Ok(())
 }
 
-/// The labels of a configuration's rules, as they are sorted: the number of each, as `rule 200`. Linear in the rules.
-/// An error is want of memory.
+/// The labels of a configuration's rules, as they are sorted: the number of each, as `rule 200`. Linear in the rules. Fails if
+/// memory runs out.
 pub fn labels(alloc: Global, c: &IpfwConfig) -> Result<Vec<Text>, Memory>
     ensures { IfOk result (λ labels. labels.items ≡ labels_of c.now) }
 {

@@ -40,7 +40,7 @@ fn printed_texts_are_read()
 const HEAD: &[u8] =
     b"# Written by FWS for ipfw(8). It is loaded with: ipfw -q FILE\n# Rules are added to those that are there: begin with an empty list (ipfw flush).\n# one_pass has to be as in the site file (sysctl net.inet.ip.fw.one_pass).\n";
 
-/// The text of a configuration: comments, the instances and the rules. An error is want of memory.
+/// The text of a configuration: comments, the instances and the rules. Fails if memory runs out.
 fn config_text(alloc: Global, c: &IpfwConfig, site: &Site) -> Result<Text, Memory>
     ensures { IfOk result (λ text. text ≡ config_text site.now c.now) }
 {
@@ -50,8 +50,8 @@ fn config_text(alloc: Global, c: &IpfwConfig, site: &Site) -> Result<Text, Memor
     Ok(out)
 }
 
-/// The text of a printable configuration, as lines that ipfw(8) takes one by one. It is read as that
-/// configuration. An error is want of memory.
+/// The text of a printable configuration, as lines that ipfw(8) takes one by one. It is read as that configuration. Fails if memory
+/// runs out.
 pub fn print(alloc: Global, c: &IpfwConfig, site: &Site) -> Result<Text, Memory>
     requires orderly { IsOrderly site.now }
     requires printable { is_printable site.now c.now ≡ true }

@@ -26,7 +26,7 @@ use fws_tree_seen::relabelled_trees_are_told;
 use indexmap::IndexSet;
 use std::alloc::Global;
 
-/// Puts the list of new packets that arrive. An error is want of memory.
+/// Puts the list of new packets that arrive. Fails if memory runs out.
 fn put_arriving(
     alloc: Global,
     rules: &mut Items<IpfwRule>,
@@ -52,7 +52,7 @@ fn put_arriving(
     Ok(())
 }
 
-/// Puts the list of new packets of the host. An error is want of memory.
+/// Puts the list of new packets of the host. Fails if memory runs out.
 fn put_sent(
     alloc: Global,
     rules: &mut Items<IpfwRule>,
@@ -73,7 +73,7 @@ fn put_sent(
     Ok(())
 }
 
-/// Puts the rules for destinations and for sources. An error is want of memory.
+/// Puts the rules for destinations and for sources. Fails if memory runs out.
 fn put_ends(
     alloc: Global,
     rules: &mut Items<IpfwRule>,
@@ -89,8 +89,8 @@ fn put_ends(
     Ok(())
 }
 
-/// The rules of a policy, by its new packets, by what is told of packets of connections as they arrive and as
-/// they leave, and by the ends that are written. An error is want of memory.
+/// The rules of a policy, by its new packets, by what is told of packets of connections as they arrive and as they leave, and by
+/// the ends that are written. Fails if memory runs out.
 pub(crate) fn rules_of(
     alloc: Global,
     site: &Site,
@@ -125,7 +125,7 @@ pub(crate) fn rules_of(
     Ok(rules)
 }
 
-/// The instances of a policy. An error is want of memory.
+/// The instances of a policy. Fails if memory runs out.
 pub(crate) fn nats_of(
     alloc: Global,
     redirects: &[Redirect],

@@ -27,7 +27,7 @@ use fws_tree::{Node, Tree};
 use fws_tree_seen::relabelled_trees_are_told;
 use std::alloc::Global;
 
-/// The destinations for which an arriving packet makes no out pass. An error is want of memory.
+/// The destinations for which an arriving packet makes no out pass. Fails if memory runs out.
 fn unmet_destinations(alloc: Global, site: &Site) -> Result<Ivs, Memory>
     ensures { IfOk result (λ set. (a : ℕ) → a ≤ 2 ^ 32 - 1 → has set a ≡ (is_local site.now a || not site.now.forwarding)) }
 {
@@ -38,7 +38,7 @@ fn unmet_destinations(alloc: Global, site: &Site) -> Result<Ivs, Memory>
     }
 }
 
-/// The sides of the pairs that arrive and make no out pass. An error is want of memory.
+/// The sides of the pairs that arrive and make no out pass. Fails if memory runs out.
 fn unmet_sides(alloc: Global, site: &Site) -> Result<[Ivs; 12], Memory>
     requires { IsSound site.now }
     ensures { IfOk result (λ sides. (x : List ℕ) → IsWithin (tops_of site.now) x → sides_have sides x ≡ is_unmet site.now x) }
@@ -50,8 +50,7 @@ fn unmet_sides(alloc: Global, site: &Site) -> Result<[Ivs; 12], Memory>
     Ok(sides)
 }
 
-/// The tree that is true at pairs that arrive and make no out pass, and this tree elsewhere. An error is
-/// want of memory.
+/// The tree that is true at pairs that arrive and make no out pass, and this tree elsewhere. Fails if memory runs out.
 pub(crate) fn met(alloc: Global, site: &Site, tree: &Tree<bool>) -> Result<Tree<bool>, Memory>
     requires sound { IsSound site.now }
     requires tops { tree.now.0 ≡ tops_of site.now }
@@ -90,7 +89,7 @@ fn is_true_everywhere(tree: &Tree<bool>) -> bool
     is_true_root(shared.leaves, shared.nodes)
 }
 
-/// Puts the list of a section that lets pass what a tree holds true. An error is want of memory.
+/// Puts the list of a section that lets pass what a tree holds true. Fails if memory runs out.
 fn put_passing(
     alloc: Global,
     rules: &mut Items<IpfwRule>,
@@ -111,7 +110,7 @@ fn put_passing(
     Ok(())
 }
 
-/// Puts the lists that drop packets of connections. An error is want of memory.
+/// Puts the lists that drop packets of connections. Fails if memory runs out.
 fn put_full(
     alloc: Global,
     rules: &mut Items<IpfwRule>,
@@ -141,7 +140,7 @@ fn are_true_everywhere(packet: &Tree<bool>, behind: &Tree<bool>) -> bool
     is_true_everywhere(packet) && is_true_everywhere(behind)
 }
 
-/// Puts the lists that drop packets of connections, if any are dropped. An error is want of memory.
+/// Puts the lists that drop packets of connections, if any are dropped. Fails if memory runs out.
 pub(crate) fn put_guard(
     alloc: Global,
     rules: &mut Items<IpfwRule>,

@@ -36,7 +36,7 @@ fn is_same_end(a: End, b: End) -> bool
     a == b
 }
 
-/// The redirects to a destination. An error is want of memory.
+/// The redirects to a destination. Fails if memory runs out.
 fn redirects_to(alloc: Global, end: End, shown: &[Shown]) -> Result<Items<Redirect>, Memory>
     ensures { IfOk result (λ redirects. redirects ≡ redirects_to end shown.now) }
 {
@@ -61,7 +61,7 @@ fn instance(number: u32, alias: u32, redirects: Items<Redirect>) -> IpfwNat
     }
 }
 
-/// Puts the instances of destinations. An error is want of memory.
+/// Puts the instances of destinations. Fails if memory runs out.
 pub(crate) fn put_destination_nats(
     alloc: Global,
     nats: &mut Items<IpfwNat>,
@@ -80,7 +80,7 @@ pub(crate) fn put_destination_nats(
     Ok(())
 }
 
-/// Puts the instances of sources behind those of so many destinations. An error is want of memory.
+/// Puts the instances of sources behind those of so many destinations. Fails if memory runs out.
 pub(crate) fn put_source_nats(
     alloc: Global,
     nats: &mut Items<IpfwNat>,

@@ -57,7 +57,7 @@ fn known(_site: &Site, _t: &Tables, _views: &Views)
     ipfw_drops_new_host();
 }
 
-/// The ends that new packets get. An error is want of memory.
+/// The ends that new packets get. Fails if memory runs out.
 fn ends_for(alloc: Global, site: &Site, t: &Tables) -> Result<Written, Memory>
     requires sound { IsSound site.now }
     requires regular { AreRegular site.now t.now }
@@ -79,7 +79,7 @@ fn ends_for(alloc: Global, site: &Site, t: &Tables) -> Result<Written, Memory>
     })
 }
 
-/// The rules of tables that fit. An error is want of memory.
+/// The rules of tables that fit. Fails if memory runs out.
 fn rules_for(
     alloc: Global,
     site: &Site,
@@ -109,7 +109,7 @@ fn rules_for(
     Ok(rules)
 }
 
-/// The configuration of tables that fit, by what rules see of established packets. An error is want of memory.
+/// The configuration of tables that fit, by what rules see of established packets. Fails if memory runs out.
 fn put_tables(alloc: Global, site: &Site, t: &Tables, views: &Views) -> Result<IpfwConfig, Memory>
     requires sound { IsSound site.now }
     requires regular { AreRegular site.now t.now }

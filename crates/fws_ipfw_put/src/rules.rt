@@ -44,7 +44,7 @@ fn tagged_with(tag: u32) -> Lit
     }
 }
 
-/// No interface received the packet. An error is want of memory.
+/// No interface received the packet. Fails if memory runs out.
 fn unreceived(alloc: Global, site: &Site) -> Result<Lit, Memory>
     requires { IsSound site.now }
     ensures { IfOk result (λ lit. lit ≡ unreceived site.now) }
@@ -56,7 +56,7 @@ fn unreceived(alloc: Global, site: &Site) -> Result<Lit, Memory>
     })
 }
 
-/// The condition of one literal. An error is want of memory.
+/// The condition of one literal. Fails if memory runs out.
 fn one_literal(alloc: Global, lit: Lit) -> Result<Cond, Memory>
     ensures { IfOk result (λ cond. cond ≡ lit ∷ []) }
 {
@@ -65,7 +65,7 @@ fn one_literal(alloc: Global, lit: Lit) -> Result<Cond, Memory>
     Ok(cond)
 }
 
-/// The condition of two literals. An error is want of memory.
+/// The condition of two literals. Fails if memory runs out.
 fn two_literals(alloc: Global, first: Lit, second: Lit) -> Result<Cond, Memory>
     ensures { IfOk result (λ cond. cond ≡ first ∷ second ∷ []) }
 {
@@ -75,7 +75,7 @@ fn two_literals(alloc: Global, first: Lit, second: Lit) -> Result<Cond, Memory>
     Ok(cond)
 }
 
-/// The condition that a packet leaves and has this tag. An error is want of memory.
+/// The condition that a packet leaves and has this tag. Fails if memory runs out.
 fn leaving_with(alloc: Global, tag: u32) -> Result<Cond, Memory>
     ensures { IfOk result (λ cond. cond ≡ outwards ∷ tagged_with tag ∷ []) }
 {
@@ -108,8 +108,8 @@ fn allowing(number: u32, cond: Cond) -> IpfwRule
     }
 }
 
-/// Puts the rules by which new packets that arrived go on to the look-up of connections as they leave, and
-/// packets of the host past the list of those that are forwarded. An error is want of memory.
+/// Puts the rules by which new packets that arrived go on to the look-up of connections as they leave, and packets of the host past
+/// the list of those that are forwarded. Fails if memory runs out.
 pub(crate) fn put_leaving(
     alloc: Global,
     rules: &mut Items<IpfwRule>,
@@ -125,7 +125,7 @@ pub(crate) fn put_leaving(
     Ok(())
 }
 
-/// The rule that gives new packets that arrive their tag. An error is want of memory.
+/// The rule that gives new packets that arrive their tag. Fails if memory runs out.
 fn tagging_rule(alloc: Global) -> Result<IpfwRule, Memory>
     ensures { IfOk result (λ rule. rule ≡ record { number = 5100; cond = inward ∷ []; act = IpfwAct.Count; tag = IpfwTag.Add 1; keep = false }) }
 {
@@ -138,8 +138,7 @@ fn tagging_rule(alloc: Global) -> Result<IpfwRule, Memory>
     })
 }
 
-/// Puts the look-up of connections, and the rules for new packets that arrive and that leave behind it. An
-/// error is want of memory.
+/// Puts the look-up of connections, and the rules for new packets that arrive and that leave behind it. Fails if memory runs out.
 pub(crate) fn put_lookup(alloc: Global, rules: &mut Items<IpfwRule>) -> Result<(), Memory>
     ensures { OnOk result (rules.new ≡ rules.old ++ lookup_rules) }
 {
@@ -150,7 +149,7 @@ pub(crate) fn put_lookup(alloc: Global, rules: &mut Items<IpfwRule>) -> Result<(
     Ok(())
 }
 
-/// Puts the rules for the destination at a place. An error is want of memory.
+/// Puts the rules for the destination at a place. Fails if memory runs out.
 fn put_destination(alloc: Global, rules: &mut Items<IpfwRule>, place: u32) -> Result<(), Memory>
     requires { place ≤ 4096 }
     ensures { OnOk result (rules.new ≡ rules.old ++ destination_pair place) }
@@ -165,7 +164,7 @@ fn put_destination(alloc: Global, rules: &mut Items<IpfwRule>, place: u32) -> Re
     Ok(())
 }
 
-/// Puts the rules for so many destinations. An error is want of memory.
+/// Puts the rules for so many destinations. Fails if memory runs out.
 pub(crate) fn put_destinations(
     alloc: Global,
     rules: &mut Items<IpfwRule>,
@@ -180,7 +179,7 @@ pub(crate) fn put_destinations(
     Ok(())
 }
 
-/// Puts the rule for the source at a place behind so many destinations. An error is want of memory.
+/// Puts the rule for the source at a place behind so many destinations. Fails if memory runs out.
 fn put_source(
     alloc: Global,
     rules: &mut Items<IpfwRule>,
@@ -196,7 +195,7 @@ fn put_source(
     Ok(())
 }
 
-/// Puts the rules for sources behind so many destinations. An error is want of memory.
+/// Puts the rules for sources behind so many destinations. Fails if memory runs out.
 pub(crate) fn put_sources(
     alloc: Global,
     rules: &mut Items<IpfwRule>,

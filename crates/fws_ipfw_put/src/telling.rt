@@ -12,7 +12,7 @@ use fws_tree::{Row, Tree};
 use indexmap::IndexSet;
 use std::alloc::Global;
 
-/// Puts the end among the others, unless it is there. An error is want of memory.
+/// Puts the end among the others, unless it is there. Fails if memory runs out.
 fn put_end(ends: &mut IndexSet<End>, end: End) -> Result<(), Memory>
     ensures there { OnOk result (IsAmong ends.new.keys end) }
     ensures extends { Extends ends.old.keys ends.new.keys }
@@ -23,7 +23,7 @@ fn put_end(ends: &mut IndexSet<End>, end: End) -> Result<(), Memory>
     Ok(())
 }
 
-/// Puts the source of an outcome among the others, if it writes one. An error is want of memory.
+/// Puts the source of an outcome among the others, if it writes one. Fails if memory runs out.
 fn put_source(ends: &mut IndexSet<End>, outcome: Outcome) -> Result<(), Memory>
     ensures there { OnOk result (IsSourceOf ends.new.keys outcome) }
     ensures extends { Extends ends.old.keys ends.new.keys }
@@ -37,7 +37,7 @@ fn put_source(ends: &mut IndexSet<End>, outcome: Outcome) -> Result<(), Memory>
     }
 }
 
-/// The sources that rows write. An error is want of memory.
+/// The sources that rows write. Fails if memory runs out.
 fn sources_in(alloc: Global, rows: &[Row<Outcome>]) -> Result<IndexSet<End>, Memory>
     ensures { IfOk result (λ ends. HaveSources ends.keys rows.now) }
 {
@@ -48,7 +48,7 @@ fn sources_in(alloc: Global, rows: &[Row<Outcome>]) -> Result<IndexSet<End>, Mem
     Ok(ends)
 }
 
-/// The sources that new packets get. An error is want of memory.
+/// The sources that new packets get. Fails if memory runs out.
 pub(crate) fn sources_of(alloc: Global, fresh: &Tree<Outcome>) -> Result<IndexSet<End>, Memory>
     ensures { IfOk result (λ ends. HasSources fresh.now.0 fresh.now.1 ends.keys) }
 {
@@ -57,7 +57,7 @@ pub(crate) fn sources_of(alloc: Global, fresh: &Tree<Outcome>) -> Result<IndexSe
     Ok(ends)
 }
 
-/// The destinations of redirects. An error is want of memory.
+/// The destinations of redirects. Fails if memory runs out.
 pub(crate) fn destinations_of(
     alloc: Global,
     redirects: &[Redirect],

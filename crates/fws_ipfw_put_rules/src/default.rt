@@ -60,8 +60,8 @@ fn dearest(alloc: Global, field: PacketField, kids: &[Kid]) -> Result<usize, Mem
     Ok(best)
 }
 
-/// The place of the kid to which all goes for which no test of the others holds: the one whose test would
-/// take most, and the first one where no field is seen. An error is want of memory.
+/// The place of the kid to which all goes for which no test of the others holds: the one whose test would take most, and the first
+/// one where no field is seen. Fails if memory runs out.
 pub(crate) fn default_kid(
     alloc: Global,
     field: Option<PacketField>,

@@ -70,8 +70,7 @@ fn widest(top: u32, kids: &[Kid]) -> usize
     best
 }
 
-/// The turns of packets that arrive, at a cut of the entry up to the greatest one. An error is want of
-/// memory.
+/// The turns of packets that arrive, at a cut of the entry up to the greatest one. Fails if memory runs out.
 pub(crate) fn entry_turns(alloc: Global, top: u32, kids: &[Kid]) -> Result<Items<Turn>, Memory>
     requires some { 0 < length kids.now }
     requires top { top ≤ 65535 }

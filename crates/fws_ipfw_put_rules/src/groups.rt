@@ -35,8 +35,8 @@ fn put_group(groups: &mut Vec<Ivs>, set: Ivs) -> Result<(), Memory>
     Ok(())
 }
 
-/// Groups of addresses that together have the members of the set: those of at most thirty-one networks
-/// each. An error is want of memory.
+/// Groups of addresses that together have the members of the set: those of at most thirty-one networks each. Fails if memory runs
+/// out.
 pub(crate) fn address_groups(alloc: Global, set: &Ivs) -> Result<Vec<Ivs>, Memory>
     requires { (v : ℕ) → has set.now v ≡ true → v < 2 ^ 32 }
     ensures { IfOk result (λ groups. AreGroups are_addresses set.now groups.items) }
@@ -55,8 +55,7 @@ pub(crate) fn address_groups(alloc: Global, set: &Ivs) -> Result<Vec<Ivs>, Memor
     Ok(groups)
 }
 
-/// Groups of at most thirty ranges of ports that together have the members of the set. An error is want
-/// of memory.
+/// Groups of at most thirty ranges of ports that together have the members of the set. Fails if memory runs out.
 pub(crate) fn port_groups(alloc: Global, set: &Ivs) -> Result<Vec<Ivs>, Memory>
     requires { (v : ℕ) → has set.now v ≡ true → v ≤ 65535 }
     ensures { IfOk result (λ groups. AreGroups are_ports set.now groups.items) }

@@ -65,7 +65,7 @@ fn insert(alloc: Global, cond: &Cond, lit: &Lit) -> Result<Cond, Memory>
     Ok(next)
 }
 
-/// The condition with a literal more, if there is one, at its place. An error is want of memory.
+/// The condition with a literal more, if there is one, at its place. Fails if memory runs out.
 pub(crate) fn narrowed(alloc: Global, cond: &Cond, lit: &Option<Lit>) -> Result<Cond, Memory>
     ensures { IfOk result (λ next. next ≡ with_lit lit.now cond.now) }
 {
@@ -75,7 +75,7 @@ pub(crate) fn narrowed(alloc: Global, cond: &Cond, lit: &Option<Lit>) -> Result<
     }
 }
 
-/// The condition that a packet is on this pass. An error is want of memory.
+/// The condition that a packet is on this pass. Fails if memory runs out.
 pub(crate) fn on_pass(alloc: Global, outward: bool) -> Result<Cond, Memory>
     ensures { IfOk result (λ cond. cond ≡ direction outward ∷ []) }
 {

@@ -67,7 +67,7 @@ fn rule_for(number: u32, cond: Cond, choice: Choice) -> IpfwRule
     }
 }
 
-/// Appends the rules of a node for packets for which the condition holds. An error is want of memory.
+/// Appends the rules of a node for packets for which the condition holds. Fails if memory runs out.
 pub(crate) fn put_node(
     alloc: Global,
     rules: &mut Items<IpfwRule>,

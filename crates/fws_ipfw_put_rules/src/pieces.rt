@@ -118,8 +118,7 @@ fn flags(alloc: Global, set: &Ivs) -> Result<Items<Lit>, Memory>
     Ok(lits)
 }
 
-/// Literals of which one holds where the packet has the field and its value is a member. An error is
-/// want of memory.
+/// Literals of which one holds where the packet has the field and its value is a member. Fails if memory runs out.
 pub(crate) fn pieces(alloc: Global, field: PacketField, set: &Ivs) -> Result<Items<Lit>, Memory>
     requires { IsProper field set.now }
     ensures { IfOk result (λ lits. ArePieces field set.now lits) }

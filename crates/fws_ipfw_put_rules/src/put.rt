@@ -122,8 +122,8 @@ fn put_planned(alloc: Global, rules: &mut Items<IpfwRule>, plan: &Plan<'_>) -> R
     }
 }
 
-/// Appends rules of the section's number that decide on packets as the tree does, in their order. An error
-/// is want of memory; rules may then stand behind the others.
+/// Appends rules of the section's number that decide on packets as the tree does, in their order. Fails if memory runs out; rules
+/// may then stand behind the others.
 pub fn put_rules(
     alloc: Global,
     rules: &mut Items<IpfwRule>,

@@ -59,7 +59,7 @@ fn arriving_turns(alloc: Global, plan: &Plan<'_>, kids: &[Kid]) -> Result<Items<
     entry_turns(alloc, plan.site.faces.len() as u32 + 1, kids)
 }
 
-/// The turns of a cut of the entry for packets of the section's origin. An error is want of memory.
+/// The turns of a cut of the entry for packets of the section's origin. Fails if memory runs out.
 pub(crate) fn root_turns(
     alloc: Global,
     plan: &Plan<'_>,

@@ -17,7 +17,7 @@ use fws_tree::Kid;
 use fws_tree_seen::{PacketField, Seen, packet_field};
 use std::alloc::Global;
 
-/// Appends a turn to the node for each literal. An error is want of memory.
+/// Appends a turn to the node for each literal. Fails if memory runs out.
 pub(crate) fn put_literals(
     turns: &mut Items<Turn>,
     lits: Items<Lit>,
@@ -85,8 +85,7 @@ fn tests(
     }
 }
 
-/// The turns of a cut: those of all kids but one, and last a turn without a literal for that one. An
-/// error is want of memory.
+/// The turns of a cut: those of all kids but one, and last a turn without a literal for that one. Fails if memory runs out.
 pub(crate) fn cut_turns(
     alloc: Global,
     seen: Seen,

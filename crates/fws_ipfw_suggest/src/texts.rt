@@ -167,8 +167,8 @@ fn put_texts(
 /// With so many lines one list for both directions is enough.
 const MANY: usize = 100;
 
-/// Texts of ipfw that may do what the tables say, best first: none where the search gave up. Nothing is promised of them. An
-/// error is want of memory.
+/// Texts of ipfw that may do what the tables say, best first: none where the search gave up. Nothing is promised of them. Fails if
+/// memory runs out.
 pub fn suggest(
     alloc: Global,
     tables: &Tables,

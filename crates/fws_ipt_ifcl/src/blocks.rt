@@ -26,8 +26,7 @@ fn last_entry(site: &Site) -> u8
     site.faces.len() as u8 + 1
 }
 
-/// The rules that write the address of the sending interface over the source. An error is want of
-/// memory.
+/// The rules that write the address of the sending interface over the source. Fails if memory runs out.
 fn masquerading(alloc: Global, site: &Site) -> Result<Vec<Rule>, Memory>
     requires { IsSound site.now }
     ensures { IfOk result (λ rules. rules.items ≡ masquerading site.now) }
@@ -41,8 +40,8 @@ fn masquerading(alloc: Global, site: &Site) -> Result<Vec<Rule>, Memory>
     Ok(rules)
 }
 
-/// The rules that write the address of the receiving interface over the destination, and 127.0.0.1 for
-/// the host's own packets. An error is want of memory.
+/// The rules that write the address of the receiving interface over the destination, and 127.0.0.1 for the host's own packets.
+/// Fails if memory runs out.
 fn redirecting(alloc: Global, site: &Site, port: Option<u16>) -> Result<Vec<Rule>, Memory>
     requires { IsSound site.now }
     ensures { IfOk result (λ rules. rules.items ≡ redirecting site.now port) }
@@ -71,7 +70,7 @@ fn mapping(on_source: bool, net: Prefix) -> Act
     }
 }
 
-/// Puts a rule behind the others that acts where the condition holds. An error is want of memory.
+/// Puts a rule behind the others that acts where the condition holds. Fails if memory runs out.
 fn put_ruled(alloc: Global, rules: &mut Vec<Rule>, cond: &Cond, act: Act) -> Result<(), Memory>
     ensures { OnOk result (rules.new.items ≡ rules.old.items ++ ruled cond.now act ∷ []) }
 {
@@ -79,7 +78,7 @@ fn put_ruled(alloc: Global, rules: &mut Vec<Rule>, cond: &Cond, act: Act) -> Res
     put_rule(rules, cond, act)
 }
 
-/// The condition on one side of routing. An error is want of memory.
+/// The condition on one side of routing. Fails if memory runs out.
 fn at_side(alloc: Global, cond: &Cond, outward: bool) -> Result<Cond, Memory>
     ensures { IfOk result (λ c. c ≡ at_side outward cond.now) }
 {
@@ -91,7 +90,7 @@ fn at_side(alloc: Global, cond: &Cond, outward: bool) -> Result<Cond, Memory>
     }
 }
 
-/// The condition that an interface by which the packet goes out is shown. An error is want of memory.
+/// The condition that an interface by which the packet goes out is shown. Fails if memory runs out.
 fn sent(alloc: Global, site: &Site) -> Result<Cond, Memory>
     requires { IsSound site.now }
     ensures { IfOk result (λ c. c ≡ positive (Test.Xmit (all_entries site.now)) ∷ []) }
@@ -101,7 +100,7 @@ fn sent(alloc: Global, site: &Site) -> Result<Cond, Memory>
     Ok(cond)
 }
 
-/// The condition of packets that go out by an interface. An error is want of memory.
+/// The condition of packets that go out by an interface. Fails if memory runs out.
 fn leaving(alloc: Global, site: &Site, cond: &Cond) -> Result<Cond, Memory>
     requires { IsSound site.now }
     ensures { IfOk result (λ c. c ≡ cond.now ++ positive Test.Outward ∷ positive (Test.Xmit (all_entries site.now)) ∷ []) }
@@ -111,7 +110,7 @@ fn leaving(alloc: Global, site: &Site, cond: &Cond) -> Result<Cond, Memory>
     narrowed(outward, sent)
 }
 
-/// Puts rules behind the others, each of which acts on one side of routing alone. An error is want of memory.
+/// Puts rules behind the others, each of which acts on one side of routing alone. Fails if memory runs out.
 fn put_sided(
     alloc: Global,
     rules: &mut Vec<Rule>,
@@ -127,8 +126,8 @@ fn put_sided(
     Ok(())
 }
 
-/// Puts rules behind the others that are met where the condition holds, and act on one side of routing alone. An error
-/// is want of memory.
+/// Puts rules behind the others that are met where the condition holds, and act on one side of routing alone. Fails if memory runs
+/// out.
 fn put_met(
     alloc: Global,
     rules: &mut Vec<Rule>,
@@ -143,8 +142,8 @@ fn put_met(
     put_sided(alloc, rules, outward, inner)
 }
 
-/// Puts rules behind the others that write where the condition holds, and end the stage where one more condition holds, each
-/// of which asks for the side of routing. An error is want of memory.
+/// Puts rules behind the others that write where the condition holds, and end the stage where one more condition holds, each of
+/// which asks for the side of routing. Fails if memory runs out.
 fn put_asking(
     alloc: Global,
     rules: &mut Vec<Rule>,
@@ -159,8 +158,8 @@ fn put_asking(
     put_met(alloc, rules, cond, outward, writes.as_slice())
 }
 
-/// Puts a rule behind the others that writes an end where the condition holds on one side of routing, and ends the stage
-/// there. An error is want of memory.
+/// Puts a rule behind the others that writes an end where the condition holds on one side of routing, and ends the stage there.
+/// Fails if memory runs out.
 fn put_ahead(
     alloc: Global,
     rules: &mut Vec<Rule>,
@@ -174,7 +173,7 @@ fn put_ahead(
     put_write(alloc, rules, there, act)
 }
 
-/// The same, where the rules that write and accept ask for the side. An error is want of memory.
+/// The same, where the rules that write and accept ask for the side. Fails if memory runs out.
 fn put_within(
     alloc: Global,
     rules: &mut Vec<Rule>,
@@ -189,7 +188,7 @@ fn put_within(
     put_asking(alloc, rules, cond, outward, Cond::new(alloc), &mut writes)
 }
 
-/// Puts the rules behind the others of a rule that writes an end on one side of routing. An error is want of memory.
+/// Puts the rules behind the others of a rule that writes an end on one side of routing. Fails if memory runs out.
 fn put_written(
     alloc: Global,
     rules: &mut Vec<Rule>,
@@ -206,7 +205,7 @@ fn put_written(
     }
 }
 
-/// Puts rules behind the others that write where packets go out by an interface. An error is want of memory.
+/// Puts rules behind the others that write where packets go out by an interface. Fails if memory runs out.
 fn put_leaving(
     alloc: Global,
     rules: &mut Vec<Rule>,
@@ -221,7 +220,7 @@ fn put_leaving(
     put_guarded(alloc, rules, there, writes)
 }
 
-/// The same, where the rules that write and accept ask for the side. An error is want of memory.
+/// The same, where the rules that write and accept ask for the side. Fails if memory runs out.
 fn put_asking_leaving(
     alloc: Global,
     rules: &mut Vec<Rule>,
@@ -236,7 +235,7 @@ fn put_asking_leaving(
     put_asking(alloc, rules, cond, true, sent, writes)
 }
 
-/// Puts the rules of MASQUERADE behind the others. An error is want of memory.
+/// Puts the rules of MASQUERADE behind the others. Fails if memory runs out.
 fn put_masquerade(
     alloc: Global,
     rules: &mut Vec<Rule>,
@@ -254,7 +253,7 @@ fn put_masquerade(
     }
 }
 
-/// Puts rules behind the others that write where packets come in. An error is want of memory.
+/// Puts rules behind the others that write where packets come in. Fails if memory runs out.
 fn put_coming(
     alloc: Global,
     rules: &mut Vec<Rule>,
@@ -267,7 +266,7 @@ fn put_coming(
     put_guarded(alloc, rules, there, writes)
 }
 
-/// Puts the rules of REDIRECT behind the others. An error is want of memory.
+/// Puts the rules of REDIRECT behind the others. Fails if memory runs out.
 fn put_redirect(
     alloc: Global,
     rules: &mut Vec<Rule>,
@@ -286,7 +285,7 @@ fn put_redirect(
     }
 }
 
-/// Puts the rules to which a rule is unfolded behind the others. An error is want of memory.
+/// Puts the rules to which a rule is unfolded behind the others. Fails if memory runs out.
 pub(crate) fn put_unfolded(
     alloc: Global,
     test: SideTest,

@@ -14,7 +14,7 @@ use fws_num::{Items, Memory, Text};
 use fws_rules::positive;
 use std::alloc::Global;
 
-/// A chain of the diagram's own, with one rule. An error is want of memory.
+/// A chain of the diagram's own, with one rule. Fails if memory runs out.
 fn own_chain(alloc: Global, name: &[u8], act: Act) -> Result<Chain, Memory>
     ensures { IfOk result (λ chain. chain ≡ own_chain name.now act) }
 {
@@ -26,7 +26,7 @@ fn own_chain(alloc: Global, name: &[u8], act: Act) -> Result<Chain, Memory>
     })
 }
 
-/// The chains that begin the diagram. An error is want of memory.
+/// The chains that begin the diagram. Fails if memory runs out.
 fn own_chains(alloc: Global) -> Result<Items<Chain>, Memory>
     ensures { IfOk result (λ chains. chains ≡ own_chains) }
 {
@@ -37,8 +37,8 @@ fn own_chains(alloc: Global) -> Result<Items<Chain>, Memory>
     Ok(chains)
 }
 
-/// The rules that begin a chain: in a built-in chain of nat one that accepts what belongs to a
-/// connection. An error is want of memory.
+/// The rules that begin a chain: in a built-in chain of nat one that accepts what belongs to a connection. Fails if memory runs
+/// out.
 fn headed(alloc: Global, table: IptTable, policy: Option<bool>) -> Result<Vec<Rule>, Memory>
     ensures { IfOk result (λ rules. rules.items ≡ headed table policy) }
 {
@@ -60,7 +60,7 @@ fn is_on_source(name: &[u8]) -> bool
     name == Hook::Input.name() || name == Hook::Postrouting.name()
 }
 
-/// The chain for one of the file's. An error is want of memory.
+/// The chain for one of the file's. Fails if memory runs out.
 fn chain_for(alloc: Global, test: SideTest, site: &Site, chain: &IptChain) -> Result<Chain, Memory>
     requires { IsSound site.now }
     ensures { IfOk result (λ made. made ≡ chain_for test site.now chain.now) }
@@ -76,7 +76,7 @@ fn chain_for(alloc: Global, test: SideTest, site: &Site, chain: &IptChain) -> Re
     })
 }
 
-/// The diagram's own chains, and behind them one for each of the file's. An error is want of memory.
+/// The diagram's own chains, and behind them one for each of the file's. Fails if memory runs out.
 pub(crate) fn chains_for(
     alloc: Global,
     test: SideTest,

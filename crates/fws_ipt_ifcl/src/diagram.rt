@@ -17,7 +17,7 @@ use fws_net::{Site, routes_are_entries};
 use fws_num::Memory;
 use std::alloc::Global;
 
-/// The diagram, put together from its chains and stages. An error is want of memory.
+/// The diagram, put together from its chains and stages. Fails if memory runs out.
 pub(crate) fn drawn(
     alloc: Global,
     test: SideTest,
@@ -37,14 +37,12 @@ pub(crate) fn drawn(
     })
 }
 
-/// The control diagram of a configuration on a site. Of a configuration as texts spell it
-/// (`spelled_diagrams`) it does with each packet of the site what the configuration does, new or of a
-/// connection, where no chain reaches itself, and is refused where the configuration is, for the same
-/// cause and chain. Three chains of its own come first, with one rule
-/// each: they put the mark 0 and the destination and the source of a connection in place. The file's
-/// chains follow in their order, with their names and calls, and as many rules as their widths say; the
-/// stages meet the three and the built-in chains. An error is want of memory, or of numbers for chains
-/// and rules. Linear in the rules, and for MASQUERADE and REDIRECT in the interfaces.
+/// The control diagram of a configuration on a site. Of a configuration as texts spell it (`spelled_diagrams`) it does with each
+/// packet of the site what the configuration does, new or of a connection, where no chain reaches itself, and is refused where the
+/// configuration is, for the same cause and chain. Three chains of its own come first, with one rule each: they put the mark 0 and
+/// the destination and the source of a connection in place. The file's chains follow in their order, with their names and calls,
+/// and as many rules as their widths say; the stages meet the three and the built-in chains. Fails if memory or numbers for chains
+/// and rules run out. Linear in the rules, and for MASQUERADE and REDIRECT in the interfaces.
 pub fn to_ifcl(alloc: Global, c: &IptConfig, site: &Site) -> Result<Ifcl, Memory>
     requires { IsSound site.now }
     ensures diagram { IfOk result (λ d. d ≡ diagram_of site.now c.now) }

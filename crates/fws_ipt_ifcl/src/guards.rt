@@ -12,14 +12,14 @@ use fws_net::{Cond, Site};
 use fws_num::Memory;
 use std::alloc::Global;
 
-/// The entry by itself. An error is want of memory.
+/// The entry by itself. Fails if memory runs out.
 pub(crate) fn one_entry(alloc: Global, entry: u8) -> Result<Ivs, Memory>
     ensures { IfOk result (λ set. set ≡ one entry entry) }
 {
     one(alloc, u32::from(entry), u32::from(entry))
 }
 
-/// The entries of loopback and of the interfaces. An error is want of memory.
+/// The entries of loopback and of the interfaces. Fails if memory runs out.
 pub(crate) fn all_entries(alloc: Global, site: &Site) -> Result<Ivs, Memory>
     requires { length site.now.faces ≤ 62 }
     ensures { IfOk result (λ set. set ≡ all_entries site.now) }
@@ -27,8 +27,7 @@ pub(crate) fn all_entries(alloc: Global, site: &Site) -> Result<Ivs, Memory>
     one(alloc, 1, site.faces.len() as u32 + 1)
 }
 
-/// Puts the rules behind the others that write where the condition holds, and end the stage there. An error
-/// is want of memory.
+/// Puts the rules behind the others that write where the condition holds, and end the stage there. Fails if memory runs out.
 pub(crate) fn put_guarded(
     alloc: Global,
     rules: &mut Vec<Rule>,
@@ -43,8 +42,7 @@ pub(crate) fn put_guarded(
     Ok(())
 }
 
-/// Puts a rule behind the others that writes an end where the condition holds, and ends the stage there. An
-/// error is want of memory.
+/// Puts a rule behind the others that writes an end where the condition holds, and ends the stage there. Fails if memory runs out.
 pub(crate) fn put_write(
     alloc: Global,
     rules: &mut Vec<Rule>,

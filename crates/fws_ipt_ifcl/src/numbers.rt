@@ -8,7 +8,7 @@ use fws_num::Memory;
 /// How many chains of its own stand ahead of the file's chains.
 pub(crate) const OWN_CHAINS: usize = 3;
 
-/// The number of the file's chain with this number. An error is want of memory.
+/// The number of the file's chain with this number. Fails if memory runs out.
 pub(crate) fn file_chain(c: u32) -> Result<u32, Memory>
     ensures { IfOk result (λ n. n ≡ c + 3) }
 {

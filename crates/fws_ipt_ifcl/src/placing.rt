@@ -17,13 +17,12 @@ use fws_net::{Site, routes_are_entries};
 use fws_num::Memory;
 use std::alloc::Global;
 
-/// A control diagram of a configuration on a site, and where the configuration's rules stand in it. The diagram does and
-/// is refused as that of `to_ifcl`, with as many chains and rules; and where it does with packets what the configuration
-/// does, the rules whose places a packet's walk uses are those that the configuration's walk uses, as often and in the same
-/// order. So a rule that writes an end has a place that the walk comes to wherever its condition holds, and the side of
-/// routing is asked for behind it. Each rule has one place. The rules are counted from 0, through the chains in their
-/// order. An error is want of memory, or of numbers for chains and rules. Linear in the rules, and for MASQUERADE and
-/// REDIRECT in the interfaces.
+/// A control diagram of a configuration on a site, and where the configuration's rules stand in it. The diagram does and is refused
+/// as that of `to_ifcl`, with as many chains and rules; and where it does with packets what the configuration does, the rules whose
+/// places a packet's walk uses are those that the configuration's walk uses, as often and in the same order. So a rule that writes
+/// an end has a place that the walk comes to wherever its condition holds, and the side of routing is asked for behind it. Each
+/// rule has one place. The rules are counted from 0, through the chains in their order. Fails if memory or numbers for chains and
+/// rules run out. Linear in the rules, and for MASQUERADE and REDIRECT in the interfaces.
 pub fn places(alloc: Global, c: &IptConfig, site: &Site) -> Result<(Ifcl, Vec<Spot>), Memory>
     requires { IsSound site.now }
     ensures ok { IfOk result (λ x. is_fitting c.now ≡ true → ifcl_ok x.0 ≡ true) }

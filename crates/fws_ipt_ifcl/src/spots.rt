@@ -13,8 +13,7 @@ use fws_net::Site;
 use fws_num::Memory;
 use std::alloc::Global;
 
-/// How many rules a rule is unfolded to, on a site with so many interfaces. An error is want of memory, which a number past
-/// all counts as.
+/// How many rules a rule is unfolded to, on a site with so many interfaces. Fails if memory or numbers run out.
 fn width_of(faces: usize, go: IptGo) -> Result<usize, Memory>
     ensures { IfOk result (λ n. n ≡ width_of faces go) }
 {
@@ -36,8 +35,8 @@ fn head_width(table: IptTable, policy: Option<bool>) -> usize
     }
 }
 
-/// Puts the spots of rules behind the others, of which the first has this number and this place. An error is want of
-/// memory, or of numbers for rules.
+/// Puts the spots of rules behind the others, of which the first has this number and this place. Fails if memory or numbers for
+/// rules run out.
 fn put_rule_spots(
     spots: &mut Vec<Spot>,
     site: &Site,
@@ -60,8 +59,8 @@ fn put_rule_spots(
     Ok(())
 }
 
-/// Puts the spots of a chain's rules behind the others, of which the first has this number. An error is want of memory, or
-/// of numbers for rules.
+/// Puts the spots of a chain's rules behind the others, of which the first has this number. Fails if memory or numbers for rules
+/// run out.
 fn put_chain_spots(
     spots: &mut Vec<Spot>,
     site: &Site,
@@ -77,7 +76,7 @@ fn put_chain_spots(
     Ok(())
 }
 
-/// Where the rules stand. An error is want of memory, or of numbers for chains and rules.
+/// Where the rules stand. Fails if memory or numbers for chains and rules run out.
 pub(crate) fn spots_of(alloc: Global, c: &IptConfig, site: &Site) -> Result<Vec<Spot>, Memory>
     ensures { IfOk result (λ spots. spots.items ≡ spots_of site.now c.now) }
 {

@@ -56,8 +56,7 @@ fn policy_at(chains: &[IptChain], c: usize) -> bool
     }
 }
 
-/// The stage of the built-in chain of a table at a hook; none where the file doesn't have it. An error is
-/// want of memory.
+/// The stage of the built-in chain of a table at a hook; none where the file doesn't have it. Fails if memory runs out.
 fn builtin_stage(chains: &[IptChain], table: IptTable, hook: Hook) -> Result<Option<Stage>, Memory>
     ensures { IfOk result (λ o. option_map_or (λ stage. stage ∷ []) o [] ≡ builtin_stage chains.now table hook) }
 {
@@ -73,7 +72,7 @@ fn builtin_stage(chains: &[IptChain], table: IptTable, hook: Hook) -> Result<Opt
     }))
 }
 
-/// Puts the stage behind the others, if there is one. An error is want of memory.
+/// Puts the stage behind the others, if there is one. Fails if memory runs out.
 fn put_stage(stages: &mut Items<Stage>, stage: Option<Stage>) -> Result<(), Memory>
     ensures { OnOk result (stages.new ≡ stages.old ++ option_map_or (λ own. own ∷ []) stage []) }
 {
@@ -83,7 +82,7 @@ fn put_stage(stages: &mut Items<Stage>, stage: Option<Stage>) -> Result<(), Memo
     Ok(())
 }
 
-/// Puts the stages of built-in chains behind the others, in their order. An error is want of memory.
+/// Puts the stages of built-in chains behind the others, in their order. Fails if memory runs out.
 fn put_stages(
     stages: &mut Items<Stage>,
     chains: &[IptChain],
@@ -98,7 +97,7 @@ fn put_stages(
     Ok(())
 }
 
-/// What an arriving packet meets before it is routed. An error is want of memory.
+/// What an arriving packet meets before it is routed. Fails if memory runs out.
 pub(crate) fn arrive_stages(alloc: Global, chains: &[IptChain]) -> Result<Items<Stage>, Memory>
     ensures { IfOk result (λ stages. stages ≡ own_stage 0 ∷ stages_for chains.now arriving) }
 {
@@ -112,7 +111,7 @@ pub(crate) fn arrive_stages(alloc: Global, chains: &[IptChain]) -> Result<Items<
     Ok(stages)
 }
 
-/// What a packet meets that is delivered. An error is want of memory.
+/// What a packet meets that is delivered. Fails if memory runs out.
 pub(crate) fn deliver_stages(alloc: Global, chains: &[IptChain]) -> Result<Items<Stage>, Memory>
     ensures { IfOk result (λ stages. stages ≡ stages_for chains.now delivered) }
 {
@@ -126,7 +125,7 @@ pub(crate) fn deliver_stages(alloc: Global, chains: &[IptChain]) -> Result<Items
     Ok(stages)
 }
 
-/// What a packet meets that is forwarded. An error is want of memory.
+/// What a packet meets that is forwarded. Fails if memory runs out.
 pub(crate) fn forward_stages(alloc: Global, chains: &[IptChain]) -> Result<Items<Stage>, Memory>
     ensures { IfOk result (λ stages. stages ≡ stages_for chains.now forwarded) }
 {
@@ -141,7 +140,7 @@ pub(crate) fn forward_stages(alloc: Global, chains: &[IptChain]) -> Result<Items
     Ok(stages)
 }
 
-/// What a packet of the host itself meets. An error is want of memory.
+/// What a packet of the host itself meets. Fails if memory runs out.
 pub(crate) fn send_stages(alloc: Global, chains: &[IptChain]) -> Result<Items<Stage>, Memory>
     ensures { IfOk result (λ stages. stages ≡ own_stage 0 ∷ stages_for chains.now sent_out) }
 {

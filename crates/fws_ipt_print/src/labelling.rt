@@ -49,8 +49,8 @@ fn put_chains(alloc: Global, labels: &mut Vec<Text>, chains: &[IptChain]) -> Res
     Ok(())
 }
 
-/// The labels of a configuration's rules, through its chains in their order: the table, the chain, and the place in
-/// the chain, counted from 1, as `filter FORWARD 2`. Linear in the rules. An error is want of memory.
+/// The labels of a configuration's rules, through its chains in their order: the table, the chain, and the place in the chain,
+/// counted from 1, as `filter FORWARD 2`. Linear in the rules. Fails if memory runs out.
 pub fn labels(alloc: Global, c: &IptConfig) -> Result<Vec<Text>, Memory>
     ensures { IfOk result (λ labels. labels.items ≡ labels_of c.now) }
 {

@@ -48,8 +48,7 @@ fn put_tables(out: &mut Text, c: &IptConfig, site: &Site) -> Result<(), Memory>
 const HEAD: &[u8] =
     b"# Written by FWS for iptables-restore(8). Marks that mangle sets are those that nat asks for.\n# new-FIELD-N: what becomes of new packets, by a field. known-FIELD-N: packets of connections, as they enter.\n# reply-FIELD-N: packets of connections, behind routing. mark-N: sets the mark N and accepts.\n";
 
-/// The text of a configuration, as iptables-save(8) writes it: comments, and the tables. An error is want
-/// of memory.
+/// The text of a configuration, as iptables-save(8) writes it: comments, and the tables. Fails if memory runs out.
 fn config_text(alloc: Global, c: &IptConfig, site: &Site) -> Result<Text, Memory>
     ensures { IfOk result (λ text. text ≡ config_text site.now c.now) }
 {
@@ -58,8 +57,8 @@ fn config_text(alloc: Global, c: &IptConfig, site: &Site) -> Result<Text, Memory
     Ok(out)
 }
 
-/// The text of a printable configuration, as iptables-save(8) writes it. It is read as that
-/// configuration. An error is want of memory.
+/// The text of a printable configuration, as iptables-save(8) writes it. It is read as that configuration. Fails if memory runs
+/// out.
 pub fn print(alloc: Global, c: &IptConfig, site: &Site) -> Result<Text, Memory>
     requires orderly { IsOrderly site.now }
     requires printable { is_printable site.now c.now ≡ true }

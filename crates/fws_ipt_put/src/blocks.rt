@@ -9,8 +9,7 @@ use fws_iv::{Ivs, prefixes};
 use fws_num::{Items, Memory, Prefix};
 use std::alloc::Global;
 
-/// Puts the parts of a block that have this length, or the block itself if its length isn't less. An error is
-/// want of memory.
+/// Puts the parts of a block that have this length, or the block itself if its length isn't less. Fails if memory runs out.
 fn put_parts(blocks: &mut Items<Prefix>, block: Prefix, len: u8) -> Result<(), Memory>
     requires block { IsBlock block }
     requires len { len ≤ 32 }
@@ -28,7 +27,7 @@ fn put_parts(blocks: &mut Items<Prefix>, block: Prefix, len: u8) -> Result<(), M
     Ok(())
 }
 
-/// Blocks of this length or of longer ones with all addresses of the set. An error is want of memory.
+/// Blocks of this length or of longer ones with all addresses of the set. Fails if memory runs out.
 pub(crate) fn blocks_of(alloc: Global, set: &Ivs, len: u8) -> Result<Items<Prefix>, Memory>
     requires { len ≤ 32 }
     ensures { IfOk result (AreBlocksOf len set.now) }

@@ -15,7 +15,7 @@ use fws_net::Cond;
 use fws_num::{Items, Memory, Text, put_dec};
 use std::alloc::Global;
 
-/// The built-in chain of a table at a hook. An error is want of memory.
+/// The built-in chain of a table at a hook. Fails if memory runs out.
 pub(crate) fn builtin(
     alloc: Global,
     table: IptTable,
@@ -33,7 +33,7 @@ pub(crate) fn builtin(
     })
 }
 
-/// Puts a built-in chain without rules. An error is want of memory.
+/// Puts a built-in chain without rules. Fails if memory runs out.
 fn put_empty(
     alloc: Global,
     chains: &mut Items<IptChain>,
@@ -47,7 +47,7 @@ fn put_empty(
     Ok(())
 }
 
-/// The built-in chains of mangle, without rules. An error is want of memory.
+/// The built-in chains of mangle, without rules. Fails if memory runs out.
 pub(crate) fn mangle_chains(alloc: Global) -> Result<Items<IptChain>, Memory>
     ensures { IfOk result (λ chains. chains ≡ mangle_chains [] []) }
 {
@@ -72,7 +72,7 @@ pub(crate) fn mangle_chains(alloc: Global) -> Result<Items<IptChain>, Memory>
     Ok(chains)
 }
 
-/// Puts the built-in chains of filter, without rules. An error is want of memory.
+/// Puts the built-in chains of filter, without rules. Fails if memory runs out.
 pub(crate) fn put_filter(alloc: Global, chains: &mut Items<IptChain>) -> Result<(), Memory>
     ensures { OnOk result (chains.new ≡ chains.old ++ filter_chains [] [] []) }
 {
@@ -82,7 +82,7 @@ pub(crate) fn put_filter(alloc: Global, chains: &mut Items<IptChain>) -> Result<
     Ok(())
 }
 
-/// Puts the built-in chain of nat at a hook. An error is want of memory.
+/// Puts the built-in chain of nat at a hook. Fails if memory runs out.
 fn put_nat_chain(
     alloc: Global,
     chains: &mut Items<IptChain>,
@@ -98,7 +98,7 @@ fn put_nat_chain(
     Ok(())
 }
 
-/// Puts the built-in chains of nat. An error is want of memory.
+/// Puts the built-in chains of nat. Fails if memory runs out.
 pub(crate) fn put_nat(
     alloc: Global,
     chains: &mut Items<IptChain>,
@@ -115,7 +115,7 @@ pub(crate) fn put_nat(
     Ok(())
 }
 
-/// The rules of the chain that sets a mark. An error is want of memory.
+/// The rules of the chain that sets a mark. Fails if memory runs out.
 fn mark_rules(alloc: Global, mark: u32) -> Result<Items<IptRule>, Memory>
     ensures { IfOk result (λ rules. rules ≡ mark_rules mark) }
 {
@@ -131,7 +131,7 @@ fn mark_rules(alloc: Global, mark: u32) -> Result<Items<IptRule>, Memory>
     Ok(rules)
 }
 
-/// The name of the chain that sets a mark. An error is want of memory.
+/// The name of the chain that sets a mark. Fails if memory runs out.
 fn mark_name(alloc: Global, mark: u32) -> Result<Text, Memory>
     ensures { IfOk result (λ name. name ≡ mark_name mark) }
 {
@@ -140,7 +140,7 @@ fn mark_name(alloc: Global, mark: u32) -> Result<Text, Memory>
     Ok(name)
 }
 
-/// The chain that sets a mark. An error is want of memory.
+/// The chain that sets a mark. Fails if memory runs out.
 fn mark_chain(alloc: Global, mark: u32) -> Result<IptChain, Memory>
     ensures { IfOk result (λ chain. chain ≡ mark_chain mark) }
 {
@@ -152,7 +152,7 @@ fn mark_chain(alloc: Global, mark: u32) -> Result<IptChain, Memory>
     })
 }
 
-/// Puts the chains of the marks, of which the first has the number 5. An error is want of memory.
+/// Puts the chains of the marks, of which the first has the number 5. Fails if memory runs out.
 pub(crate) fn put_marks(
     alloc: Global,
     chains: &mut Items<IptChain>,

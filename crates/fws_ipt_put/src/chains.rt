@@ -45,8 +45,8 @@ fn count(chains: &Items<IptChain>) -> Result<u32, Memory>
     Ok(n as u32)
 }
 
-/// The chains of the trees by which packets of connections and new packets are decided as they enter, and by which packets
-/// of connections are decided behind routing. An error is want of memory.
+/// The chains of the trees by which packets of connections and new packets are decided as they enter, and by which packets of
+/// connections are decided behind routing. Fails if memory runs out.
 pub(crate) fn drafted(
     alloc: Global,
     site: &Site,

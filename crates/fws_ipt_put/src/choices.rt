@@ -100,7 +100,7 @@ pub(crate) struct Decisions {
     pub(crate) routed: Tree<Verdict>,
 }
 
-/// The trees of what is decided on packets of connections: as they enter, and behind routing. An error is want of memory.
+/// The trees of what is decided on packets of connections: as they enter, and behind routing. Fails if memory runs out.
 fn seen_labelled(alloc: Global, views: &Views) -> Result<(Tree<Verdict>, Tree<Verdict>), Memory>
     ensures entering_tops { IfOk result (λ l. l.0.0 ≡ views.now.packet.0) }
     ensures routed_tops { IfOk result (λ l. l.1.0 ≡ views.now.behind.0) }
@@ -115,8 +115,7 @@ fn seen_labelled(alloc: Global, views: &Views) -> Result<(Tree<Verdict>, Tree<Ve
 /// A tree that isn't wanted any more.
 fn dismiss(_tree: Tree<Verdict>) {}
 
-/// The trees of what is decided, by what rules see of established packets and by the table of new ones. An error is want
-/// of memory.
+/// The trees of what is decided, by what rules see of established packets and by the table of new ones. Fails if memory runs out.
 pub(crate) fn labelled(
     alloc: Global,
     fresh: &Tree<Outcome>,

@@ -27,7 +27,7 @@ fn last_entry(site: &Site) -> u8
     site.faces.len() as u8 + 1
 }
 
-/// The rules for arriving packets of connections, and behind them for new ones. An error is want of memory.
+/// The rules for arriving packets of connections, and behind them for new ones. Fails if memory runs out.
 fn entering_rules(
     alloc: Global,
     known: &[Branch],
@@ -44,7 +44,7 @@ fn entering_rules(
     Ok(rules)
 }
 
-/// The rules for packets of connections that arrive. An error is want of memory.
+/// The rules for packets of connections that arrive. Fails if memory runs out.
 fn arriving_rules(alloc: Global, reply: &[Branch], last: u8) -> Result<Items<IptRule>, Memory>
     requires low { 1 ≤ last }
     requires high { last < 255 }
@@ -55,7 +55,7 @@ fn arriving_rules(alloc: Global, reply: &[Branch], last: u8) -> Result<Items<Ipt
     Ok(rules)
 }
 
-/// The rules for the host's own packets of connections, and behind them for new ones. An error is want of memory.
+/// The rules for the host's own packets of connections, and behind them for new ones. Fails if memory runs out.
 fn host_rules(alloc: Global, known: &[Branch], fresh: &[Branch]) -> Result<Items<IptRule>, Memory>
     ensures { IfOk result (λ rules. rules ≡ sending_rules true known.now ++ sending_rules false fresh.now) }
 {
@@ -65,7 +65,7 @@ fn host_rules(alloc: Global, known: &[Branch], fresh: &[Branch]) -> Result<Items
     Ok(rules)
 }
 
-/// The rules for the host's own packets of connections. An error is want of memory.
+/// The rules for the host's own packets of connections. Fails if memory runs out.
 fn sent_rules(alloc: Global, reply: &[Branch]) -> Result<Items<IptRule>, Memory>
     ensures { IfOk result (λ rules. rules ≡ sending_rules true reply.now) }
 {
@@ -99,7 +99,7 @@ struct Rules {
     sent: Items<IptRule>,
 }
 
-/// The rules of the built-in chains for which trees decide. An error is want of memory.
+/// The rules of the built-in chains for which trees decide. Fails if memory runs out.
 fn rules_of(alloc: Global, site: &Site, draft: &Draft) -> Result<Rules, Memory>
     requires { IsSound site.now }
     ensures { IfOk result (λ rules. AreRules site.now draft.now rules.arriving rules.sending rules.delivering rules.forwarding rules.sent) }
@@ -117,7 +117,7 @@ fn rules_of(alloc: Global, site: &Site, draft: &Draft) -> Result<Rules, Memory>
     })
 }
 
-/// The chains with these rules in the built-in ones of mangle. An error is want of memory.
+/// The chains with these rules in the built-in ones of mangle. Fails if memory runs out.
 fn with_mangle(
     alloc: Global,
     chains: Items<IptChain>,
@@ -133,7 +133,7 @@ fn with_mangle(
     Ok(with_chain(first, 3, output))
 }
 
-/// The chains with these rules in the built-in ones of filter, which stand at this place. An error is want of memory.
+/// The chains with these rules in the built-in ones of filter, which stand at this place. Fails if memory runs out.
 fn with_filter(
     alloc: Global,
     chains: Items<IptChain>,
@@ -154,7 +154,7 @@ fn with_filter(
     Ok(with_chain(second, at + 2, output))
 }
 
-/// The chains of the draft with all their rules. An error is want of memory.
+/// The chains of the draft with all their rules. Fails if memory runs out.
 pub(crate) fn filled(alloc: Global, site: &Site, draft: Draft) -> Result<Items<IptChain>, Memory>
     requires sound { IsSound site.now }
     requires many { draft.filter + 2 < length draft.chains }

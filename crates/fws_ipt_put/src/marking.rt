@@ -18,7 +18,7 @@ use fws_tree::{Row, Tree};
 use indexmap::IndexSet;
 use std::alloc::Global;
 
-/// Puts the rewriting among the others, unless it is there. An error is want of memory.
+/// Puts the rewriting among the others, unless it is there. Fails if memory runs out.
 fn put_rewrite(rewrites: &mut IndexSet<Rewrite>, rewrite: Rewrite) -> Result<(), Memory>
     ensures there { OnOk result (IsAmongThem rewrites.new.keys rewrite) }
     ensures extends { Extends rewrites.old.keys rewrites.new.keys }
@@ -27,7 +27,7 @@ fn put_rewrite(rewrites: &mut IndexSet<Rewrite>, rewrite: Rewrite) -> Result<(),
     Ok(())
 }
 
-/// Puts the rewriting of an outcome among the others, if it writes an end. An error is want of memory.
+/// Puts the rewriting of an outcome among the others, if it writes an end. Fails if memory runs out.
 fn put_outcome(rewrites: &mut IndexSet<Rewrite>, outcome: Outcome) -> Result<(), Memory>
     ensures there { OnOk result (IsRewriteOf rewrites.new.keys outcome) }
     ensures extends { Extends rewrites.old.keys rewrites.new.keys }
@@ -43,7 +43,7 @@ fn put_outcome(rewrites: &mut IndexSet<Rewrite>, outcome: Outcome) -> Result<(),
     }
 }
 
-/// The rewritings of the rows that write an end, each once. An error is want of memory.
+/// The rewritings of the rows that write an end, each once. Fails if memory runs out.
 pub(crate) fn rewrites_of(alloc: Global, rows: &[Row<Outcome>]) -> Result<IndexSet<Rewrite>, Memory>
     ensures { IfOk result (λ rewrites. HaveRewrites rewrites.keys rows.now) }
 {
@@ -61,7 +61,7 @@ fn has_other(entries: &[Iv]) -> bool
     entries.iter().any(|part| 0 < part.hi)
 }
 
-/// Blocks with all addresses of the set, if a network is written over these. An error is want of memory.
+/// Blocks with all addresses of the set, if a network is written over these. Fails if memory runs out.
 fn network_blocks(alloc: Global, end: Option<End>, set: &Ivs) -> Result<Items<Prefix>, Memory>
     ensures blocks { IfOk result (AreBlocks end) }
     ensures sound { IfOk result (All IsBlock) }
@@ -79,7 +79,7 @@ fn network_blocks(alloc: Global, end: Option<End>, set: &Ivs) -> Result<Items<Pr
     }
 }
 
-/// What is known of the packets that get the rewriting, by what they have. An error is want of memory.
+/// What is known of the packets that get the rewriting, by what they have. Fails if memory runs out.
 fn mark_of(alloc: Global, uses: &Uses, rewrite: Rewrite) -> Result<Mark, Memory>
     ensures rewrite { IfOk result (λ mark. mark.rewrite ≡ rewrite) }
     ensures tells { (rows : List (Row Outcome)) → CoversAll rewrite uses.now rows → IfOk result (TellsOfAll rows) }
@@ -107,7 +107,7 @@ fn uses_for<'a>(uses: &'a [Uses], rewrites: &IndexSet<Rewrite>, rewrite: Rewrite
     }
 }
 
-/// A mark for each of the rewritings, in their order. An error is want of memory.
+/// A mark for each of the rewritings, in their order. Fails if memory runs out.
 pub(crate) fn marks_of(
     alloc: Global,
     rows: &[Row<Outcome>],
@@ -134,7 +134,7 @@ pub(crate) struct Marks {
     pub(crate) marks: Vec<Mark>,
 }
 
-/// The marks of the rewritings of a tree. An error is want of memory.
+/// The marks of the rewritings of a tree. Fails if memory runs out.
 pub(crate) fn marks_for(alloc: Global, fresh: &Tree<Outcome>) -> Result<Marks, Memory>
     ensures { IfOk result (λ m. AreMarks fresh.now.0 fresh.now.1 m.rewrites.keys m.marks.items) }
 {

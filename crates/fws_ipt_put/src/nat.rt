@@ -24,7 +24,7 @@ fn writing(on_source: bool, end: End) -> IptGo
     }
 }
 
-/// The addresses of a block. An error is want of memory.
+/// The addresses of a block. Fails if memory runs out.
 fn addresses(alloc: Global, block: Prefix) -> Result<Ivs, Memory>
     requires { IsBlock block }
     ensures { IfOk result (λ set. set ≡ addresses block) }
@@ -34,7 +34,7 @@ fn addresses(alloc: Global, block: Prefix) -> Result<Ivs, Memory>
     one(alloc, block.addr, hi as u32)
 }
 
-/// The source, or the destination, lies in the block. An error is want of memory.
+/// The source, or the destination, lies in the block. Fails if memory runs out.
 fn lies_in(alloc: Global, on_source: bool, block: Prefix) -> Result<Test, Memory>
     requires { IsBlock block }
     ensures { IfOk result (λ test. test ≡ lies_in on_source block) }
@@ -47,7 +47,7 @@ fn lies_in(alloc: Global, on_source: bool, block: Prefix) -> Result<Test, Memory
     }
 }
 
-/// Packets of a protocol with the mark get the end. An error is want of memory.
+/// Packets of a protocol with the mark get the end. Fails if memory runs out.
 fn port_rule(
     alloc: Global,
     on_source: bool,
@@ -66,8 +66,7 @@ fn port_rule(
     )
 }
 
-/// Packets with the mark that have an address of the block get the network over it. An error is want of
-/// memory.
+/// Packets with the mark that have an address of the block get the network over it. Fails if memory runs out.
 fn block_rule(
     alloc: Global,
     on_source: bool,
@@ -91,7 +90,7 @@ fn block_rule(
     )
 }
 
-/// Puts a rule for each block. An error is want of memory.
+/// Puts a rule for each block. Fails if memory runs out.
 fn put_blocks(
     alloc: Global,
     rules: &mut Items<IptRule>,
@@ -109,7 +108,7 @@ fn put_blocks(
     Ok(())
 }
 
-/// Puts the rules for a whole address or a network. An error is want of memory.
+/// Puts the rules for a whole address or a network. Fails if memory runs out.
 fn put_address(
     alloc: Global,
     rules: &mut Items<IptRule>,
@@ -128,8 +127,7 @@ fn put_address(
     Ok(())
 }
 
-/// Puts the rules for an end with a port: for TCP and for UDP, as far as there are such packets. An error is
-/// want of memory.
+/// Puts the rules for an end with a port: for TCP and for UDP, as far as there are such packets. Fails if memory runs out.
 fn put_ports(
     alloc: Global,
     rules: &mut Items<IptRule>,
@@ -145,7 +143,7 @@ fn put_ports(
     Ok(())
 }
 
-/// Puts the rules for an end, if there is one. An error is want of memory.
+/// Puts the rules for an end, if there is one. Fails if memory runs out.
 fn put_end(
     alloc: Global,
     rules: &mut Items<IptRule>,
@@ -167,7 +165,7 @@ fn put_end(
     }
 }
 
-/// Puts the rules for the destination that a mark stands for. An error is want of memory.
+/// Puts the rules for the destination that a mark stands for. Fails if memory runs out.
 fn put_dst(alloc: Global, rules: &mut Items<IptRule>, tag: u32, mark: &Mark) -> Result<(), Memory>
     requires { All IsBlock mark.now.dst_blocks }
     ensures { OnOk result (rules.new ≡ rules.old ++ end_rules false tag mark.now mark.now.dst_blocks mark.now.rewrite.dst) }
@@ -183,7 +181,7 @@ fn put_dst(alloc: Global, rules: &mut Items<IptRule>, tag: u32, mark: &Mark) -> 
     )
 }
 
-/// Puts the rules for the source that a mark stands for. An error is want of memory.
+/// Puts the rules for the source that a mark stands for. Fails if memory runs out.
 fn put_src(alloc: Global, rules: &mut Items<IptRule>, tag: u32, mark: &Mark) -> Result<(), Memory>
     requires { All IsBlock mark.now.src_blocks }
     ensures { OnOk result (rules.new ≡ rules.old ++ end_rules true tag mark.now mark.now.src_blocks mark.now.rewrite.src) }
@@ -199,7 +197,7 @@ fn put_src(alloc: Global, rules: &mut Items<IptRule>, tag: u32, mark: &Mark) -> 
     )
 }
 
-/// Puts the rules of a mark at a hook. An error is want of memory.
+/// Puts the rules of a mark at a hook. Fails if memory runs out.
 fn put_mark(
     alloc: Global,
     rules: &mut Items<IptRule>,
@@ -219,7 +217,7 @@ fn put_mark(
     }
 }
 
-/// The rules of the marks at a hook, of which the first has the number 5. An error is want of memory.
+/// The rules of the marks at a hook, of which the first has the number 5. Fails if memory runs out.
 pub(crate) fn nat_rules(alloc: Global, hook: Hook, marks: &[Mark]) -> Result<Items<IptRule>, Memory>
     requires blocks { All HaveBlocks marks.now }
     requires few { length marks.now + 5 < 2 ^ 32 }

@@ -27,7 +27,7 @@ use fws_tree::Tables;
 use fws_tree_seen::relabelled_trees_are_told;
 use std::alloc::Global;
 
-/// The configuration of tables that fit, by what is decided in place of what they hold. An error is want of memory.
+/// The configuration of tables that fit, by what is decided in place of what they hold. Fails if memory runs out.
 fn put_decisions(
     alloc: Global,
     site: &Site,
@@ -75,7 +75,7 @@ fn put_decisions(
     Ok(IptConfig { chains })
 }
 
-/// The configuration of tables that fit, by the marks of their rewritings. An error is want of memory.
+/// The configuration of tables that fit, by the marks of their rewritings. Fails if memory runs out.
 fn put_marked(
     alloc: Global,
     site: &Site,
@@ -97,7 +97,7 @@ fn put_marked(
     put_decisions(alloc, site, t, views, known, &trees)
 }
 
-/// The configuration of tables that fit, by what rules see of established packets. An error is want of memory.
+/// The configuration of tables that fit, by what rules see of established packets. Fails if memory runs out.
 fn put_tables(alloc: Global, site: &Site, t: &Tables, views: &Views) -> Result<IptConfig, Memory>
     requires sound { IsSound site.now }
     requires regular { AreRegular site.now t.now }

@@ -58,7 +58,7 @@ fn usual_entry(branches: &[Branch], last: u8) -> u8
     usual
 }
 
-/// Puts the rule of an entry, if it is treated otherwise than is usual. An error is want of memory.
+/// Puts the rule of an entry, if it is treated otherwise than is usual. Fails if memory runs out.
 fn put_own(
     alloc: Global,
     rules: &mut Items<IptRule>,
@@ -76,8 +76,7 @@ fn put_own(
     Ok(())
 }
 
-/// Puts the rules of the entries 1 to `last` that are treated otherwise than is usual. An error is want of
-/// memory.
+/// Puts the rules of the entries 1 to `last` that are treated otherwise than is usual. Fails if memory runs out.
 fn put_entries(
     alloc: Global,
     rules: &mut Items<IptRule>,
@@ -95,8 +94,8 @@ fn put_entries(
     Ok(())
 }
 
-/// Puts the rules for the packets of a class that arrive by one of the entries 1 to `last`, and gives the
-/// entry that is treated as is usual. An error is want of memory.
+/// Puts the rules for the packets of a class that arrive by one of the entries 1 to `last`, and gives the entry that is treated as
+/// is usual. Fails if memory runs out.
 pub(crate) fn put_arriving(
     alloc: Global,
     rules: &mut Items<IptRule>,
@@ -117,7 +116,7 @@ pub(crate) fn put_arriving(
     Ok(usual)
 }
 
-/// Puts the rule for the host's own packets of a class. An error is want of memory.
+/// Puts the rule for the host's own packets of a class. Fails if memory runs out.
 pub(crate) fn put_sending(
     alloc: Global,
     rules: &mut Items<IptRule>,

@@ -17,7 +17,7 @@ pub(crate) fn asked(test: Test) -> Lit
     Lit { not: false, test }
 }
 
-/// The rule with one literal. An error is want of memory.
+/// The rule with one literal. Fails if memory runs out.
 pub(crate) fn rule_of_one(alloc: Global, lit: Lit, go: IptGo) -> Result<IptRule, Memory>
     ensures { IfOk result (λ rule. rule ≡ record { cond = lit ∷ []; go = go }) }
 {
@@ -26,7 +26,7 @@ pub(crate) fn rule_of_one(alloc: Global, lit: Lit, go: IptGo) -> Result<IptRule,
     Ok(IptRule { cond, go })
 }
 
-/// The rule with two literals. An error is want of memory.
+/// The rule with two literals. Fails if memory runs out.
 pub(crate) fn rule_of_two(
     alloc: Global,
     first: Lit,
@@ -51,14 +51,14 @@ pub(crate) fn of_class(est: bool) -> Lit
     }
 }
 
-/// A rule for the packets of a class. An error is want of memory.
+/// A rule for the packets of a class. Fails if memory runs out.
 pub(crate) fn class_rule(alloc: Global, est: bool, go: IptGo) -> Result<IptRule, Memory>
     ensures { IfOk result (λ rule. rule ≡ class_rule est go) }
 {
     rule_of_one(alloc, of_class(est), go)
 }
 
-/// A rule for the packets of a class that come from an entry. An error is want of memory.
+/// A rule for the packets of a class that come from an entry. Fails if memory runs out.
 pub(crate) fn entry_rule(alloc: Global, est: bool, entry: u8, go: IptGo) -> Result<IptRule, Memory>
     ensures { IfOk result (λ rule. rule ≡ entry_rule est entry go) }
 {
@@ -66,7 +66,7 @@ pub(crate) fn entry_rule(alloc: Global, est: bool, entry: u8, go: IptGo) -> Resu
     rule_of_two(alloc, of_class(est), asked(Test::Recv(entries)), go)
 }
 
-/// Puts the rule behind the others where it is wanted. An error is want of memory.
+/// Puts the rule behind the others where it is wanted. Fails if memory runs out.
 pub(crate) fn put_if(rules: &mut Items<IptRule>, wanted: bool, rule: IptRule) -> Result<(), Memory>
     ensures { OnOk result (rules.new ≡ rules.old ++ one_if wanted rule) }
 {

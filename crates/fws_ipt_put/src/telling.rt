@@ -24,7 +24,7 @@ pub struct Uses {
     pub srcs: Ivs,
 }
 
-/// The sets with those of the row's sides. An error is want of memory.
+/// The sets with those of the row's sides. Fails if memory runs out.
 fn with_row(alloc: Global, uses: &Uses, row: &Row<Outcome>) -> Result<Uses, Memory>
     ensures row { IfOk result (λ more. Covers more row.now) }
     ensures entries { IfOk result (λ more. IsWithinSet uses.now.entries more.entries) }
@@ -44,8 +44,7 @@ fn with_row(alloc: Global, uses: &Uses, row: &Row<Outcome>) -> Result<Uses, Memo
     })
 }
 
-/// Puts what the row's packets have to what those of its rewriting have, if that is among the rewritings. An error is
-/// want of memory.
+/// Puts what the row's packets have to what those of its rewriting have, if that is among the rewritings. Fails if memory runs out.
 fn put_row(
     alloc: Global,
     uses: &mut Vec<Uses>,
@@ -66,7 +65,7 @@ fn put_row(
     Ok(())
 }
 
-/// So many empty sets. An error is want of memory.
+/// So many empty sets. Fails if memory runs out.
 fn no_uses(alloc: Global, count: usize) -> Result<Vec<Uses>, Memory>
     ensures { IfOk result (λ uses. length uses.items ≡ count) }
 {
@@ -82,7 +81,7 @@ fn no_uses(alloc: Global, count: usize) -> Result<Vec<Uses>, Memory>
     Ok(uses)
 }
 
-/// What the packets have that get each of the rewritings, by the rows of a table. An error is want of memory.
+/// What the packets have that get each of the rewritings, by the rows of a table. Fails if memory runs out.
 pub(crate) fn uses_of(
     alloc: Global,
     rows: &[Row<Outcome>],

@@ -71,9 +71,8 @@ fn dearest(alloc: Global, field: PacketField, kids: &[Kid]) -> Result<usize, Mem
     Ok(best)
 }
 
-/// The place of the kid to which all goes that no test of the others takes: the one that has the value
-/// that no rule can test alone, where there is such a value, and else the one with most pieces. An error
-/// is want of memory.
+/// The place of the kid to which all goes that no test of the others takes: the one that has the value that no rule can test alone,
+/// where there is such a value, and else the one with most pieces. Fails if memory runs out.
 pub(crate) fn default_kid(
     alloc: Global,
     field: Option<PacketField>,

@@ -140,8 +140,8 @@ fn source_ports(alloc: Global, coming: Coming, set: &Ivs) -> Result<Items<Cond>,
     ports(alloc, PacketField::Sport, coming, &lists)
 }
 
-/// Conditions of which one holds where the packet has the field and its value is a member, for packets
-/// that come. An error is want of memory.
+/// Conditions of which one holds where the packet has the field and its value is a member, for packets that come. Fails if memory
+/// runs out.
 pub(crate) fn pieces(
     alloc: Global,
     field: PacketField,

@@ -38,7 +38,7 @@ fn fitting(ranges: &[Iv]) -> usize
     ranges.len()
 }
 
-/// Lists of ports that together have the members of the set. An error is want of memory.
+/// Lists of ports that together have the members of the set. Fails if memory runs out.
 pub(crate) fn port_lists(alloc: Global, set: &Ivs) -> Result<Vec<Ivs>, Memory>
     requires { (v : ℕ) → has set.now v ≡ true → v ≤ 65535 }
     ensures { IfOk result (λ lists. ArePortLists set.now lists.items) }

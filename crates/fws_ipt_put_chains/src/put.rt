@@ -147,9 +147,8 @@ fn put_planned(
     }
 }
 
-/// Puts chains behind the others that decide on packets as the tree does, and gives what rules do to
-/// send packets into them: a branch for each set of entries that the tree tells apart. An error is
-/// want of memory; chains may then stand behind the others.
+/// Puts chains behind the others that decide on packets as the tree does, and gives what rules do to send packets into them: a
+/// branch for each set of entries that the tree tells apart. Fails if memory runs out; chains may then stand behind the others.
 pub fn put_chains(
     alloc: Global,
     chains: &mut Items<IptChain>,

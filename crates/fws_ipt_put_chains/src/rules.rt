@@ -93,8 +93,7 @@ fn tests(
     }
 }
 
-/// The rules of a cut: those of all kids but one, and last a rule without a test for that one. An error
-/// is want of memory.
+/// The rules of a cut: those of all kids but one, and last a rule without a test for that one. Fails if memory runs out.
 pub(crate) fn cut_rules(
     alloc: Global,
     seen: Seen,

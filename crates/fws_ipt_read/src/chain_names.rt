@@ -41,8 +41,7 @@ impl ChainNames {
         }
     }
 
-    /// The place of the chain with this name, counted from 0. An error is want of memory, as is a
-    /// place past 2^32 - 1.
+    /// The place of the chain with this name, counted from 0. Fails if memory runs out, or at a place past 2^32 - 1.
     pub(crate) fn find(
         &self,
         alloc: Global,

@@ -53,7 +53,7 @@ fn flags_of_items(items: &[Text]) -> Option<u8>
     Some(flags)
 }
 
-/// The bits of flags that commas join, or of ALL or NONE alone. An error is want of memory.
+/// The bits of flags that commas join, or of ALL or NONE alone. Fails if memory runs out.
 pub(crate) fn read_flags(alloc: Global, text: &[u8]) -> Result<Option<u8>, Memory>
     ensures { IfOk result (λ o. o ≡ flags_of text.now) }
 {

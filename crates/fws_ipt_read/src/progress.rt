@@ -116,7 +116,7 @@ impl Progress {
         self.draft.within = None;
     }
 
-    /// The number of the chain of the table with this name. An error is want of memory.
+    /// The number of the chain of the table with this name. Fails if memory runs out.
     pub(crate) fn find(
         &self,
         alloc: Global,
@@ -164,7 +164,7 @@ impl Progress {
         self.draft.others.put(OtherChain { section, hook })
     }
 
-    /// Puts the rule behind those of the chain with this number. An error is want of memory.
+    /// Puts the rule behind those of the chain with this number. Fails if memory runs out.
     pub(crate) fn append(&mut self, alloc: Global, n: u32, rule: IptRule) -> Result<(), Memory>
         ensures { OnOk result (self.new ≡ record self.old { chains = with_rule n rule self.old.chains }) }
     {

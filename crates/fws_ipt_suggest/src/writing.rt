@@ -455,8 +455,8 @@ fn all_found(
     }
 }
 
-/// Texts of iptables that may do what the tables say, best first: none where the search gave up. Nothing is promised of them.
-/// An error is want of memory.
+/// Texts of iptables that may do what the tables say, best first: none where the search gave up. Nothing is promised of them. Fails
+/// if memory runs out.
 pub fn suggest(
     alloc: Global,
     tables: &Tables,

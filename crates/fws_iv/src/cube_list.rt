@@ -52,9 +52,8 @@ fn put_cubes(out: &mut Vec<Cube>, table: &[bool], bits: u32, cube: Cube) -> Resu
     Ok(())
 }
 
-/// Cubes that hold each member of the set once and no other number below 64. A bit that makes no difference
-/// isn't tested, so that a set that is one cube gives that cube. The time is that of a few hundred
-/// steps. An error is want of memory.
+/// Cubes that hold each member of the set once and no other number below 64. A bit that makes no difference isn't tested, so that a
+/// set that is one cube gives that cube. The time is that of a few hundred steps. Fails if memory runs out.
 pub fn cubes(alloc: Global, set: &Ivs) -> Result<Vec<Cube>, Memory>
     requires { (v : ℕ) → has set.now v ≡ true → v < 64 }
     ensures once { IfOk result (λ cs. (v : ℕ) → v < 64 → cubes_with v cs.items ≡ (if has set.now v then 1 else 0)) }

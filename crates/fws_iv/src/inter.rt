@@ -8,8 +8,8 @@ use crate::joined::{larger, put_below, smaller};
 use fws_num::Memory;
 use std::alloc::Allocator;
 
-/// Writes the numbers that `a` and `b` share to the empty list `out`. After want of memory `out`
-/// holds some of them. The time is linear.
+/// Writes the numbers that `a` and `b` share to the empty list `out`. If memory runs out `out` holds some of them. The time is
+/// linear.
 pub fn inter_into<A: Allocator>(out: &mut Vec<Iv, A>, a: &[Iv], b: &[Iv]) -> Result<(), Memory>
     requires empty { out.old.items ≡ [] }
     requires first { IsRegular a.now }

@@ -50,8 +50,8 @@ impl Ivs {
         }
     }
 
-    /// The numbers of all the ranges, which may overlap and stand in any order; in none is `lo` greater
-    /// than `hi`. Of n ranges the time is that of n log n steps. An error is want of memory.
+    /// The numbers of all the ranges, which may overlap and stand in any order; in none is `lo` greater than `hi`. Of n ranges the
+    /// time is that of n log n steps. Fails if memory runs out.
     #[tactic(auto, using(crate::proofs::WithRange::same_with_ranges))]
     pub fn of_ranges(alloc: Global, ranges: &[Iv]) -> Result<Ivs, Memory>
         requires { AreRanges ranges.now }
@@ -62,7 +62,7 @@ impl Ivs {
         Ivs::kept(alloc, parts)
     }
 
-    /// The set of these intervals, which ascend and of which no two touch. An error is want of memory.
+    /// The set of these intervals, which ascend and of which no two touch. Fails if memory runs out.
     pub fn of_parts(alloc: Global, parts: &[Iv]) -> Result<Ivs, Memory>
         requires { IsRegular parts.now }
         ensures { IfOk result (λ s. s ≡ parts.now) }
@@ -70,7 +70,7 @@ impl Ivs {
         Ivs::kept(alloc, Vec::from_slice(alloc, parts)?)
     }
 
-    /// The set of these intervals, kept as it is. An error is want of memory.
+    /// The set of these intervals, kept as it is. Fails if memory runs out.
     fn kept(alloc: Global, parts: Vec<Iv>) -> Result<Ivs, Memory>
         requires { IsRegular parts.items }
         ensures { IfOk result (λ s. s ≡ parts.items) }
@@ -102,7 +102,7 @@ impl Ivs {
         has_number(self.parts.as_slice(), v)
     }
 
-    /// An equal set, which shares its intervals with this one where they are many. An error is want of memory.
+    /// An equal set, which shares its intervals with this one where they are many. Fails if memory runs out.
     pub fn copy(&self, alloc: Global) -> Result<Ivs, Memory>
         ensures { IfOk result (λ s. s ≡ self.now) }
     {
@@ -111,8 +111,8 @@ impl Ivs {
         })
     }
 
-    /// Adds the numbers from `lo` to `hi`, all past those that are there; they join the last interval
-    /// where they touch it. An error is want of memory, after which the set is as before.
+    /// Adds the numbers from `lo` to `hi`, all past those that are there; they join the last interval where they touch it. Fails if
+    /// memory runs out, and then the set is as before.
     pub fn extend(&mut self, lo: u32, hi: u32) -> Result<(), Memory>
         requires order { lo ≤ hi }
         requires behind { (v : ℕ) → has self.old v ≡ true → v < lo }
@@ -125,8 +125,7 @@ impl Ivs {
         self.parts.join_last(lo, hi)
     }
 
-    /// The members of either set. The time is linear in the number of intervals. An error is want of
-    /// memory.
+    /// The members of either set. The time is linear in the number of intervals. Fails if memory runs out.
     pub fn union(&self, alloc: Global, other: &Ivs) -> Result<Ivs, Memory>
         ensures { IfOk result (λ s. (v : ℕ) → has s v ≡ (has self.now v || has other.now v)) }
     {
@@ -135,8 +134,8 @@ impl Ivs {
         Ivs::kept(alloc, parts)
     }
 
-    /// The members, and the numbers from `lo` to `hi`, of which `lo` is no greater. The time is linear
-    /// in the number of intervals. An error is want of memory.
+    /// The members, and the numbers from `lo` to `hi`, of which `lo` is no greater. The time is linear in the number of intervals.
+    /// Fails if memory runs out.
     #[tactic(auto, using(crate::proofs::WithRange::same_with_range))]
     pub fn with_range(&self, alloc: Global, lo: u32, hi: u32) -> Result<Ivs, Memory>
         requires { lo ≤ hi }
@@ -148,8 +147,7 @@ impl Ivs {
         Ivs::kept(alloc, parts)
     }
 
-    /// The members that the sets share. The time is linear in the number of intervals. An error is
-    /// want of memory.
+    /// The members that the sets share. The time is linear in the number of intervals. Fails if memory runs out.
     pub fn inter(&self, alloc: Global, other: &Ivs) -> Result<Ivs, Memory>
         ensures { IfOk result (λ s. (v : ℕ) → has s v ≡ (has self.now v && has other.now v)) }
     {
@@ -158,8 +156,7 @@ impl Ivs {
         Ivs::kept(alloc, parts)
     }
 
-    /// The members that `other` has not. The time is linear in the number of intervals. An error is
-    /// want of memory.
+    /// The members that `other` has not. The time is linear in the number of intervals. Fails if memory runs out.
     pub fn minus(&self, alloc: Global, other: &Ivs) -> Result<Ivs, Memory>
         ensures { IfOk result (λ s. (v : ℕ) → has s v ≡ (has self.now v && not (has other.now v))) }
     {
@@ -169,7 +166,7 @@ impl Ivs {
     }
 }
 
-/// The numbers from `lo` to `hi`, of which `lo` is no greater. An error is want of memory.
+/// The numbers from `lo` to `hi`, of which `lo` is no greater. Fails if memory runs out.
 pub fn one(alloc: Global, lo: u32, hi: u32) -> Result<Ivs, Memory>
     requires { lo ≤ hi }
     ensures { IfOk result (λ s. s ≡ record { lo = lo; hi = hi } ∷ []) }

@@ -22,8 +22,8 @@ pub fn smaller(a: u32, b: u32) -> u32
     if a < b { a } else { b }
 }
 
-/// Adds the numbers from `lo` to `hi` to a list of which no interval begins past `lo`: the last
-/// interval grows where they meet or touch it. After want of memory the list is as before.
+/// Adds the numbers from `lo` to `hi` to a list of which no interval begins past `lo`: the last interval grows where they meet or
+/// touch it. If memory runs out the list is as before.
 pub fn join_last<A: Allocator>(out: &mut Vec<Iv, A>, lo: u32, hi: u32) -> Result<(), Memory>
     requires order { lo ≤ hi }
     requires regular { IsRegular out.old.items }
@@ -44,8 +44,8 @@ pub fn join_last<A: Allocator>(out: &mut Vec<Iv, A>, lo: u32, hi: u32) -> Result
     Ok(())
 }
 
-/// Appends the numbers from `lo` on that lie below `end`, where there are any, to a list whose
-/// last interval they don't touch. After want of memory the list is as before.
+/// Appends the numbers from `lo` on that lie below `end`, where there are any, to a list whose last interval they don't touch. If
+/// memory runs out the list is as before.
 pub fn put_below<A: Allocator>(out: &mut Vec<Iv, A>, lo: u64, end: u64) -> Result<(), Memory>
     requires fits { end ≤ 4294967296 }
     requires regular { IsRegular out.old.items }

@@ -16,8 +16,8 @@ fn start(lo: u32, from: u64) -> u64
     if (lo as u64) < from { from } else { lo as u64 }
 }
 
-/// Writes the numbers of `a` that `b` has not to the empty list `out`. After want of memory `out`
-/// holds some of them. The time is linear.
+/// Writes the numbers of `a` that `b` has not to the empty list `out`. If memory runs out `out` holds some of them. The time is
+/// linear.
 pub fn minus_into<A: Allocator>(out: &mut Vec<Iv, A>, a: &[Iv], b: &[Iv]) -> Result<(), Memory>
     requires empty { out.old.items ≡ [] }
     requires first { IsRegular a.now }

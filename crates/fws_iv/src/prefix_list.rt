@@ -8,8 +8,8 @@ use crate::ivs::Ivs;
 use fws_num::{Memory, Prefix};
 use std::alloc::Global;
 
-/// Appends the prefix of the `2 ^ bits` addresses from `from` on, and gives the number behind them.
-/// After want of memory the list is as before.
+/// Appends the prefix of the `2 ^ bits` addresses from `from` on, and gives the number behind them. If memory runs out the list is
+/// as before.
 fn put_block(out: &mut Vec<Prefix>, from: u64, bits: u32) -> Result<u64, Memory>
     requires bits { bits ≤ 32 }
     requires aligned { from % 2 ^ bits ≡ 0 }
@@ -91,8 +91,8 @@ fn put_range(out: &mut Vec<Prefix>, from: u64, end: u64) -> Result<(), Memory>
     Ok(())
 }
 
-/// The prefixes of a set of addresses, ascending: of each interval the longest blocks from its first
-/// address on. The time is linear in the number of prefixes. An error is want of memory.
+/// The prefixes of a set of addresses, ascending: of each interval the longest blocks from its first address on. The time is linear
+/// in the number of prefixes. Fails if memory runs out.
 pub fn prefixes(alloc: Global, set: &Ivs) -> Result<Vec<Prefix>, Memory>
     ensures members { IfOk result (λ ps. (v : ℕ) → some_prefix_has ps.items v ≡ has set.now v) }
     ensures sound { IfOk result (λ ps. All IsBlock ps.items) }

@@ -8,8 +8,8 @@ use crate::union::union_into;
 use fws_num::Memory;
 use std::alloc::Global;
 
-/// The intervals of the numbers of all the ranges: the union of what each half of them has. Of n
-/// ranges the time is that of n log n steps. An error is want of memory.
+/// The intervals of the numbers of all the ranges: the union of what each half of them has. Of n ranges the time is that of n log n
+/// steps. Fails if memory runs out.
 #[tactic(auto, using(crate::proofs::Parts::regular_alone))]
 pub fn parts_of_ranges(alloc: Global, ranges: &[Iv]) -> Result<Vec<Iv>, Memory>
     requires { AreRanges ranges.now }

@@ -32,7 +32,7 @@ impl Drop for Kept {
     }
 }
 
-/// The same intervals in a list of their own. An error is want of memory.
+/// The same intervals in a list of their own. Fails if memory runs out.
 fn own_list(from: &Kept) -> Result<Vec<Iv>, Memory>
     ensures { IfOk result (λ own. own.items ≡ intervals_of from.now) }
 {
@@ -71,7 +71,7 @@ impl Stored {
         }
     }
 
-    /// These intervals. An error is want of memory.
+    /// These intervals. Fails if memory runs out.
     pub(crate) fn of(alloc: Global, parts: Vec<Iv>) -> Result<Stored, Memory>
         ensures { IfOk result (λ s. s ≡ parts.items) }
     {
@@ -97,8 +97,7 @@ impl Stored {
         }
     }
 
-    /// The same intervals. What is shared already costs a step, and what isn't the time of its length. An error is want of
-    /// memory.
+    /// The same intervals. What is shared already costs a step, and what isn't the time of its length. Fails if memory runs out.
     pub(crate) fn copy(&self, alloc: Global) -> Result<Stored, Memory>
         ensures { IfOk result (λ s. s ≡ self.now) }
     {
@@ -110,8 +109,8 @@ impl Stored {
         }
     }
 
-    /// Adds the numbers from `lo` to `hi` to intervals of which none begins past `lo`: the last one grows where they meet or
-    /// touch it. A shared list is left to its other owners. After want of memory the intervals are as before.
+    /// Adds the numbers from `lo` to `hi` to intervals of which none begins past `lo`: the last one grows where they meet or touch
+    /// it. A shared list is left to its other owners. If memory runs out the intervals are as before.
     pub(crate) fn join_last(&mut self, lo: u32, hi: u32) -> Result<(), Memory>
         requires order { lo ≤ hi }
         requires regular { IsRegular self.old }

@@ -20,8 +20,7 @@ fn is_first(a: &[Iv], b: &[Iv], i: usize, j: usize) -> bool
     i < a.len() && (j >= b.len() || a[i].lo <= b[j].lo)
 }
 
-/// Writes the numbers of `a` or `b` to the empty list `out`. After want of memory `out` holds some
-/// of them. The time is linear.
+/// Writes the numbers of `a` or `b` to the empty list `out`. If memory runs out `out` holds some of them. The time is linear.
 pub fn union_into<A: Allocator>(out: &mut Vec<Iv, A>, a: &[Iv], b: &[Iv]) -> Result<(), Memory>
     requires empty { out.old.items ≡ [] }
     requires first { IsRegular a.now }

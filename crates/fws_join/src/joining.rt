@@ -62,7 +62,7 @@ impl Joining {
         Ok(())
     }
 
-    /// Puts a decision behind the others. An error is want of memory.
+    /// Puts a decision behind the others. Fails if memory runs out.
     pub fn put(&mut self, alloc: Global, cond: Cond, passes: bool) -> Result<(), Memory>
         ensures { OnOk result (StandsFor self.new (self.old ++ record { cond = cond; passes = passes } ∷ [])) }
     {
@@ -71,7 +71,7 @@ impl Joining {
         Ok(())
     }
 
-    /// Decisions that stand for those. An error is want of memory.
+    /// Decisions that stand for those. Fails if memory runs out.
     pub fn into_decisions(self, alloc: Global) -> Result<Vec<Decision>, Memory>
         ensures { IfOk result (λ all. StandsFor all.items self) }
     {

@@ -67,7 +67,7 @@ fn joined_pairs(alloc: Global, all: Vec<Decision>) -> Result<Vec<Decision>, Memo
     Ok(fewer)
 }
 
-/// Decisions that stand for these, fewer where neighbours can be joined. An error is want of memory.
+/// Decisions that stand for these, fewer where neighbours can be joined. Fails if memory runs out.
 pub(crate) fn joined(alloc: Global, all: Vec<Decision>) -> Result<Vec<Decision>, Memory>
     ensures { IfOk result (λ fewer. StandsFor fewer.items all.items) }
 {

@@ -103,7 +103,7 @@ fn joined_cond(alloc: Global, a: &[Lit], b: &[Lit]) -> Result<Option<Cond>, Memo
     }
 }
 
-/// One decision for the two, if both say the same and they differ in one set alone. An error is want of memory.
+/// One decision for the two, if both say the same and they differ in one set alone. Fails if memory runs out.
 pub(crate) fn joined_two(
     alloc: Global,
     a: &Decision,

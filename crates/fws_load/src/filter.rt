@@ -40,8 +40,8 @@ fn put_rules(out: &mut Text, n: u32) -> Result<(), Memory>
     Ok(())
 }
 
-/// The text of a filter that forwards packets of connections, and of new ones just those that its rules accept, as many
-/// as this number from 1 to 4000. An error is want of memory.
+/// The text of a filter that forwards packets of connections, and of new ones just those that its rules accept, as many as this
+/// number from 1 to 4000. Fails if memory runs out.
 #[tactic(auto, unfolding(crate::specs::Load::filter_text))]
 pub fn load_text(alloc: Global, n: u32) -> Result<Text, Memory>
     requires least { 1 ≤ n }

@@ -6,7 +6,7 @@ ghost use Rattle.fws_load.specs.Load.{site_text};
 use fws_num::{Memory, Text};
 use std::alloc::Global;
 
-/// The text of a site with an inner and an outer interface. An error is want of memory.
+/// The text of a site with an inner and an outer interface. Fails if memory runs out.
 #[tactic(auto, unfolding(crate::specs::Load::site_text))]
 pub fn load_site(alloc: Global) -> Result<Text, Memory>
     ensures { IfOk result (λ text. text ≡ site_text) }

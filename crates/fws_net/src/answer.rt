@@ -33,7 +33,7 @@ impl<C: Debug> From<Memory> for TextAnswer<C> {
     }
 }
 
-/// What is wrong with a word or a line, or want of memory.
+/// What is wrong with a word or a line, or that memory ran out.
 #[derive(Debug, Drop)]
 pub enum LineFault<C> {
     /// What is wrong.

@@ -24,7 +24,7 @@ pub enum Cause {
     Expand = 7,
 }
 
-/// What is wrong with a word or a line of a configuration, or want of memory.
+/// What is wrong with a word or a line of a configuration, or that memory ran out.
 pub type ReadFault = LineFault<Cause>;
 
 /// Why a text gives no configuration.
@@ -43,7 +43,7 @@ pub enum SiteCause {
     Count,
 }
 
-/// What is wrong with a word or a line of a site file, or want of memory.
+/// What is wrong with a word or a line of a site file, or that memory ran out.
 pub type SiteFault = LineFault<SiteCause>;
 
 /// Why a site file gives no site.

@@ -75,7 +75,7 @@ impl Model for Cond {
 }
 
 impl Test {
-    /// An equal test. An error is want of memory.
+    /// An equal test. Fails if memory runs out.
     pub fn copy(&self, alloc: Global) -> Result<Test, Memory>
         ensures { IfOk result (λ t. t ≡ self.now) }
     {
@@ -103,7 +103,7 @@ impl Test {
 }
 
 impl Lit {
-    /// An equal literal. An error is want of memory.
+    /// An equal literal. Fails if memory runs out.
     pub fn copy(&self, alloc: Global) -> Result<Lit, Memory>
         ensures { IfOk result (λ lit. lit ≡ self.now) }
     {
@@ -124,7 +124,7 @@ impl Cond {
         }
     }
 
-    /// Appends the literal. After want of memory the condition is as before and the literal is dropped.
+    /// Appends the literal. If memory runs out the condition is as before and the literal is dropped.
     pub fn put(&mut self, lit: Lit) -> Result<(), Memory>
         ensures ok { OnOk result (self.new ≡ self.old ++ lit ∷ []) }
         ensures err { OnErr result (self.new ≡ self.old) }
@@ -140,7 +140,7 @@ impl Cond {
         self.lits.as_slice()
     }
 
-    /// An equal condition. An error is want of memory.
+    /// An equal condition. Fails if memory runs out.
     pub fn copy(&self, alloc: Global) -> Result<Cond, Memory>
         ensures { IfOk result (λ c. c ≡ self.now) }
     {

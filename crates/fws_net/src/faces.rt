@@ -56,8 +56,8 @@ pub fn face_addr(site: &Site, entry: u8) -> u32
     }
 }
 
-/// The addresses of the interface with this entry number; 127.0.0.1 for loopback, and none where no
-/// interface has the number. An error is want of memory.
+/// The addresses of the interface with this entry number; 127.0.0.1 for loopback, and none where no interface has the number. Fails
+/// if memory runs out.
 pub fn face_addrs(alloc: Global, site: &Site, entry: u8) -> Result<Ivs, Memory>
     ensures { IfOk result (λ s. s ≡ face_addrs site.now entry) }
 {
@@ -70,8 +70,8 @@ pub fn face_addrs(alloc: Global, site: &Site, entry: u8) -> Result<Ivs, Memory>
     }
 }
 
-/// The addresses of the networks of the interface with this entry number; 127.0.0.0/8 for loopback,
-/// and none where no interface has the number. An error is want of memory.
+/// The addresses of the networks of the interface with this entry number; 127.0.0.0/8 for loopback, and none where no interface has
+/// the number. Fails if memory runs out.
 pub fn face_nets(alloc: Global, site: &Site, entry: u8) -> Result<Ivs, Memory>
     ensures { IfOk result (λ s. s ≡ face_nets site.now entry) }
 {
@@ -129,8 +129,7 @@ fn with_entry(alloc: Global, entry: u8, name: &Text, front: &[u8], set: Ivs) -> 
     }
 }
 
-/// The entry numbers of the interfaces, and of loopback, whose names in the system begin with the
-/// front. An error is want of memory.
+/// The entry numbers of the interfaces, and of loopback, whose names in the system begin with the front. Fails if memory runs out.
 pub fn entries_beginning(
     alloc: Global,
     site: &Site,

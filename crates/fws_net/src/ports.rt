@@ -20,8 +20,8 @@ pub fn read_port_range(divider: u8, text: &[u8]) -> Option<(u16, u16)>
     if lo <= hi { Some((lo, hi)) } else { None }
 }
 
-/// The ports of a list: ports and ranges of ports with the divider between, joined by commas. There
-/// are none where an item is neither. An error is want of memory.
+/// The ports of a list: ports and ranges of ports with the divider between, joined by commas. There are none where an item is
+/// neither. Fails if memory runs out.
 pub fn read_ports(alloc: Global, divider: u8, text: &[u8]) -> Result<Option<Ivs>, Memory>
     ensures { IfOk result (λ o. o ≡ ports_of divider text.now) }
 {

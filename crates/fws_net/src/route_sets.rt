@@ -171,9 +171,9 @@ fn put_block(
     Ok(())
 }
 
-/// The addresses for which packets are sent to the interface with this entry number: those that the
-/// site's longest prefix leads to it, and for the default interface those that no prefix holds. The
-/// time is nearly linear in the number of prefixes. An error is want of memory.
+/// The addresses for which packets are sent to the interface with this entry number: those that the site's longest prefix leads to
+/// it, and for the default interface those that no prefix holds. The time is nearly linear in the number of prefixes. Fails if
+/// memory runs out.
 pub fn route_set(alloc: Global, site: &Site, entry: u8) -> Result<Ivs, Memory>
     requires { IsSound site.now }
     ensures { IfOk result (λ s. (a : ℕ) → has s a ≡ (nat_eq (route_of site.now a) entry && nat_lt a (2 ^ 32))) }

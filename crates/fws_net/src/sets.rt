@@ -27,7 +27,7 @@ fn put_own_ranges(ranges: &mut Vec<Iv>, face: &Iface) -> Result<(), Memory>
     Ok(())
 }
 
-/// The addresses of the interface. An error is want of memory.
+/// The addresses of the interface. Fails if memory runs out.
 pub(crate) fn own_set(alloc: Global, face: &Iface) -> Result<Ivs, Memory>
     ensures { IfOk result (λ s. s ≡ with_ranges [] (own_ranges face.now)) }
 {
@@ -48,7 +48,7 @@ fn all_own_ranges(alloc: Global, faces: &[Iface]) -> Result<Vec<Iv>, Memory>
     Ok(ranges)
 }
 
-/// The addresses of the interfaces. An error is want of memory.
+/// The addresses of the interfaces. Fails if memory runs out.
 pub fn all_own_set(alloc: Global, faces: &[Iface]) -> Result<Ivs, Memory>
     ensures value { IfOk result (λ s. s ≡ with_ranges [] (all_own_ranges faces.now)) }
     ensures members { IfOk result (λ s. (a : ℕ) → has s a ≡ list_any (λ face. has_addr face a) faces.now) }
@@ -57,7 +57,7 @@ pub fn all_own_set(alloc: Global, faces: &[Iface]) -> Result<Ivs, Memory>
     Ivs::of_ranges(alloc, ranges.as_slice())
 }
 
-/// The addresses of the interfaces and those of 127.0.0.0/8. An error is want of memory.
+/// The addresses of the interfaces and those of 127.0.0.0/8. Fails if memory runs out.
 pub fn local_set(alloc: Global, site: &Site) -> Result<Ivs, Memory>
     ensures value { IfOk result (λ s. s ≡ local_parts site.now) }
     ensures members { IfOk result (λ s. (a : ℕ) → has s a ≡ is_local site.now a) }
@@ -73,7 +73,7 @@ fn block_size(len: u8) -> u64
     2u64.pow(32u32.saturating_sub(u32::from(len)))
 }
 
-/// The addresses that agree with this one in their first `len` bits. An error is want of memory.
+/// The addresses that agree with this one in their first `len` bits. Fails if memory runs out.
 pub fn agreeing_set(alloc: Global, len: u8, addr: u32) -> Result<Ivs, Memory>
     ensures value { IfOk result (λ s. s ≡ block len addr ∷ []) }
     ensures members { IfOk result (λ s. (v : ℕ) → has s v ≡ agree len addr v) }
@@ -82,7 +82,7 @@ pub fn agreeing_set(alloc: Global, len: u8, addr: u32) -> Result<Ivs, Memory>
     one(alloc, range.lo, range.hi)
 }
 
-/// The addresses of the prefix. An error is want of memory.
+/// The addresses of the prefix. Fails if memory runs out.
 pub fn prefix_set(alloc: Global, prefix: &Prefix) -> Result<Ivs, Memory>
     ensures value { IfOk result (λ s. s ≡ prefix_parts prefix.now) }
     ensures members { IfOk result (λ s. (a : ℕ) → has s a ≡ agree prefix.now.len prefix.now.addr a) }
@@ -104,7 +104,7 @@ fn block_range(len: u8, addr: u32) -> Iv
     }
 }
 
-/// The networks of the interface's addresses. An error is want of memory.
+/// The networks of the interface's addresses. Fails if memory runs out.
 pub(crate) fn net_set(alloc: Global, face: &Iface) -> Result<Ivs, Memory>
     ensures { IfOk result (λ s. s ≡ with_ranges [] (net_ranges face.now)) }
 {

@@ -210,9 +210,9 @@ fn put_lines(out: &mut Text, site: &Site) -> Result<(), Memory>
     Ok(())
 }
 
-/// The text of a site in the second form: the lines of the interfaces, of their addresses in the same
-/// order, of the routes in theirs, and the last four lines, with one blank between words. It asks for a
-/// site that some text spells; the text is read as that site. An error is want of memory.
+/// The text of a site in the second form: the lines of the interfaces, of their addresses in the same order, of the routes in
+/// theirs, and the last four lines, with one blank between words. It asks for a site that some text spells; the text is read as
+/// that site. Fails if memory runs out.
 pub fn put_site(alloc: Global, site: &Site) -> Result<Text, Memory>
     requires { IsRead site.now }
     ensures spelled { IfOk result (λ text. text ≡ site2_text site.now) }

@@ -52,8 +52,7 @@ impl Transit {
         }
     }
 
-    /// What a rule sees of the packet, where the receiving and the sending interface are shown or
-    /// not. An error is want of memory.
+    /// What a rule sees of the packet, where the receiving and the sending interface are shown or not. Fails if memory runs out.
     pub fn seen(
         &self,
         alloc: Global,
@@ -154,8 +153,7 @@ impl Transit {
         self.tags.as_slice().iter().any(|own| tag == *own)
     }
 
-    /// Adds the tag behind the others; one that is there isn't added again. An error is want of
-    /// memory.
+    /// Adds the tag behind the others; one that is there isn't added again. Fails if memory runs out.
     pub fn with_tag(mut self, tag: u32) -> Result<Transit, Memory>
         ensures { IfOk result (λ t. t ≡ with_tag tag self) }
     {
@@ -165,7 +163,7 @@ impl Transit {
         Ok(self)
     }
 
-    /// Makes the tag the only one. An error is want of memory.
+    /// Makes the tag the only one. Fails if memory runs out.
     pub fn with_only_tag(self, alloc: Global, tag: u32) -> Result<Transit, Memory>
         ensures { IfOk result (λ t. t ≡ with_only_tag tag self) }
     {
@@ -174,7 +172,7 @@ impl Transit {
         Ok(Transit { tags, ..self })
     }
 
-    /// Takes the tag away; the others keep their order. An error is want of memory.
+    /// Takes the tag away; the others keep their order. Fails if memory runs out.
     pub fn without_tag(self, alloc: Global, tag: u32) -> Result<Transit, Memory>
         ensures { IfOk result (λ t. t ≡ without_tag tag self) }
     {

@@ -84,8 +84,8 @@ fn found_at(
     Ok(found)
 }
 
-/// Which rules of a source decide at points of its tables: at most some thousands of points, and fewer where the source is long. An
-/// error is want of memory.
+/// Which rules of a source decide at points of its tables: at most some thousands of points, and fewer where the source is long.
+/// Fails if memory runs out.
 pub fn evidence_of<'a>(
     alloc: Global,
     site: &Site,

@@ -71,8 +71,8 @@ fn first_line(text: &[u8]) -> usize {
     }
 }
 
-/// A text with lines behind its first one that say what of its source doesn't carry over; none where nothing is lost. An error is want
-/// of memory.
+/// A text with lines behind its first one that say what of its source doesn't carry over; none where nothing is lost. Fails if
+/// memory runs out.
 pub fn headed(
     alloc: Global,
     lang: Lang,

@@ -228,7 +228,7 @@ fn put_remarks(
 }
 
 /// What the rules of a text of iptables say behind `--comment`, by their numbers: nothing where they say nothing, and in other
-/// languages. An error is want of memory.
+/// languages. Fails if memory runs out.
 pub fn remarks(
     alloc: Global,
     lang: Lang,

@@ -119,8 +119,8 @@ fn put_line(losses: &mut Losses, lang: Lang, line: &Line) -> Result<(), Memory> 
     }
 }
 
-/// What of a text doesn't carry over into another one, by words that its reader takes without effect, or whose effect is no more than
-/// dropping or counting. That of pf serves OpenBSD's, too. An error is want of memory.
+/// What of a text doesn't carry over into another one, by words that its reader takes without effect, or whose effect is no more
+/// than dropping or counting. That of pf serves OpenBSD's, too. Fails if memory runs out.
 pub fn losses_of(alloc: Global, site: &Site, lang: Lang, text: &[u8]) -> Result<Losses, Memory> {
     let mut losses = Losses {
         all: Vec::new(alloc),

@@ -326,9 +326,10 @@ fn put_unknown(out: &mut Text, lines: &[Text]) -> Result<(), Memory> {
     Ok(())
 }
 
-/// A text in a language with notes: behind the first comments what of the source doesn't carry over, and ahead of each rule up to three
-/// rules of the source that decide at points of it, and how many more there are. In iptables a rule gets the source's `--comment`,
-/// where that is one, and chains of its filter drop what the kernel calls INVALID first, where the source drops all of it. Where nothing is told of the text's rules, or of the source's, there are no such notes. An error is want of memory.
+/// A text in a language with notes: behind the first comments what of the source doesn't carry over, and ahead of each rule up to
+/// three rules of the source that decide at points of it, and how many more there are. In iptables a rule gets the source's
+/// `--comment`, where that is one, and chains of its filter drop what the kernel calls INVALID first, where the source drops all of
+/// it. Where nothing is told of the text's rules, or of the source's, there are no such notes. Fails if memory runs out.
 pub fn noted(
     alloc: Global,
     site: &Site,

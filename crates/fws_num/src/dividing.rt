@@ -9,8 +9,8 @@ use crate::text::Text;
 use std::alloc::Global;
 use std::mem;
 
-/// The pieces of the text between such bytes: one more than there are such bytes, and some of them
-/// may be empty. An error is want of memory.
+/// The pieces of the text between such bytes: one more than there are such bytes, and some of them may be empty. Fails if memory
+/// runs out.
 pub fn pieces(alloc: Global, byte: u8, text: &[u8]) -> Result<Items<Text>, Memory>
     ensures { IfOk result (λ ps. ps ≡ pieces_of byte text.now) }
 {

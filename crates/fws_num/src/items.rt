@@ -44,7 +44,7 @@ impl<T: Drop> Items<T> {
         self.items
     }
 
-    /// Appends the item. After want of memory the list is as before and the item is dropped.
+    /// Appends the item. If memory runs out the list is as before and the item is dropped.
     pub fn put(&mut self, item: T) -> Result<(), Memory>
         ensures ok { OnOk result (self.new ≡ self.old ++ item ∷ []) }
         ensures err { OnErr result (self.new ≡ self.old) }

@@ -73,7 +73,7 @@ fn put_line(
     Ok(())
 }
 
-/// The number of the line behind that of this number. An error is want of memory, as which the number past 2^32 - 1 counts.
+/// The number of the line behind that of this number. Fails if memory runs out, or at a number past 2^32 - 1.
 pub fn next_number(number: u32) -> Result<u32, Memory>
     ensures { IfOk result (λ next. next ≡ number + 1) }
 {

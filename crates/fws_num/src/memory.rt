@@ -1,8 +1,8 @@
-//! Want of memory.
+//! Memory ran out.
 
 use std::alloc::{AllocError, AllocFailed};
 
-/// Want of memory: an allocation was refused, or something would need a number past 2^32 - 1.
+/// Memory ran out: an allocation was refused, or something would need a number past 2^32 - 1.
 #[derive(Clone, Copy, Debug, PartialEq, Eq)]
 pub struct Memory;
 

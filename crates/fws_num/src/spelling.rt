@@ -8,7 +8,7 @@ use crate::memory::Memory;
 use crate::text::Text;
 use itoa::{Buffer, write_digits};
 
-/// Appends the number in decimal digits. After want of memory the text is as before.
+/// Appends the number in decimal digits. If memory runs out the text is as before.
 pub fn put_dec(out: &mut Text, n: u64) -> Result<(), Memory>
     ensures ok { OnOk result (out.new ≡ out.old ++ decimal n) }
     ensures err { OnErr result (out.new ≡ out.old) }
@@ -40,7 +40,7 @@ fn write_octet_and_dot(octet: u8, buf: &mut [u8], end: usize) -> usize
     write_octet(octet, buf, end - 1)
 }
 
-/// Appends the address as four octets joined by dots. After want of memory the text is as before.
+/// Appends the address as four octets joined by dots. If memory runs out the text is as before.
 pub fn put_quad(out: &mut Text, a: u32) -> Result<(), Memory>
     ensures ok { OnOk result (out.new ≡ out.old ++ dotted a) }
     ensures err { OnErr result (out.new ≡ out.old) }

@@ -30,7 +30,7 @@ impl Text {
         }
     }
 
-    /// The text of these bytes. An error is want of memory.
+    /// The text of these bytes. Fails if memory runs out.
     pub fn of(alloc: Global, bytes: &[u8]) -> Result<Text, Memory>
         ensures { IfOk result (λ t. t ≡ bytes.now) }
     {
@@ -39,7 +39,7 @@ impl Text {
         })
     }
 
-    /// Appends the piece. After want of memory the text is as before.
+    /// Appends the piece. If memory runs out the text is as before.
     pub fn put(&mut self, piece: &[u8]) -> Result<(), Memory>
         ensures ok { OnOk result (self.new ≡ self.old ++ piece.now) }
         ensures err { OnErr result (self.new ≡ self.old) }

@@ -29,7 +29,7 @@ use fws_pf::{PfConfig, PfNat};
 use fws_rules::positive;
 use std::alloc::Global;
 
-/// Puts a rule behind the others that acts where the literal holds. An error is want of memory.
+/// Puts a rule behind the others that acts where the literal holds. Fails if memory runs out.
 fn put_where(alloc: Global, rules: &mut Vec<Rule>, lit: Lit, act: Act) -> Result<(), Memory>
     ensures { OnOk result (rules.new.items ≡ rules.old.items ++ ruled (lit ∷ []) act ∷ []) }
 {
@@ -38,7 +38,7 @@ fn put_where(alloc: Global, rules: &mut Vec<Rule>, lit: Lit, act: Act) -> Result
     Ok(())
 }
 
-/// Puts the rules behind the others at which packets of connections pass. An error is want of memory.
+/// Puts the rules behind the others at which packets of connections pass. Fails if memory runs out.
 fn put_tracking(alloc: Global, rules: &mut Vec<Rule>, outward: bool) -> Result<(), Memory>
     ensures { OnOk result (rules.new.items ≡ rules.old.items ++ tracking outward) }
 {
@@ -51,8 +51,7 @@ fn put_tracking(alloc: Global, rules: &mut Vec<Rule>, outward: bool) -> Result<(
     Ok(())
 }
 
-/// Puts the rule behind the others at which packets pass on the interfaces that are skipped. An error is
-/// want of memory.
+/// Puts the rule behind the others at which packets pass on the interfaces that are skipped. Fails if memory runs out.
 fn put_skipping(alloc: Global, rules: &mut Vec<Rule>, c: &PfConfig) -> Result<(), Memory>
     ensures { OnOk result (rules.new.items ≡ rules.old.items ++ skipping c.now) }
 {
@@ -79,7 +78,7 @@ pub(crate) fn translations_place(outward: bool) -> usize
     if outward { 2 } else { 3 }
 }
 
-/// The place at which the filter rules of a pass begin. An error is want of memory.
+/// The place at which the filter rules of a pass begin. Fails if memory runs out.
 pub(crate) fn filter_place(outward: bool, c: &PfConfig) -> Result<usize, Memory>
     ensures { IfOk result (λ n. n ≡ filter_place outward c.now) }
 {
@@ -88,8 +87,8 @@ pub(crate) fn filter_place(outward: bool, c: &PfConfig) -> Result<usize, Memory>
     sum(first, width)
 }
 
-/// All rules of a pass, with those of the filter in the order of the configuration's or as they decide first. An error
-/// is want of memory.
+/// All rules of a pass, with those of the filter in the order of the configuration's or as they decide first. Fails if memory runs
+/// out.
 fn pass_rules(
     alloc: Global,
     in_order: bool,
@@ -107,7 +106,7 @@ fn pass_rules(
     Ok(rules)
 }
 
-/// The chain of these rules. An error is want of memory.
+/// The chain of these rules. Fails if memory runs out.
 fn chain(alloc: Global, name: &[u8], rules: Vec<Rule>) -> Result<Chain, Memory>
     ensures { IfOk result (λ chain. chain ≡ record { name = name.now; rules = rules.items }) }
 {
@@ -117,7 +116,7 @@ fn chain(alloc: Global, name: &[u8], rules: Vec<Rule>) -> Result<Chain, Memory>
     })
 }
 
-/// Puts the chain of these rules behind the others. An error is want of memory.
+/// Puts the chain of these rules behind the others. Fails if memory runs out.
 fn put_chain(
     alloc: Global,
     chains: &mut Items<Chain>,
@@ -131,7 +130,7 @@ fn put_chain(
     Ok(())
 }
 
-/// Puts the chains of the two passes behind the others. An error is want of memory.
+/// Puts the chains of the two passes behind the others. Fails if memory runs out.
 fn put_chains(
     alloc: Global,
     chains: &mut Items<Chain>,
@@ -145,7 +144,7 @@ fn put_chains(
     Ok(())
 }
 
-/// The chains of the two passes. An error is want of memory.
+/// The chains of the two passes. Fails if memory runs out.
 fn chains_of(alloc: Global, in_order: bool, c: &PfConfig) -> Result<Items<Chain>, Memory>
     ensures { IfOk result (ArePasses in_order c.now []) }
 {
@@ -167,7 +166,7 @@ fn pass_stage(outward: bool) -> Stage
     }
 }
 
-/// The diagram, put together from its chains and stages. An error is want of memory.
+/// The diagram, put together from its chains and stages. Fails if memory runs out.
 fn drawn(alloc: Global, in_order: bool, c: &PfConfig) -> Result<Ifcl, Memory>
     ensures { IfOk result (IsDrawn in_order c.now) }
 {
@@ -186,12 +185,11 @@ fn drawn(alloc: Global, in_order: bool, c: &PfConfig) -> Result<Ifcl, Memory>
     })
 }
 
-/// The control diagram of a configuration. On every site it does with each packet what the configuration
-/// does, new or of a connection, and it can be unfolded. One chain has the rules of packets that come in,
-/// and one those of packets that go out: translations, the first of which that matches skips to the filter
-/// rules, and these, whose verdict so far is held as long as a later one puts a tag, and of which behind that
-/// the one that decides stands first; there, neighbours that do the same and differ in one set are one rule.
-/// An error is want of memory, or of numbers for rules. Near-linear in the rules.
+/// The control diagram of a configuration. On every site it does with each packet what the configuration does, new or of a
+/// connection, and it can be unfolded. One chain has the rules of packets that come in, and one those of packets that go out:
+/// translations, the first of which that matches skips to the filter rules, and these, whose verdict so far is held as long as a
+/// later one puts a tag, and of which behind that the one that decides stands first; there, neighbours that do the same and differ
+/// in one set are one rule. Fails if memory or numbers for rules run out. Near-linear in the rules.
 pub fn to_ifcl(alloc: Global, c: &PfConfig, site: &Site) -> Result<Ifcl, Memory>
     ensures diagram { IfOk result (IsDrawn false c.now) }
     ensures ok { IfOk result (λ d. ifcl_ok d ≡ true) }
@@ -206,12 +204,11 @@ pub fn to_ifcl(alloc: Global, c: &PfConfig, site: &Site) -> Result<Ifcl, Memory>
     Ok(d)
 }
 
-/// A control diagram of a configuration, and where the configuration's rules stand in it. It does with each packet what
-/// the configuration does, as the diagram of `to_ifcl` does, and the rules whose places a packet's walk uses are those that
-/// the configuration's walk uses, as often and in the same order. So all filter rules stand in their order, and those
-/// that aren't quick hold their verdict. A rule has a place on each pass on which it is met. The rules are counted from 0, those of rdr ahead
-/// of those of nat, and these ahead of the filter's. An error is want of memory, or of numbers for rules. Linear in the
-/// rules.
+/// A control diagram of a configuration, and where the configuration's rules stand in it. It does with each packet what the
+/// configuration does, as the diagram of `to_ifcl` does, and the rules whose places a packet's walk uses are those that the
+/// configuration's walk uses, as often and in the same order. So all filter rules stand in their order, and those that aren't quick
+/// hold their verdict. A rule has a place on each pass on which it is met. The rules are counted from 0, those of rdr ahead of
+/// those of nat, and these ahead of the filter's. Fails if memory or numbers for rules run out. Linear in the rules.
 pub fn places(alloc: Global, c: &PfConfig, site: &Site) -> Result<(Ifcl, Vec<Spot>), Memory>
     ensures ok { IfOk result (λ x. ifcl_ok x.0 ≡ true) }
     ensures means { IfOk result (λ x. (p : Packet) (k : Kind) → means x.0 site.now p k ≡ walk c.now site.now p k) }

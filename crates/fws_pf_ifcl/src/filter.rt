@@ -11,8 +11,8 @@ use fws_num::Memory;
 use fws_pf::PfRule;
 use std::alloc::Global;
 
-/// Puts the rules behind the others at which packets pass at once where the condition holds, with the tag
-/// put first. An error is want of memory.
+/// Puts the rules behind the others at which packets pass at once where the condition holds, with the tag put first. Fails if
+/// memory runs out.
 fn put_passing(
     alloc: Global,
     rules: &mut Vec<Rule>,
@@ -31,8 +31,8 @@ fn put_passing(
     }
 }
 
-/// Puts the rules behind the others that hold a verdict so far where the condition holds, with the tag put
-/// behind it. An error is want of memory.
+/// Puts the rules behind the others that hold a verdict so far where the condition holds, with the tag put behind it. Fails if
+/// memory runs out.
 fn put_holding(
     alloc: Global,
     rules: &mut Vec<Rule>,
@@ -52,7 +52,7 @@ fn put_holding(
     }
 }
 
-/// Puts the rules to which a filter rule is unfolded behind the others. An error is want of memory.
+/// Puts the rules to which a filter rule is unfolded behind the others. Fails if memory runs out.
 fn put_filter_rule(alloc: Global, rules: &mut Vec<Rule>, rule: &PfRule) -> Result<(), Memory>
     ensures { OnOk result (rules.new.items ≡ rules.old.items ++ filter_rule (length rules.old.items) rule.now) }
 {
@@ -69,7 +69,7 @@ fn put_filter_rule(alloc: Global, rules: &mut Vec<Rule>, rule: &PfRule) -> Resul
     Ok(())
 }
 
-/// Puts the rules of a filter rule behind the others if it is met on the pass. An error is want of memory.
+/// Puts the rules of a filter rule behind the others if it is met on the pass. Fails if memory runs out.
 fn put_met(alloc: Global, rules: &mut Vec<Rule>, outward: bool, rule: &PfRule) -> Result<(), Memory>
     ensures { OnOk result (rules.new.items ≡ rules.old.items ++ met_rule outward (length rules.old.items) rule.now) }
 {
@@ -80,8 +80,7 @@ fn put_met(alloc: Global, rules: &mut Vec<Rule>, outward: bool, rule: &PfRule) -
     Ok(())
 }
 
-/// Puts the rules to which filter rules are unfolded behind the others, in their order. An error is want of
-/// memory.
+/// Puts the rules to which filter rules are unfolded behind the others, in their order. Fails if memory runs out.
 fn put_met_rules(
     alloc: Global,
     rules: &mut Vec<Rule>,
@@ -96,8 +95,8 @@ fn put_met_rules(
     Ok(())
 }
 
-/// Puts the rules to which the filter rules of a pass are unfolded behind the others, as they decide first. An
-/// error is want of memory.
+/// Puts the rules to which the filter rules of a pass are unfolded behind the others, as they decide first. Fails if memory runs
+/// out.
 fn put_filter(
     alloc: Global,
     rules: &mut Vec<Rule>,
@@ -112,8 +111,8 @@ fn put_filter(
     Ok(())
 }
 
-/// Puts the rules to which the filter rules of a pass are unfolded behind the others: in their order, or as they
-/// decide first. An error is want of memory.
+/// Puts the rules to which the filter rules of a pass are unfolded behind the others: in their order, or as they decide first.
+/// Fails if memory runs out.
 pub(crate) fn put_filter_rules(
     alloc: Global,
     rules: &mut Vec<Rule>,

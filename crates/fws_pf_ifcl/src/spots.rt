@@ -38,8 +38,8 @@ fn met_width(outward: bool, rule: &PfRule) -> usize
     0
 }
 
-/// Puts the spots of translations behind the others, of which the first has this number and the first place. An error is
-/// want of memory, or of numbers for rules.
+/// Puts the spots of translations behind the others, of which the first has this number and the first place. Fails if memory or
+/// numbers for rules run out.
 fn put_translation_spots(
     spots: &mut Vec<Spot>,
     chain: u32,
@@ -61,8 +61,8 @@ fn put_translation_spots(
     Ok(())
 }
 
-/// Puts the spots of filter rules on a pass behind the others, of which the first has this number and the first place. An
-/// error is want of memory, or of numbers for rules.
+/// Puts the spots of filter rules on a pass behind the others, of which the first has this number and the first place. Fails if
+/// memory or numbers for rules run out.
 fn put_filter_spots(
     spots: &mut Vec<Spot>,
     chain: u32,
@@ -92,14 +92,14 @@ fn first_translation(outward: bool, c: &PfConfig) -> usize
     if outward { c.rdr.len() } else { 0 }
 }
 
-/// The number of the first filter rule. An error is want of memory, which a number past all counts as.
+/// The number of the first filter rule. Fails if memory or numbers run out.
 fn first_filter_rule(c: &PfConfig) -> Result<usize, Memory>
     ensures { IfOk result (λ n. n ≡ first_filter_rule c.now) }
 {
     sum(c.rdr.len(), c.nat.len())
 }
 
-/// Puts the spots of the rules of a pass behind the others. An error is want of memory, or of numbers for rules.
+/// Puts the spots of the rules of a pass behind the others. Fails if memory or numbers for rules run out.
 fn put_pass_spots(
     spots: &mut Vec<Spot>,
     chain: u32,
@@ -118,7 +118,7 @@ fn put_pass_spots(
     Ok(())
 }
 
-/// Where the rules stand. An error is want of memory, or of numbers for rules.
+/// Where the rules stand. Fails if memory or numbers for rules run out.
 pub(crate) fn spots_of(alloc: Global, c: &PfConfig) -> Result<Vec<Spot>, Memory>
     ensures { IfOk result (λ spots. spots.items ≡ spots_of c.now) }
 {

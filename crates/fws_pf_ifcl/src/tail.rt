@@ -44,7 +44,7 @@ pub(crate) fn tail_place(outward: bool, filter: &[PfRule]) -> usize
     place
 }
 
-/// Puts what a filter rule decides where its condition holds behind the others, if it is to. An error is want of memory.
+/// Puts what a filter rule decides where its condition holds behind the others, if it is to. Fails if memory runs out.
 fn put_deciding(
     alloc: Global,
     all: &mut Joining,
@@ -62,7 +62,7 @@ fn put_deciding(
     Ok(())
 }
 
-/// Puts that of a filter rule behind the others if it is met on the pass and quick. An error is want of memory.
+/// Puts that of a filter rule behind the others if it is met on the pass and quick. Fails if memory runs out.
 fn put_quick_rule(
     alloc: Global,
     all: &mut Joining,
@@ -76,7 +76,7 @@ fn put_quick_rule(
     Ok(())
 }
 
-/// Puts that of a filter rule behind the others if it is met on the pass and not quick. An error is want of memory.
+/// Puts that of a filter rule behind the others if it is met on the pass and not quick. Fails if memory runs out.
 fn put_slow_rule(
     alloc: Global,
     all: &mut Joining,
@@ -90,7 +90,7 @@ fn put_slow_rule(
     Ok(())
 }
 
-/// Puts those of the quick rules behind the others, in their order. An error is want of memory.
+/// Puts those of the quick rules behind the others, in their order. Fails if memory runs out.
 fn put_quick_rules(
     alloc: Global,
     all: &mut Joining,
@@ -106,7 +106,7 @@ fn put_quick_rules(
     Ok(())
 }
 
-/// Puts those of the rules that aren't quick behind the others, the last one first. An error is want of memory.
+/// Puts those of the rules that aren't quick behind the others, the last one first. Fails if memory runs out.
 fn put_slow_rules(
     alloc: Global,
     all: &mut Joining,
@@ -122,7 +122,7 @@ fn put_slow_rules(
     Ok(())
 }
 
-/// Decisions that stand for those of the tail, of which neighbours are joined. An error is want of memory.
+/// Decisions that stand for those of the tail, of which neighbours are joined. Fails if memory runs out.
 fn joined_tail(alloc: Global, outward: bool, tail: &[PfRule]) -> Result<Vec<Decision>, Memory>
     ensures { IfOk result (λ all. StandsFor all.items (tail_rules outward tail.now)) }
 {
@@ -134,7 +134,7 @@ fn joined_tail(alloc: Global, outward: bool, tail: &[PfRule]) -> Result<Vec<Deci
     Ok(fewer)
 }
 
-/// Puts the rule of a decision behind the others. An error is want of memory.
+/// Puts the rule of a decision behind the others. Fails if memory runs out.
 fn put_decision(rules: &mut Vec<Rule>, one: Decision) -> Result<(), Memory>
     ensures { OnOk result (rules.new.items ≡ rules.old.items ++ rule_of one ∷ []) }
 {
@@ -142,7 +142,7 @@ fn put_decision(rules: &mut Vec<Rule>, one: Decision) -> Result<(), Memory>
     put_rule(rules, cond, if passes { Act::Accept } else { Act::Drop })
 }
 
-/// Puts the rules of decisions behind the others. An error is want of memory.
+/// Puts the rules of decisions behind the others. Fails if memory runs out.
 fn put_decisions(rules: &mut Vec<Rule>, all: Vec<Decision>) -> Result<(), Memory>
     ensures { OnOk result (rules.new.items ≡ rules.old.items ++ map rule_of all.items) }
 {
@@ -152,7 +152,7 @@ fn put_decisions(rules: &mut Vec<Rule>, all: Vec<Decision>) -> Result<(), Memory
     Ok(())
 }
 
-/// Puts rules behind the others that decide as the rules of the tail do. An error is want of memory.
+/// Puts rules behind the others that decide as the rules of the tail do. Fails if memory runs out.
 pub(crate) fn put_tail(
     alloc: Global,
     rules: &mut Vec<Rule>,

@@ -21,8 +21,7 @@ fn writing(outward: bool, end: End) -> Act
     }
 }
 
-/// Puts the rule behind the others that makes a tag the only one, if there is a tag. An error is want of
-/// memory.
+/// Puts the rule behind the others that makes a tag the only one, if there is a tag. Fails if memory runs out.
 fn put_tagging(alloc: Global, rules: &mut Vec<Rule>, tag: Option<u32>) -> Result<(), Memory>
     ensures { OnOk result (rules.new.items ≡ rules.old.items ++ tagging tag) }
 {
@@ -32,7 +31,7 @@ fn put_tagging(alloc: Global, rules: &mut Vec<Rule>, tag: Option<u32>) -> Result
     }
 }
 
-/// Puts behind the others what a translation writes, and the tag that it puts. An error is want of memory.
+/// Puts behind the others what a translation writes, and the tag that it puts. Fails if memory runs out.
 fn put_changing(
     alloc: Global,
     rules: &mut Vec<Rule>,
@@ -66,7 +65,7 @@ pub(crate) fn translation_width(nat: &PfNat) -> usize
     if changes == 0 { 1 } else { changes + 3 }
 }
 
-/// How many rules translations are unfolded to. An error is want of memory.
+/// How many rules translations are unfolded to. Fails if memory runs out.
 pub(crate) fn translation_widths(nats: &[PfNat]) -> Result<usize, Memory>
     ensures { IfOk result (λ n. (outward : Bool) → n ≡ translation_widths outward nats.now) }
 {
@@ -77,8 +76,7 @@ pub(crate) fn translation_widths(nats: &[PfNat]) -> Result<usize, Memory>
     Ok(count)
 }
 
-/// How a pass goes on behind a translation, where the filter rules begin at a place. An error is want of
-/// memory.
+/// How a pass goes on behind a translation, where the filter rules begin at a place. Fails if memory runs out.
 fn leaving(filter: usize, nat: &PfNat) -> Result<Act, Memory>
     ensures { IfOk result (λ act. act ≡ leaving filter nat.now) }
 {
@@ -89,8 +87,8 @@ fn leaving(filter: usize, nat: &PfNat) -> Result<Act, Memory>
     }
 }
 
-/// Puts the rules to which a translation is unfolded behind the others, where the filter rules begin at a
-/// place. An error is want of memory.
+/// Puts the rules to which a translation is unfolded behind the others, where the filter rules begin at a place. Fails if memory
+/// runs out.
 fn put_translation(
     alloc: Global,
     rules: &mut Vec<Rule>,
@@ -113,8 +111,8 @@ fn put_translation(
     Ok(())
 }
 
-/// Puts the rules to which translations are unfolded behind the others, where the filter rules begin at a
-/// place. An error is want of memory.
+/// Puts the rules to which translations are unfolded behind the others, where the filter rules begin at a place. Fails if memory
+/// runs out.
 pub(crate) fn put_translations(
     alloc: Global,
     rules: &mut Vec<Rule>,

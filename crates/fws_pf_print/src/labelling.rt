@@ -18,8 +18,8 @@ fn put_rules(alloc: Global, labels: &mut Vec<Text>, c: &PfConfig) -> Result<(), 
     Ok(())
 }
 
-/// The labels of a configuration's rules, those of rdr ahead of those of nat, and these ahead of the filter's: the kind, and
-/// the place among those of its kind, counted from 1, as `filter 2`. Linear in the rules. An error is want of memory.
+/// The labels of a configuration's rules, those of rdr ahead of those of nat, and these ahead of the filter's: the kind, and the
+/// place among those of its kind, counted from 1, as `filter 2`. Linear in the rules. Fails if memory runs out.
 pub fn labels(alloc: Global, c: &PfConfig) -> Result<Vec<Text>, Memory>
     ensures { IfOk result (λ labels. labels.items ≡ labels_of c.now) }
 {

@@ -79,7 +79,7 @@ fn put_rule_section(out: &mut Text, site: &Site, rules: &[PfRule]) -> Result<(),
     Ok(())
 }
 
-/// The text of a configuration: comments, translations and filter rules. An error is want of memory.
+/// The text of a configuration: comments, translations and filter rules. Fails if memory runs out.
 fn config_text(alloc: Global, c: &PfConfig, site: &Site) -> Result<Text, Memory>
     ensures { IfOk result (λ text. text ≡ config_text site.now c.now) }
 {
@@ -90,8 +90,7 @@ fn config_text(alloc: Global, c: &PfConfig, site: &Site) -> Result<Text, Memory>
     Ok(out)
 }
 
-/// The text of a printable configuration, as pfctl(8) loads it. It is read as that configuration. An error
-/// is want of memory.
+/// The text of a printable configuration, as pfctl(8) loads it. It is read as that configuration. Fails if memory runs out.
 pub fn print(alloc: Global, c: &PfConfig, site: &Site) -> Result<Text, Memory>
     requires orderly { IsOrderly site.now }
     requires printable { is_printable site.now c.now ≡ true }

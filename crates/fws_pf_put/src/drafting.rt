@@ -44,7 +44,7 @@ pub struct Ground<'a> {
     pub states: &'a [u32],
 }
 
-/// Puts the translations of a pass. An error is want of memory.
+/// Puts the translations of a pass. Fails if memory runs out.
 fn put_pass(
     alloc: Global,
     nats: &mut Items<PfNat>,
@@ -71,8 +71,8 @@ fn put_pass(
     Ok(())
 }
 
-/// The translations of packets that go out: those of sources by the tags of states, and behind them those of the host. An
-/// error is want of memory.
+/// The translations of packets that go out: those of sources by the tags of states, and behind them those of the host. Fails if
+/// memory runs out.
 fn outward_nats(
     alloc: Global,
     ground: &Ground<'_>,
@@ -94,7 +94,7 @@ fn outward_nats(
     Ok(nats)
 }
 
-/// The translations of packets that come in. An error is want of memory.
+/// The translations of packets that come in. Fails if memory runs out.
 fn inward_nats(alloc: Global, ground: &Ground<'_>) -> Result<Items<PfNat>, Memory>
     requires { IsKnown ground.now }
     ensures { IfOk result (ArePass ground.now false) }
@@ -104,7 +104,7 @@ fn inward_nats(alloc: Global, ground: &Ground<'_>) -> Result<Items<PfNat>, Memor
     Ok(nats)
 }
 
-/// The filter rules. An error is want of memory.
+/// The filter rules. Fails if memory runs out.
 fn filter_rules(alloc: Global, ground: &Ground<'_>) -> Result<Items<PfRule>, Memory>
     requires { IsKnown ground.now }
     ensures { IfOk result (IsFilter ground.now.site.now (tops_of ground.now.site.now) ground.now.leaves.now ground.now.nodes.now ground.now.states.now) }
@@ -122,7 +122,7 @@ fn filter_rules(alloc: Global, ground: &Ground<'_>) -> Result<Items<PfRule>, Mem
     Ok(rules)
 }
 
-/// The configuration of tables that fit, for the states of the nodes. An error is want of memory.
+/// The configuration of tables that fit, for the states of the nodes. Fails if memory runs out.
 fn draft_of(alloc: Global, ground: &Ground<'_>) -> Result<PfConfig, Memory>
     requires { IsKnown ground.now }
     ensures { IfOk result (IsDrafted ground.now.site.now ground.now.tables.now) }
@@ -149,7 +149,7 @@ fn draft_of(alloc: Global, ground: &Ground<'_>) -> Result<PfConfig, Memory>
     })
 }
 
-/// The configuration of tables that fit, whose tags are the numbers of states. An error is want of memory.
+/// The configuration of tables that fit, whose tags are the numbers of states. Fails if memory runs out.
 pub(crate) fn drafted(alloc: Global, site: &Site, tables: &Tables) -> Result<PfConfig, Memory>
     requires sound { IsSound site.now }
     requires regular { AreRegular site.now tables.now }

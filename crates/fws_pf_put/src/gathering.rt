@@ -10,7 +10,7 @@ use fws_pf::{PfConfig, PfNat, PfRule};
 use indexmap::IndexSet;
 use std::alloc::Global;
 
-/// Puts the tag behind the others, unless it is among them. An error is want of memory, as is a place past 2^32 - 1.
+/// Puts the tag behind the others, unless it is among them. Fails if memory runs out, or at a place past 2^32 - 1.
 fn gather_tag(tags: &mut IndexSet<u32>, tag: u32) -> Result<(), Memory>
     ensures { OnOk result (Gathers tags.old.keys tags.new.keys (λ f known. behind_tag (f tag) known)) }
 {
@@ -21,7 +21,7 @@ fn gather_tag(tags: &mut IndexSet<u32>, tag: u32) -> Result<(), Memory>
     Ok(())
 }
 
-/// Gathers the tag that a rule puts, if it does. An error is want of memory.
+/// Gathers the tag that a rule puts, if it does. Fails if memory runs out.
 fn gather_put(tags: &mut IndexSet<u32>, tag: Option<u32>) -> Result<(), Memory>
     ensures { OnOk result (Gathers tags.old.keys tags.new.keys (λ f known. behind_put (option_map f tag) known)) }
 {
@@ -31,7 +31,7 @@ fn gather_put(tags: &mut IndexSet<u32>, tag: Option<u32>) -> Result<(), Memory>
     }
 }
 
-/// Gathers the tag of a test, if it asks for one. An error is want of memory.
+/// Gathers the tag of a test, if it asks for one. Fails if memory runs out.
 fn gather_test(tags: &mut IndexSet<u32>, test: &Test) -> Result<(), Memory>
     ensures { OnOk result (Gathers tags.old.keys tags.new.keys (λ f known. behind_test (renamed_test f test.now) known)) }
 {
@@ -41,7 +41,7 @@ fn gather_test(tags: &mut IndexSet<u32>, test: &Test) -> Result<(), Memory>
     }
 }
 
-/// Gathers the tags of a condition. An error is want of memory.
+/// Gathers the tags of a condition. Fails if memory runs out.
 fn gather_cond(tags: &mut IndexSet<u32>, cond: &[Lit]) -> Result<(), Memory>
     ensures { OnOk result (Gathers tags.old.keys tags.new.keys (λ f known. behind_cond (renamed_cond f cond.now) known)) }
 {
@@ -51,7 +51,7 @@ fn gather_cond(tags: &mut IndexSet<u32>, cond: &[Lit]) -> Result<(), Memory>
     Ok(())
 }
 
-/// Gathers the tags of a filter rule. An error is want of memory.
+/// Gathers the tags of a filter rule. Fails if memory runs out.
 fn gather_rule(tags: &mut IndexSet<u32>, rule: &PfRule) -> Result<(), Memory>
     ensures { OnOk result (Gathers tags.old.keys tags.new.keys (λ f known. behind_rule (renamed_rule f rule.now) known)) }
 {
@@ -60,7 +60,7 @@ fn gather_rule(tags: &mut IndexSet<u32>, rule: &PfRule) -> Result<(), Memory>
     Ok(())
 }
 
-/// Gathers the tags of filter rules. An error is want of memory.
+/// Gathers the tags of filter rules. Fails if memory runs out.
 fn gather_rules(tags: &mut IndexSet<u32>, rules: &[PfRule]) -> Result<(), Memory>
     ensures { OnOk result (Gathers tags.old.keys tags.new.keys (λ f known. behind_rules (map (renamed_rule f) rules.now) known)) }
 {
@@ -70,7 +70,7 @@ fn gather_rules(tags: &mut IndexSet<u32>, rules: &[PfRule]) -> Result<(), Memory
     Ok(())
 }
 
-/// Gathers the tags of a translation. An error is want of memory.
+/// Gathers the tags of a translation. Fails if memory runs out.
 fn gather_nat(tags: &mut IndexSet<u32>, nat: &PfNat) -> Result<(), Memory>
     ensures { OnOk result (Gathers tags.old.keys tags.new.keys (λ f known. behind_translation (renamed_nat f nat.now) known)) }
 {
@@ -79,7 +79,7 @@ fn gather_nat(tags: &mut IndexSet<u32>, nat: &PfNat) -> Result<(), Memory>
     Ok(())
 }
 
-/// Gathers the tags of translations. An error is want of memory.
+/// Gathers the tags of translations. Fails if memory runs out.
 fn gather_nats(tags: &mut IndexSet<u32>, nats: &[PfNat]) -> Result<(), Memory>
     ensures { OnOk result (Gathers tags.old.keys tags.new.keys (λ f known. behind_translations (map (renamed_nat f) nats.now) known)) }
 {
@@ -89,7 +89,7 @@ fn gather_nats(tags: &mut IndexSet<u32>, nats: &[PfNat]) -> Result<(), Memory>
     Ok(())
 }
 
-/// The tags of a configuration, in the order in which they are printed. An error is want of memory.
+/// The tags of a configuration, in the order in which they are printed. Fails if memory runs out.
 pub(crate) fn tags_of(alloc: Global, c: &PfConfig) -> Result<IndexSet<u32>, Memory>
     ensures { IfOk result (λ tags. HasAllTags c.now tags.keys) }
 {

@@ -23,7 +23,7 @@ fn number_of(tags: &IndexSet<u32>, tag: u32) -> Result<u32, Memory>
     }
 }
 
-/// The test with its tag's number. An error is want of memory.
+/// The test with its tag's number. Fails if memory runs out.
 fn renamed_test(alloc: Global, tags: &IndexSet<u32>, test: &Test) -> Result<Test, Memory>
     ensures { IfOk result (λ t. t ≡ renamed_test (place_in tags.now.keys) test.now) }
 {
@@ -33,7 +33,7 @@ fn renamed_test(alloc: Global, tags: &IndexSet<u32>, test: &Test) -> Result<Test
     }
 }
 
-/// The condition with its tags' numbers. An error is want of memory.
+/// The condition with its tags' numbers. Fails if memory runs out.
 fn renamed_cond(alloc: Global, tags: &IndexSet<u32>, lits: &[Lit]) -> Result<Cond, Memory>
     ensures { IfOk result (λ c. c ≡ renamed_cond (place_in tags.now.keys) lits.now) }
 {
@@ -47,7 +47,7 @@ fn renamed_cond(alloc: Global, tags: &IndexSet<u32>, lits: &[Lit]) -> Result<Con
     Ok(cond)
 }
 
-/// The number of the tag that a rule puts, if it does. An error is want of memory.
+/// The number of the tag that a rule puts, if it does. Fails if memory runs out.
 fn renamed_put(tags: &IndexSet<u32>, tag: Option<u32>) -> Result<Option<u32>, Memory>
     ensures { IfOk result (λ t. t ≡ option_map (place_in tags.now.keys) tag) }
 {
@@ -57,7 +57,7 @@ fn renamed_put(tags: &IndexSet<u32>, tag: Option<u32>) -> Result<Option<u32>, Me
     }
 }
 
-/// The filter rule with its tags' numbers. An error is want of memory.
+/// The filter rule with its tags' numbers. Fails if memory runs out.
 fn renamed_rule(alloc: Global, tags: &IndexSet<u32>, rule: &PfRule) -> Result<PfRule, Memory>
     ensures { IfOk result (λ r. r ≡ renamed_rule (place_in tags.now.keys) rule.now) }
 {
@@ -71,7 +71,7 @@ fn renamed_rule(alloc: Global, tags: &IndexSet<u32>, rule: &PfRule) -> Result<Pf
     })
 }
 
-/// The filter rules with their tags' numbers. An error is want of memory.
+/// The filter rules with their tags' numbers. Fails if memory runs out.
 pub(crate) fn renamed_rules(
     alloc: Global,
     tags: &IndexSet<u32>,
@@ -86,7 +86,7 @@ pub(crate) fn renamed_rules(
     Ok(renamed)
 }
 
-/// The translation with its tags' numbers. An error is want of memory.
+/// The translation with its tags' numbers. Fails if memory runs out.
 fn renamed_nat(alloc: Global, tags: &IndexSet<u32>, nat: &PfNat) -> Result<PfNat, Memory>
     ensures { IfOk result (λ n. n ≡ renamed_nat (place_in tags.now.keys) nat.now) }
 {
@@ -98,7 +98,7 @@ fn renamed_nat(alloc: Global, tags: &IndexSet<u32>, nat: &PfNat) -> Result<PfNat
     })
 }
 
-/// The translations with their tags' numbers. An error is want of memory.
+/// The translations with their tags' numbers. Fails if memory runs out.
 pub(crate) fn renamed_nats(
     alloc: Global,
     tags: &IndexSet<u32>,
@@ -113,7 +113,7 @@ pub(crate) fn renamed_nats(
     Ok(renamed)
 }
 
-/// The name of the tag with a number. An error is want of memory.
+/// The name of the tag with a number. Fails if memory runs out.
 fn tag_name(alloc: Global, number: u64) -> Result<Text, Memory>
     ensures { IfOk result (λ name. name ≡ tag_name number) }
 {
@@ -123,7 +123,7 @@ fn tag_name(alloc: Global, number: u64) -> Result<Text, Memory>
     Ok(name)
 }
 
-/// The names of so many tags. An error is want of memory.
+/// The names of so many tags. Fails if memory runs out.
 pub(crate) fn tag_names(alloc: Global, count: usize) -> Result<Items<Text>, Memory>
     ensures named { IfOk result (λ names. are_named 0 names ≡ true) }
     ensures size { IfOk result (λ names. length names ≡ count) }

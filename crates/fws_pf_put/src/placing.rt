@@ -16,7 +16,7 @@ use fws_place::{Breach, PlaceAnswer, check};
 use fws_tree::Tables;
 use std::alloc::Global;
 
-/// The configuration of tables that fit. An error is want of memory.
+/// The configuration of tables that fit. Fails if memory runs out.
 fn put_tables(alloc: Global, site: &Site, t: &Tables) -> Result<PfConfig, Memory>
     requires sound { IsSound site.now }
     requires regular { AreRegular site.now t.now }

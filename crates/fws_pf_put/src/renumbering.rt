@@ -14,8 +14,7 @@ fn renamed_walks_are_same()
     ensures { RenamedWalksAreSame }
 {}
 
-/// A configuration that does the same, whose tags are numbered by their first places in the text. An error is want of
-/// memory.
+/// A configuration that does the same, whose tags are numbered by their first places in the text. Fails if memory runs out.
 pub(crate) fn renumbered(alloc: Global, c: &PfConfig) -> Result<PfConfig, Memory>
     ensures { IfOk result (IsRenumbered c.now) }
 {

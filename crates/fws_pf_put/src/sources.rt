@@ -21,7 +21,7 @@ fn asked(test: Test) -> Lit
     Lit { not: false, test }
 }
 
-/// The addresses of a block. An error is want of memory.
+/// The addresses of a block. Fails if memory runs out.
 fn addresses(alloc: Global, block: Prefix) -> Result<Ivs, Memory>
     requires { IsBlock block }
     ensures { IfOk result (λ set. set ≡ addresses block) }
@@ -31,7 +31,7 @@ fn addresses(alloc: Global, block: Prefix) -> Result<Ivs, Memory>
     one(alloc, block.addr, hi as u32)
 }
 
-/// Packets with the tag get the end over their source, if one is written. An error is want of memory.
+/// Packets with the tag get the end over their source, if one is written. Fails if memory runs out.
 fn whole_rule(alloc: Global, tag: u32, to: Option<End>) -> Result<PfNat, Memory>
     ensures { IfOk result (λ nat. nat ≡ whole_rule tag to) }
 {
@@ -45,7 +45,7 @@ fn whole_rule(alloc: Global, tag: u32, to: Option<End>) -> Result<PfNat, Memory>
     })
 }
 
-/// Packets with the tag that have a source of the block get the network over it. An error is want of memory.
+/// Packets with the tag that have a source of the block get the network over it. Fails if memory runs out.
 fn block_rule(alloc: Global, tag: u32, end: End, block: Prefix) -> Result<PfNat, Memory>
     requires { IsBlock block }
     ensures { IfOk result (λ nat. nat ≡ block_rule tag end block) }
@@ -61,7 +61,7 @@ fn block_rule(alloc: Global, tag: u32, end: End, block: Prefix) -> Result<PfNat,
     })
 }
 
-/// Puts a translation for each block. An error is want of memory.
+/// Puts a translation for each block. Fails if memory runs out.
 fn put_blocks(
     alloc: Global,
     nats: &mut Items<PfNat>,
@@ -79,7 +79,7 @@ fn put_blocks(
     Ok(())
 }
 
-/// Puts the translations that write a network over the addresses of packets with the tag. An error is want of memory.
+/// Puts the translations that write a network over the addresses of packets with the tag. Fails if memory runs out.
 fn put_network(
     alloc: Global,
     nats: &mut Items<PfNat>,
@@ -98,8 +98,8 @@ fn put_network(
     Ok(())
 }
 
-/// Puts the translations that write the end over the sources of packets with the tag. Where tables fit, no source has a
-/// port. An error is want of memory.
+/// Puts the translations that write the end over the sources of packets with the tag. Where tables fit, no source has a port. Fails
+/// if memory runs out.
 fn put_end(
     alloc: Global,
     nats: &mut Items<PfNat>,
@@ -119,8 +119,8 @@ fn put_end(
     Ok(())
 }
 
-/// Puts the translations for the sources of packets with the tag, which get this source, or keep their own. An error is
-/// want of memory.
+/// Puts the translations for the sources of packets with the tag, which get this source, or keep their own. Fails if memory runs
+/// out.
 pub(crate) fn put_source(
     alloc: Global,
     nats: &mut Items<PfNat>,

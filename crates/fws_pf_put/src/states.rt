@@ -61,8 +61,7 @@ fn rewrite_at(leaves: &[Outcome], nodes: &[Node], states: &[u32], k: usize) -> O
     }
 }
 
-/// Puts the translations for the source of packets with the tag, if packets with it are accepted. An error is want of
-/// memory.
+/// Puts the translations for the source of packets with the tag, if packets with it are accepted. Fails if memory runs out.
 fn put_state(
     alloc: Global,
     nats: &mut Items<PfNat>,
@@ -78,8 +77,7 @@ fn put_state(
     }
 }
 
-/// Puts the translations for the sources of all accepting states. An error is want of memory, as is a node past
-/// 4,000,000,000.
+/// Puts the translations for the sources of all accepting states. Fails if memory runs out, as is a node past 4,000,000,000.
 pub(crate) fn put_sources(
     alloc: Global,
     nats: &mut Items<PfNat>,

@@ -22,7 +22,7 @@ fn source_of(outcome: Outcome) -> Option<End>
     }
 }
 
-/// Puts the end among the others, unless it is there. An error is want of memory.
+/// Puts the end among the others, unless it is there. Fails if memory runs out.
 fn put_end(ends: &mut IndexSet<End>, end: End) -> Result<(), Memory>
     ensures there { OnOk result (IsAmong ends.new.keys end) }
     ensures extends { Extends ends.old.keys ends.new.keys }
@@ -31,7 +31,7 @@ fn put_end(ends: &mut IndexSet<End>, end: End) -> Result<(), Memory>
     Ok(())
 }
 
-/// Puts the source of an outcome among the others, if it writes one. An error is want of memory.
+/// Puts the source of an outcome among the others, if it writes one. Fails if memory runs out.
 fn put_source(ends: &mut IndexSet<End>, outcome: Outcome) -> Result<(), Memory>
     ensures there { OnOk result (IsAmongIf ends.new.keys (source_of outcome)) }
     ensures extends { Extends ends.old.keys ends.new.keys }
@@ -45,7 +45,7 @@ fn put_source(ends: &mut IndexSet<End>, outcome: Outcome) -> Result<(), Memory>
     }
 }
 
-/// The sources that rows write, each once. An error is want of memory.
+/// The sources that rows write, each once. Fails if memory runs out.
 fn sources_in(alloc: Global, rows: &[Row<Outcome>]) -> Result<IndexSet<End>, Memory>
     ensures { IfOk result (λ ends. HaveSources ends.keys rows.now) }
 {
@@ -56,7 +56,7 @@ fn sources_in(alloc: Global, rows: &[Row<Outcome>]) -> Result<IndexSet<End>, Mem
     Ok(ends)
 }
 
-/// The set with the sources of the row. An error is want of memory.
+/// The set with the sources of the row. Fails if memory runs out.
 fn with_row(alloc: Global, set: &Ivs, row: &Row<Outcome>) -> Result<Ivs, Memory>
     ensures row { IfOk result (λ more. Covers more row.now) }
     ensures grows { IfOk result (λ more. IsWithinSet set.now more) }
@@ -66,8 +66,7 @@ fn with_row(alloc: Global, set: &Ivs, row: &Row<Outcome>) -> Result<Ivs, Memory>
     Ok(set.union(alloc, &row.sides[Field::Src as usize])?)
 }
 
-/// Puts the sources of a row to those over which its source is written, if it writes one among these. An error is want of
-/// memory.
+/// Puts the sources of a row to those over which its source is written, if it writes one among these. Fails if memory runs out.
 fn put_row(
     alloc: Global,
     sets: &mut Vec<Ivs>,
@@ -88,7 +87,7 @@ fn put_row(
     Ok(())
 }
 
-/// So many empty sets. An error is want of memory.
+/// So many empty sets. Fails if memory runs out.
 fn no_sets(alloc: Global, count: usize) -> Result<Vec<Ivs>, Memory>
     ensures { IfOk result (λ sets. length sets.items ≡ count) }
 {
@@ -99,7 +98,7 @@ fn no_sets(alloc: Global, count: usize) -> Result<Vec<Ivs>, Memory>
     Ok(sets)
 }
 
-/// The addresses over which each of the sources is written, by the rows of a table. An error is want of memory.
+/// The addresses over which each of the sources is written, by the rows of a table. Fails if memory runs out.
 fn sets_of(alloc: Global, rows: &[Row<Outcome>], ends: &IndexSet<End>) -> Result<Vec<Ivs>, Memory>
     ensures size { IfOk result (λ sets. length sets.items ≡ length ends.now.keys) }
     ensures sets { IfOk result (λ sets. AreSets ends.now.keys sets.items rows.now) }
@@ -111,7 +110,7 @@ fn sets_of(alloc: Global, rows: &[Row<Outcome>], ends: &IndexSet<End>) -> Result
     Ok(sets)
 }
 
-/// The sources that new packets get, and the addresses over which they are written. An error is want of memory.
+/// The sources that new packets get, and the addresses over which they are written. Fails if memory runs out.
 pub(crate) fn sources_of(alloc: Global, fresh: &Tree<Outcome>) -> Result<Sources, Memory>
     ensures { IfOk result (λ s. TellSources fresh.now.0 fresh.now.1 s.ends.keys s.sets.items) }
 {

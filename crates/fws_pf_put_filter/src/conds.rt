@@ -97,7 +97,7 @@ fn by_entry(alloc: Global, top: u32, set: &Ivs) -> Result<Items<Cond>, Memory>
     Ok(conds)
 }
 
-/// Conditions of which one holds where a packet hits the set. An error is want of memory.
+/// Conditions of which one holds where a packet hits the set. Fails if memory runs out.
 pub(crate) fn conditions(alloc: Global, tested: Tested, set: &Ivs) -> Result<Items<Cond>, Memory>
     requires { IsTestable tested set.now }
     ensures { IfOk result (λ conds. AreConds tested set.now conds) }

@@ -56,8 +56,8 @@ fn forget(kids: &[Kid], states: &[u32], sums: &mut Vec<usize>)
     }
 }
 
-/// The place of a kid of the state whose kids together take most tests. The sums of states are 0 before
-/// and after. An error is want of memory.
+/// The place of a kid of the state whose kids together take most tests. The sums of states are 0 before and after. Fails if memory
+/// runs out.
 pub(crate) fn default_kid(
     alloc: Global,
     tested: Tested,

@@ -64,7 +64,7 @@ fn insert(alloc: Global, cond: &Cond, lit: &Lit) -> Result<Cond, Memory>
     Ok(next)
 }
 
-/// The condition with a literal more, if there is one, at its place. An error is want of memory.
+/// The condition with a literal more, if there is one, at its place. Fails if memory runs out.
 pub fn narrowed(alloc: Global, cond: &Cond, lit: &Option<Lit>) -> Result<Cond, Memory>
     ensures { IfOk result (λ next. next ≡ with_lit lit.now cond.now) }
 {

@@ -217,7 +217,7 @@ fn put_cut(
     Ok(())
 }
 
-/// Appends the rules of a node. An error is want of memory.
+/// Appends the rules of a node. Fails if memory runs out.
 pub(crate) fn put_node(
     alloc: Global,
     rules: &mut Items<PfRule>,

@@ -77,7 +77,7 @@ fn put_pass(
     Ok(())
 }
 
-/// Appends a rule for each accepting state that passes its packets. An error is want of memory.
+/// Appends a rule for each accepting state that passes its packets. Fails if memory runs out.
 pub(crate) fn put_passes(
     alloc: Global,
     rules: &mut Items<PfRule>,

@@ -82,8 +82,8 @@ fn put_moves(alloc: Global, rules: &mut Items<PfRule>, plan: &Plan<'_>) -> Resul
     Ok(())
 }
 
-/// Appends filter rules that decide what the nodes of the tree decide, for packets that have the tag of a
-/// node's state. An error is want of memory; rules may then stand behind the others.
+/// Appends filter rules that decide what the nodes of the tree decide, for packets that have the tag of a node's state. Fails if
+/// memory runs out; rules may then stand behind the others.
 pub fn put_filter(alloc: Global, rules: &mut Items<PfRule>, plan: &Plan<'_>) -> Result<(), Memory>
     requires { IsPlanned plan.now.site.now plan.now.tree.now.0 plan.now.tree.now.1 plan.now.leaves.now plan.now.nodes.now plan.now.states.now }
     ensures { OnOk result (Appends rules.old rules.new (IsFilterOf plan.now)) }

@@ -121,9 +121,8 @@ fn source_ports(alloc: Global, set: &Ivs) -> Result<Items<Lit>, Memory>
     ranges(alloc, PacketField::Sport, set)
 }
 
-/// Literals of which one holds where the packet has the field and its value is a member: for each
-/// protocol and each ICMP type one, for each interval of addresses or ports one, and for each cube of
-/// flags one. An error is want of memory.
+/// Literals of which one holds where the packet has the field and its value is a member: for each protocol and each ICMP type one,
+/// for each interval of addresses or ports one, and for each cube of flags one. Fails if memory runs out.
 pub fn pieces(alloc: Global, field: PacketField, set: &Ivs) -> Result<Items<Lit>, Memory>
     requires { IsProper field set.now }
     ensures { IfOk result (λ lits. ArePieces field set.now lits) }

@@ -112,8 +112,8 @@ fn next_state(
     }
 }
 
-/// The states of nodes, each a node that stands no later and is its own state: that of a leaf is a leaf that drops too, or
-/// accepts with the same source; that of a cut is the cut, or the one state of all its kids. An error is want of memory.
+/// The states of nodes, each a node that stands no later and is its own state: that of a leaf is a leaf that drops too, or accepts
+/// with the same source; that of a cut is the cut, or the one state of all its kids. Fails if memory runs out.
 pub fn states_of(alloc: Global, leaves: &[Outcome], nodes: &[Node]) -> Result<Items<u32>, Memory>
     requires ordered { AreOrderedFrom 0 nodes.now }
     requires named { (k n : ℕ) → slice_get nodes.now k ≡ Some (Node.Leaf n) → n < length leaves.now }

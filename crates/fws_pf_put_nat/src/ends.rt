@@ -73,7 +73,7 @@ fn kid_ends(ends: &[Ends], kids: &[Kid]) -> Ends
     all
 }
 
-/// The ends of each node. An error is want of memory.
+/// The ends of each node. Fails if memory runs out.
 pub(crate) fn ends_of(
     alloc: Global,
     outward: bool,

@@ -96,7 +96,7 @@ fn address_paths(alloc: Global, side: Side, parts: &[Iv], path: Path) -> Result<
     Ok(paths)
 }
 
-/// The paths that ask for the members of the set besides what the path does. An error is want of memory.
+/// The paths that ask for the members of the set besides what the path does. Fails if memory runs out.
 pub(crate) fn set_paths(
     alloc: Global,
     sheet: &Sheet<'_>,

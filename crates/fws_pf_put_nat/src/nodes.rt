@@ -167,8 +167,8 @@ fn put_root(
     Ok(())
 }
 
-/// Appends the translations of a node for packets on the path. Those that get no end need none where they may fall
-/// to what stands behind. An error is want of memory.
+/// Appends the translations of a node for packets on the path. Those that get no end need none where they may fall to what stands
+/// behind. Fails if memory runs out.
 pub(crate) fn put_node(
     alloc: Global,
     rules: &mut Items<PfNat>,

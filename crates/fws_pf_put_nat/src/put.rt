@@ -83,9 +83,8 @@ fn put_all(alloc: Global, rules: &mut Items<PfNat>, sheet: &Sheet<'_>) -> Result
     Ok(())
 }
 
-/// Appends the translations of a pass: the first that matches a packet writes the end that the tree gives
-/// it, and puts the tag of the state at which the filter goes on. An error is want of memory; translations
-/// may then stand behind the others.
+/// Appends the translations of a pass: the first that matches a packet writes the end that the tree gives it, and puts the tag of
+/// the state at which the filter goes on. Fails if memory runs out; translations may then stand behind the others.
 pub fn put_translations(
     alloc: Global,
     rules: &mut Items<PfNat>,

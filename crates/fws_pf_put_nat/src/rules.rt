@@ -76,8 +76,8 @@ fn cond_for(alloc: Global, path: Path) -> Result<Cond, Memory>
     Ok(cond)
 }
 
-/// Appends the translation of packets on the path, which writes the end, if there is one, and puts the tag.
-/// An error is want of memory.
+/// Appends the translation of packets on the path, which writes the end, if there is one, and puts the tag. Fails if memory runs
+/// out.
 pub(crate) fn put_rule(
     alloc: Global,
     rules: &mut Items<PfNat>,
@@ -97,7 +97,7 @@ pub(crate) fn put_rule(
     Ok(())
 }
 
-/// Appends a translation for each path, which writes the end and puts the tag. An error is want of memory.
+/// Appends a translation for each path, which writes the end and puts the tag. Fails if memory runs out.
 pub(crate) fn put_rules(
     alloc: Global,
     rules: &mut Items<PfNat>,

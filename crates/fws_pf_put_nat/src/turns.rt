@@ -100,8 +100,8 @@ fn put_last(turns: &mut Items<Turn>, last: Last, path: Path, falls: bool) -> Res
     Ok(())
 }
 
-/// The turns of a node that cuts the field into the sets of kids, for packets on the path: those for the sets
-/// of all kids but some, and last one for all that no test takes. An error is want of memory.
+/// The turns of a node that cuts the field into the sets of kids, for packets on the path: those for the sets of all kids but some,
+/// and last one for all that no test takes. Fails if memory runs out.
 pub(crate) fn cut_turns(
     alloc: Global,
     sheet: &Sheet<'_>,

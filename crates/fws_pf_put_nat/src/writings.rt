@@ -137,7 +137,7 @@ fn host_paths(
     Ok(paths)
 }
 
-/// The paths on which an end can be written, of packets that are on the path. An error is want of memory.
+/// The paths on which an end can be written, of packets that are on the path. Fails if memory runs out.
 pub(crate) fn end_paths(
     alloc: Global,
     outward: bool,

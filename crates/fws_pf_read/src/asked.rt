@@ -130,7 +130,7 @@ impl OptionChoices {
         count_of(self.asked.as_slice())
     }
 
-    /// Puts the choices behind others. An error is want of memory.
+    /// Puts the choices behind others. Fails if memory runs out.
     pub(crate) fn put_to(&self, alloc: Global, all: &mut Drawing) -> Result<(), Memory>
         ensures { OnOk result ((rest : List AnyChoice) → drawn all.new rest ≡ drawn all.old (self.now ++ rest)) }
     {

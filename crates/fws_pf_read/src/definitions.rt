@@ -171,7 +171,7 @@ fn tables_behind(
     Tables::of(alloc, tables)
 }
 
-/// The tables that statements define, in their order, refused ones among them. An error is want of memory.
+/// The tables that statements define, in their order, refused ones among them. Fails if memory runs out.
 pub fn all_tables(alloc: Global, site: &Site, lines: &[Line]) -> Result<Tables, Memory>
     requires { IsSound site.now }
     ensures { IfOk result (λ tables. tables ≡ all_tables site.now lines.now) }

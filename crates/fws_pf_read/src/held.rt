@@ -33,7 +33,7 @@ impl Model for HeldTable {
 fn dismiss_table(_table: LongTable) {}
 
 impl HeldTable {
-    /// This table. An error is want of memory.
+    /// This table. Fails if memory runs out.
     pub fn new(alloc: Global, table: LongTable) -> Result<HeldTable, Memory>
         ensures { IfOk result (λ t. t ≡ table) }
     {
@@ -95,7 +95,7 @@ impl Model for HeldValue {
 }
 
 impl HeldValue {
-    /// This value. An error is want of memory.
+    /// This value. Fails if memory runs out.
     pub fn new(alloc: Global, value: LongValue) -> Result<HeldValue, Memory>
         ensures { IfOk result (λ v. v ≡ value) }
     {

@@ -277,7 +277,7 @@ fn fresh_draft(alloc: Global, verb: Verb, negated: bool, expects: Expects, tags:
     }
 }
 
-/// A rule before its words, in a text that has had these tags. An error is want of memory.
+/// A rule before its words, in a text that has had these tags. Fails if memory runs out.
 pub fn fresh_rule(
     alloc: Global,
     verb: Verb,
@@ -348,15 +348,14 @@ pub(crate) fn rule_ended(alloc: Global, rule: Rule) -> Result<Rule, ReadFault>
     }
 }
 
-/// The conditions of the rules for which a rule stands. An error is want of memory.
+/// The conditions of the rules for which a rule stands. Fails if memory runs out.
 pub fn rule_conditions(alloc: Global, tables: &Tables, rule: &Rule) -> Result<Items<Cond>, Memory>
     ensures { IfOk result (λ conds. conds ≡ conditions (choices tables.now rule.now)) }
 {
     draft_conditions(alloc, tables, &*rule.draft)
 }
 
-/// The checks of a whole rule, behind statements that made so many rules where they made more than one. An error is want
-/// of memory.
+/// The checks of a whole rule, behind statements that made so many rules where they made more than one. Fails if memory runs out.
 pub(crate) fn rule_checks(
     alloc: Global,
     tables: &Tables,

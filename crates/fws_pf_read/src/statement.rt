@@ -64,7 +64,7 @@ pub(crate) fn dismiss(s: Statement) {
     }
 }
 
-/// The statement of a rule before its words, which takes the tags. An error is want of memory.
+/// The statement of a rule before its words, which takes the tags. Fails if memory runs out.
 fn fresh_statement(
     alloc: Global,
     tags: &mut Tags,
@@ -79,7 +79,7 @@ fn fresh_statement(
     Ok(Statement::Rule(rule))
 }
 
-/// The rule that a word begins, which takes the tags. An error is want of memory.
+/// The rule that a word begins, which takes the tags. Fails if memory runs out.
 fn rule_begun(alloc: Global, tags: &mut Tags, action: ActionWord) -> Result<Statement, Memory>
     ensures given { IfOk result (λ s. seen s ≡ rule_begun tags.old action) }
     ensures kept { IfOk result (λ s. AreTags tags.old s tags.new) }

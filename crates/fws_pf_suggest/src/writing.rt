@@ -270,8 +270,8 @@ fn all_found(alloc: Global, tables: &Tables, site: &Site, hints: &Flat) -> Resul
     Ok(all)
 }
 
-/// Texts of pf that may do what the tables say, best first: none where the search gave up. Nothing is promised of them. An
-/// error is want of memory.
+/// Texts of pf that may do what the tables say, best first: none where the search gave up. Nothing is promised of them. Fails if
+/// memory runs out.
 pub fn suggest(
     alloc: Global,
     tables: &Tables,

@@ -71,8 +71,8 @@ fn are_all_blocks(alloc: Global, tables: &Tables, n: u8, items: &[Item]) -> Resu
     Ok(true)
 }
 
-/// Whether there are values, none of them is negated, and the addresses of each agree in their first `n` bits. An error is
-/// want of memory.
+/// Whether there are values, none of them is negated, and the addresses of each agree in their first `n` bits. Fails if memory runs
+/// out.
 pub fn maps_blocks(alloc: Global, tables: &Tables, n: u8, items: &ItemList) -> Result<bool, Memory>
     ensures { IfOk result (λ b. b ≡ maps_blocks tables.now n items.now) }
 {

@@ -64,7 +64,7 @@ fn item_cond(alloc: Global, tables: &Tables, place: Place, item: &Item) -> Resul
     Ok(cond)
 }
 
-/// A condition for each value at a place. An error is want of memory.
+/// A condition for each value at a place. Fails if memory runs out.
 pub fn choice_of(
     alloc: Global,
     tables: &Tables,
@@ -80,7 +80,7 @@ pub fn choice_of(
     Ok(Choice { conds })
 }
 
-/// A choice among this condition alone. An error is want of memory.
+/// A choice among this condition alone. Fails if memory runs out.
 pub(crate) fn only(alloc: Global, cond: Cond) -> Result<Choice, Memory>
     ensures { IfOk result (λ c. c ≡ only cond) }
 {
@@ -90,7 +90,7 @@ pub(crate) fn only(alloc: Global, cond: Cond) -> Result<Choice, Memory>
 }
 
 /// The condition that of SYN and ACK a packet of TCP has SYN alone: not neither, not ACK alone and not both. Packets of other
-/// protocols pass. An error is want of memory.
+/// protocols pass. Fails if memory runs out.
 pub fn implied_flags(alloc: Global) -> Result<Cond, Memory>
     ensures { IfOk result (λ c. c ≡ implied_flags) }
 {

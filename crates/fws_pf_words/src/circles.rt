@@ -206,7 +206,7 @@ fn gather_at(
     Ok(left.saturating_sub(seen))
 }
 
-/// At the places of tables that name one another in a circle, their addresses. An error is want of memory.
+/// At the places of tables that name one another in a circle, their addresses. Fails if memory runs out.
 pub(crate) fn circle_sets(alloc: Global, tables: &TableList) -> Result<Vec<Option<Ivs>>, Memory>
     ensures { IfOk result (λ sets. AreSetsOf tables.now sets.items) }
 {

@@ -403,7 +403,7 @@ pub fn value_defined(
     }
 }
 
-/// Notes the macro that these words define; a refused definition changes none. An error is want of memory.
+/// Notes the macro that these words define; a refused definition changes none. Fails if memory runs out.
 pub fn define(alloc: Global, macros: &mut Macros, words: &[Word]) -> Result<(), Memory>
     ensures { OnOk result (macros.new ≡ with_value (name_defined words.now) (value_defined macros.old (value_behind words.now)) macros.old) }
 {

@@ -193,7 +193,7 @@ fn into_name(d: Defining) -> Option<Text>
     }
 }
 
-/// The name of the table that words define: `table`, `<`, a name and `>`, whatever stands behind. An error is want of memory.
+/// The name of the table that words define: `table`, `<`, a name and `>`, whatever stands behind. Fails if memory runs out.
 pub fn table_defined(alloc: Global, macros: &Macros, words: &[Word]) -> Result<Option<Text>, Memory>
     ensures { IfOk result (λ name. name ≡ table_defined (readable macros.now words.now)) }
 {

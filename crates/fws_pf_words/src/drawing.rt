@@ -33,7 +33,7 @@ impl Drawing {
         }
     }
 
-    /// Puts a choice behind the others. An error is want of memory.
+    /// Puts a choice behind the others. Fails if memory runs out.
     pub fn put(&mut self, choice: Choice) -> Result<(), Memory>
         ensures { OnOk result ((rest : List AnyChoice) → drawn self.new rest ≡ drawn self.old (choice ∷ rest)) }
     {
@@ -41,7 +41,7 @@ impl Drawing {
         Ok(())
     }
 
-    /// Puts a condition behind the others. An error is want of memory.
+    /// Puts a condition behind the others. Fails if memory runs out.
     pub fn put_cond(&mut self, alloc: Global, cond: &Cond) -> Result<(), Memory>
         ensures { OnOk result ((rest : List AnyChoice) → drawn self.new rest ≡ drawn self.old (only cond.now ∷ rest)) }
     {
@@ -69,7 +69,7 @@ impl Drawing {
         self.put(choice_of(alloc, tables, place, slice::from_ref(item))?)
     }
 
-    /// Puts the values of a place behind the others, unless it has none. An error is want of memory.
+    /// Puts the values of a place behind the others, unless it has none. Fails if memory runs out.
     pub fn put_values(
         &mut self,
         alloc: Global,
@@ -86,7 +86,7 @@ impl Drawing {
         }
     }
 
-    /// A condition for each choice, the first choice varying slowest. An error is want of memory.
+    /// A condition for each choice, the first choice varying slowest. Fails if memory runs out.
     pub fn into_conditions(self, alloc: Global) -> Result<Items<Cond>, Memory>
         ensures { IfOk result (λ cs. cs ≡ drawn self []) }
     {

@@ -45,7 +45,7 @@ impl Tables {
         }
     }
 
-    /// These tables. The addresses of those that name one another in a circle are gathered. An error is want of memory.
+    /// These tables. The addresses of those that name one another in a circle are gathered. Fails if memory runs out.
     pub fn of(alloc: Global, list: TableList) -> Result<Tables, Memory>
         ensures { IfOk result (λ t. t ≡ list) }
     {

@@ -51,7 +51,7 @@ pub fn expanded_by(expanded: u64, count: u64) -> Option<u64>
     }
 }
 
-/// The rules of statements that make more than one, with those of this one. Where they pass 2^64 it is want of memory.
+/// The rules of statements that make more than one, with those of this one. Where they pass 2^64 it fails as if memory ran out.
 pub fn expanded_with(expanded: u64, count: usize) -> Result<u64, Memory>
     ensures { IfOk result (λ n. n ≡ expanded_with expanded count) }
 {

@@ -242,7 +242,7 @@ impl ItemList {
         self.kept.as_slice()
     }
 
-    /// The items one after another. An error is want of memory.
+    /// The items one after another. Fails if memory runs out.
     pub fn to_items(&self, alloc: Global) -> Result<Items<Item>, Memory>
         ensures { IfOk result (λ items. items ≡ self.now) }
     {

@@ -207,7 +207,7 @@ impl LongValue {
         self.items
     }
 
-    /// The value where the statement ends; none where a word lacks. An error is want of memory.
+    /// The value where the statement ends; none where a word lacks. Fails if memory runs out.
     pub fn ended(self, alloc: Global) -> Result<Option<LongValue>, Memory>
         ensures { IfOk result (λ o. o ≡ ended_value self.expects self) }
     {

@@ -96,7 +96,7 @@ impl Macros {
         }
     }
 
-    /// From now on the name stands for these words. An error is want of memory.
+    /// From now on the name stands for these words. Fails if memory runs out.
     pub fn put(&mut self, name: Text, words: Items<Word>) -> Result<(), Memory>
         ensures { OnOk result (self.new ≡ with_macro name words self.old) }
     {
@@ -347,8 +347,8 @@ fn with_words<'a>(
     }
 }
 
-/// The text of a use of a macro that has words: the name of the macro, and what stands behind it. None where the word is no such use.
-/// An error is want of memory.
+/// The text of a use of a macro that has words: the name of the macro, and what stands behind it. None where the word is no such
+/// use. Fails if memory runs out.
 pub fn used_text<'a>(
     alloc: Global,
     macros: &Macros,
@@ -379,7 +379,7 @@ pub fn front_words(words: &[Word]) -> &[Word]
     }
 }
 
-/// The last of the words with a text joined to it. An error is want of memory.
+/// The last of the words with a text joined to it. Fails if memory runs out.
 pub fn last_joined(alloc: Global, words: &[Word], text: &[u8]) -> Result<Items<Word>, Memory>
     ensures { IfOk result (λ ws. ws ≡ last_joined words.now text.now) }
 {

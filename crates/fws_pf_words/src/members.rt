@@ -168,7 +168,7 @@ fn names_none(items: &ItemList) -> bool
 }
 
 /// The table of this name with these members, one after another. Of n ranges the time is that of n log n steps; a stretch of the
-/// list that comes again takes none. An error is want of memory.
+/// list that comes again takes none. Fails if memory runs out.
 pub fn with_members(alloc: Global, name: Text, items: ItemList) -> Result<KnownTable, Memory>
     ensures { IfOk result (λ t. t ≡ with_members items (empty_table name)) }
 {

@@ -91,7 +91,7 @@ impl TableList {
         }
     }
 
-    /// Puts a table behind the others. An error is want of memory, after which the tables are as before.
+    /// Puts a table behind the others. Fails if memory runs out, and then the tables are as before.
     pub fn put(&mut self, alloc: Global, table: KnownTable) -> Result<(), Memory>
         ensures { OnOk result (self.new ≡ self.old ++ table ∷ []) }
     {
@@ -149,7 +149,7 @@ impl Names {
         self.index.contains(name)
     }
 
-    /// Puts a name behind the others. An error is want of memory, after which the names are as before.
+    /// Puts a name behind the others. Fails if memory runs out, and then the names are as before.
     pub fn put(&mut self, alloc: Global, name: Text) -> Result<(), Memory>
         ensures { OnOk result (self.new ≡ self.old ++ name ∷ []) }
     {

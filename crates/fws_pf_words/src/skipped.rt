@@ -72,8 +72,8 @@ fn with_each(alloc: Global, last: u32, skip: &Ivs, items: &[Item]) -> Result<Ivs
     Ok(set)
 }
 
-/// The interfaces that are skipped, with those of a further statement, at a site whose last entry has this number. A stretch of
-/// the list that comes again adds nothing. An error is want of memory.
+/// The interfaces that are skipped, with those of a further statement, at a site whose last entry has this number. A stretch of the
+/// list that comes again adds nothing. Fails if memory runs out.
 pub fn with_skipped(alloc: Global, last: u32, skip: &Ivs, items: &ItemList) -> Result<Ivs, Memory>
     ensures { IfOk result (λ s. s ≡ with_skipped last skip.now items.now) }
 {

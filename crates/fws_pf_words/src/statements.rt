@@ -288,7 +288,7 @@ impl WordReader {
     }
 }
 
-/// The words and the punctuation of a text that stands in the statement of this line. An error is want of memory.
+/// The words and the punctuation of a text that stands in the statement of this line. Fails if memory runs out.
 pub(crate) fn words_of(alloc: Global, line: u32, bytes: &[u8]) -> Result<Vec<Word>, Memory>
     ensures { IfOk result (λ ws. ws.items ≡ words_of line bytes.now) }
 {
@@ -437,9 +437,9 @@ impl StatementReader {
     }
 }
 
-/// The statements of a text that have words outside comments, with the numbers of their first lines, and the number past
-/// the last line. A backslash at the end of a line joins it with the next one. An error is want of memory, as is a text of
-/// more than 2^32 - 2 lines. The time is linear in the text.
+/// The statements of a text that have words outside comments, with the numbers of their first lines, and the number past the last
+/// line. A backslash at the end of a line joins it with the next one. Fails if memory runs out, as is a text of more than 2^32 - 2
+/// lines. The time is linear in the text.
 pub fn read_statements(alloc: Global, text: &[u8]) -> Result<Lines, Memory>
     ensures { IfOk result (λ ls. ls ≡ statements_of text.now) }
 {

@@ -140,7 +140,7 @@ fn found_set(alloc: Global, tables: &TableList, name: &Text) -> Result<Ivs, Memo
     }
 }
 
-/// The addresses of the table with this name, which all uses share where they were gathered ahead. An error is want of memory.
+/// The addresses of the table with this name, which all uses share where they were gathered ahead. Fails if memory runs out.
 fn table_set(alloc: Global, tables: &Tables, name: &Text) -> Result<Ivs, Memory>
     ensures { IfOk result (λ set. set ≡ table_set tables.now name.now) }
 {
@@ -150,7 +150,7 @@ fn table_set(alloc: Global, tables: &Tables, name: &Text) -> Result<Ivs, Memory>
     }
 }
 
-/// The numbers of a value; none where every one is among them. An error is want of memory.
+/// The numbers of a value; none where every one is among them. Fails if memory runs out.
 pub fn part_set(alloc: Global, tables: &Tables, part: &Part) -> Result<Option<Ivs>, Memory>
     ensures { IfOk result (λ set. set ≡ part_set tables.now part.now) }
 {

@@ -51,8 +51,8 @@ impl Tags {
         mem::replace(self, Tags::new(alloc))
     }
 
-    /// The place of the name, counted from 0, which is put behind the others unless it is among them. An error is want of
-    /// memory, as is a place past 2^32 - 1.
+    /// The place of the name, counted from 0, which is put behind the others unless it is among them. Fails if memory runs out, or
+    /// at a place past 2^32 - 1.
     pub fn place(&mut self, alloc: Global, name: &[u8]) -> Result<u32, Memory>
         ensures place { IfOk result (λ n. n ≡ place_of self.old name.now) }
         ensures names { OnOk result (self.new ≡ with_name self.old name.now) }
@@ -61,7 +61,7 @@ impl Tags {
         number_of(place)
     }
 
-    /// The names. An error is want of memory.
+    /// The names. Fails if memory runs out.
     pub fn into_items(self, alloc: Global) -> Result<Items<Text>, Memory>
         ensures { IfOk result (λ names. names ≡ self) }
     {

@@ -521,7 +521,7 @@ fn alone(alloc: Global, n: u32, d: ValueDraft) -> Result<Option<ValueDraft>, Mem
     Ok(Some(ended))
 }
 
-/// The value where the statement ends; none where a word lacks. An error is want of memory.
+/// The value where the statement ends; none where a word lacks. Fails if memory runs out.
 pub fn ended_value(alloc: Global, d: ValueDraft) -> Result<Option<ValueDraft>, Memory>
     ensures { IfOk result (λ o. o ≡ ended_value d.expects d) }
 {

@@ -15,8 +15,8 @@ use fws_num::Memory;
 use fws_pfo::{PfoKind, PfoRule};
 use std::alloc::Global;
 
-/// Puts the act behind the others that writes the end, if there is one: over the source as packets go out, and over the
-/// destination as they come in. An error is want of memory.
+/// Puts the act behind the others that writes the end, if there is one: over the source as packets go out, and over the destination
+/// as they come in. Fails if memory runs out.
 fn put_writing(acts: &mut Vec<Act>, outward: bool, to: Option<End>) -> Result<(), Memory>
     ensures { OnOk result (acts.new.items ≡ acts.old.items ++ writing outward to) }
 {
@@ -33,7 +33,7 @@ fn put_writing(acts: &mut Vec<Act>, outward: bool, to: Option<End>) -> Result<()
     }
 }
 
-/// Puts the act behind the others that makes the tag the only one, if there is one. An error is want of memory.
+/// Puts the act behind the others that makes the tag the only one, if there is one. Fails if memory runs out.
 fn put_only_tag(acts: &mut Vec<Act>, tag: Option<u32>) -> Result<(), Memory>
     ensures { OnOk result (acts.new.items ≡ acts.old.items ++ only_tag tag) }
 {
@@ -46,7 +46,7 @@ fn put_only_tag(acts: &mut Vec<Act>, tag: Option<u32>) -> Result<(), Memory>
     }
 }
 
-/// Puts the act behind the others that takes the tag away, unless it is this one. An error is want of memory.
+/// Puts the act behind the others that takes the tag away, unless it is this one. Fails if memory runs out.
 fn put_without_other(acts: &mut Vec<Act>, n: u32, tag: u32) -> Result<(), Memory>
     ensures { OnOk result (acts.new.items ≡ acts.old.items ++ without_other n tag) }
 {
@@ -57,7 +57,7 @@ fn put_without_other(acts: &mut Vec<Act>, n: u32, tag: u32) -> Result<(), Memory
     Ok(())
 }
 
-/// Puts acts behind the others that take all of so many tags away but this one. An error is want of memory.
+/// Puts acts behind the others that take all of so many tags away but this one. Fails if memory runs out.
 fn put_without_others(acts: &mut Vec<Act>, n: u32, tags: u32) -> Result<(), Memory>
     ensures { OnOk result (acts.new.items ≡ acts.old.items ++ without_others n 0 tags) }
 {
@@ -67,8 +67,8 @@ fn put_without_others(acts: &mut Vec<Act>, n: u32, tags: u32) -> Result<(), Memo
     Ok(())
 }
 
-/// Puts acts behind the others that put the tag, if there is one: as the only one where no end can be held, else as the only one
-/// of the names. An error is want of memory.
+/// Puts acts behind the others that put the tag, if there is one: as the only one where no end can be held, else as the only one of
+/// the names. Fails if memory runs out.
 fn put_tagging(
     acts: &mut Vec<Act>,
     frame: &Frame,
@@ -91,7 +91,7 @@ fn put_tagging(
     }
 }
 
-/// Puts acts behind the others that hold the end, or none. An error is want of memory.
+/// Puts acts behind the others that hold the end, or none. Fails if memory runs out.
 fn put_holding(
     alloc: Global,
     acts: &mut Vec<Act>,
@@ -105,7 +105,7 @@ fn put_holding(
     put_telling(acts, frame.tags, bits.as_slice())
 }
 
-/// Puts acts behind the others that hold the verdict so far, put the tag, and hold the end or none. An error is want of memory.
+/// Puts acts behind the others that hold the verdict so far, put the tag, and hold the end or none. Fails if memory runs out.
 fn put_verdict(
     alloc: Global,
     acts: &mut Vec<Act>,
@@ -121,8 +121,8 @@ fn put_verdict(
     put_holding(alloc, acts, frame, to)
 }
 
-/// Puts the acts of a rule that isn't quick behind the others, where a rule ahead of it may have held an end. An error is want of
-/// memory.
+/// Puts the acts of a rule that isn't quick behind the others, where a rule ahead of it may have held an end. Fails if memory runs
+/// out.
 fn put_changes(
     alloc: Global,
     acts: &mut Vec<Act>,
@@ -142,7 +142,7 @@ fn put_changes(
     }
 }
 
-/// Puts the acts behind the others with which packets pass with an end or none, or are dropped. An error is want of memory.
+/// Puts the acts behind the others with which packets pass with an end or none, or are dropped. Fails if memory runs out.
 pub(crate) fn put_decision(
     acts: &mut Vec<Act>,
     outward: bool,
@@ -160,7 +160,7 @@ pub(crate) fn put_decision(
     Ok(())
 }
 
-/// Puts the acts of a rule that is quick behind the others. An error is want of memory.
+/// Puts the acts of a rule that is quick behind the others. Fails if memory runs out.
 fn put_ending(acts: &mut Vec<Act>, frame: &Frame, rule: &PfoRule) -> Result<(), Memory>
     ensures { OnOk result (acts.new.items ≡ acts.old.items ++ ending frame.now rule.now.tag rule.now.to rule.now.kind) }
 {
@@ -179,7 +179,7 @@ fn put_ending(acts: &mut Vec<Act>, frame: &Frame, rule: &PfoRule) -> Result<(), 
     }
 }
 
-/// The acts of a rule, where a rule ahead of it may have held an end. An error is want of memory.
+/// The acts of a rule, where a rule ahead of it may have held an end. Fails if memory runs out.
 pub(crate) fn acts_of(
     alloc: Global,
     frame: &Frame,
@@ -197,7 +197,7 @@ pub(crate) fn acts_of(
     Ok(acts)
 }
 
-/// Puts rules behind the others that act everywhere, one for each act. An error is want of memory.
+/// Puts rules behind the others that act everywhere, one for each act. Fails if memory runs out.
 pub(crate) fn put_acts(alloc: Global, rules: &mut Vec<Rule>, acts: &[Act]) -> Result<(), Memory>
     ensures { OnOk result (rules.new.items ≡ rules.old.items ++ map always acts.now) }
 {
@@ -214,7 +214,7 @@ fn is_hold(act: Act) -> bool
     matches!(act, Act::Hold(_))
 }
 
-/// Puts rules behind the others that do the two acts where the condition holds. An error is want of memory.
+/// Puts rules behind the others that do the two acts where the condition holds. Fails if memory runs out.
 fn put_both(
     alloc: Global,
     rules: &mut Vec<Rule>,
@@ -233,7 +233,7 @@ fn put_both(
     put_always(alloc, rules, next)
 }
 
-/// Puts rules behind the others that do the acts where the condition holds. An error is want of memory.
+/// Puts rules behind the others that do the acts where the condition holds. Fails if memory runs out.
 pub(crate) fn put_acting(
     alloc: Global,
     rules: &mut Vec<Rule>,

@@ -26,7 +26,7 @@ use fws_pfo::PfoConfig;
 use fws_rules::positive;
 use std::alloc::Global;
 
-/// Puts a rule behind the others that acts where the literal holds. An error is want of memory.
+/// Puts a rule behind the others that acts where the literal holds. Fails if memory runs out.
 fn put_where(alloc: Global, rules: &mut Vec<Rule>, lit: Lit, act: Act) -> Result<(), Memory>
     ensures { OnOk result (rules.new.items ≡ rules.old.items ++ ruled (lit ∷ []) act ∷ []) }
 {
@@ -35,7 +35,7 @@ fn put_where(alloc: Global, rules: &mut Vec<Rule>, lit: Lit, act: Act) -> Result
     Ok(())
 }
 
-/// Puts the rules behind the others at which packets of connections pass. An error is want of memory.
+/// Puts the rules behind the others at which packets of connections pass. Fails if memory runs out.
 fn put_tracking(alloc: Global, rules: &mut Vec<Rule>, outward: bool) -> Result<(), Memory>
     ensures { OnOk result (rules.new.items ≡ rules.old.items ++ tracking outward) }
 {
@@ -48,8 +48,7 @@ fn put_tracking(alloc: Global, rules: &mut Vec<Rule>, outward: bool) -> Result<(
     Ok(())
 }
 
-/// Puts the rule behind the others at which packets pass on the interfaces that are skipped. An error is
-/// want of memory.
+/// Puts the rule behind the others at which packets pass on the interfaces that are skipped. Fails if memory runs out.
 fn put_skipping(alloc: Global, rules: &mut Vec<Rule>, c: &PfoConfig) -> Result<(), Memory>
     ensures { OnOk result (rules.new.items ≡ rules.old.items ++ skipping c.now) }
 {
@@ -65,7 +64,7 @@ fn larger(a: usize, b: usize) -> usize
     if a < b { b } else { a }
 }
 
-/// How many tags tell bits on either pass. An error is want of memory.
+/// How many tags tell bits on either pass. Fails if memory runs out.
 fn most_bits(alloc: Global, c: &PfoConfig) -> Result<usize, Memory>
     ensures { IfOk result (λ n. n ≡ larger (frame_of false c.now).bits (frame_of true c.now).bits) }
 {
@@ -74,7 +73,7 @@ fn most_bits(alloc: Global, c: &PfoConfig) -> Result<usize, Memory>
     Ok(larger(inward, outward))
 }
 
-/// Puts the rules behind the others at which a pass begins with no end held. An error is want of memory.
+/// Puts the rules behind the others at which a pass begins with no end held. Fails if memory runs out.
 fn put_clearing(
     alloc: Global,
     rules: &mut Vec<Rule>,
@@ -94,7 +93,7 @@ fn put_clearing(
     Ok(())
 }
 
-/// The rules of a pass ahead of those of the configuration. An error is want of memory.
+/// The rules of a pass ahead of those of the configuration. Fails if memory runs out.
 fn front_rules(alloc: Global, outward: bool, c: &PfoConfig) -> Result<Vec<Rule>, Memory>
     ensures { IfOk result (λ rules. rules.items ≡ front_rules outward c.now) }
 {
@@ -105,7 +104,7 @@ fn front_rules(alloc: Global, outward: bool, c: &PfoConfig) -> Result<Vec<Rule>,
     Ok(rules)
 }
 
-/// All rules of a pass. An error is want of memory.
+/// All rules of a pass. Fails if memory runs out.
 fn pass_rules(alloc: Global, outward: bool, c: &PfoConfig) -> Result<Vec<Rule>, Memory>
     ensures { IfOk result (λ rules. IsPass outward c.now rules.items) }
 {
@@ -115,7 +114,7 @@ fn pass_rules(alloc: Global, outward: bool, c: &PfoConfig) -> Result<Vec<Rule>, 
     Ok(rules)
 }
 
-/// The chain of these rules. An error is want of memory.
+/// The chain of these rules. Fails if memory runs out.
 fn chain(alloc: Global, name: &[u8], rules: Vec<Rule>) -> Result<Chain, Memory>
     ensures { IfOk result (λ chain. chain ≡ record { name = name.now; rules = rules.items }) }
 {
@@ -125,7 +124,7 @@ fn chain(alloc: Global, name: &[u8], rules: Vec<Rule>) -> Result<Chain, Memory>
     })
 }
 
-/// Puts the chain of these rules behind the others. An error is want of memory.
+/// Puts the chain of these rules behind the others. Fails if memory runs out.
 fn put_chain(
     alloc: Global,
     chains: &mut Items<Chain>,
@@ -139,7 +138,7 @@ fn put_chain(
     Ok(())
 }
 
-/// Puts the chains of the two passes behind the others. An error is want of memory.
+/// Puts the chains of the two passes behind the others. Fails if memory runs out.
 fn put_chains(alloc: Global, chains: &mut Items<Chain>, c: &PfoConfig) -> Result<(), Memory>
     ensures { OnOk result (ArePasses c.now chains.old chains.new) }
 {
@@ -148,7 +147,7 @@ fn put_chains(alloc: Global, chains: &mut Items<Chain>, c: &PfoConfig) -> Result
     Ok(())
 }
 
-/// The chains of the two passes. An error is want of memory.
+/// The chains of the two passes. Fails if memory runs out.
 fn chains_of(alloc: Global, c: &PfoConfig) -> Result<Items<Chain>, Memory>
     ensures { IfOk result (ArePasses c.now []) }
 {
@@ -170,7 +169,7 @@ fn pass_stage(outward: bool) -> Stage
     }
 }
 
-/// The diagram, put together from its chains and stages. An error is want of memory.
+/// The diagram, put together from its chains and stages. Fails if memory runs out.
 fn drawn(alloc: Global, c: &PfoConfig) -> Result<Ifcl, Memory>
     ensures { IfOk result (IsDrawn c.now) }
 {
@@ -189,13 +188,12 @@ fn drawn(alloc: Global, c: &PfoConfig) -> Result<Ifcl, Memory>
     })
 }
 
-/// The control diagram of a fitting configuration. On its site it does with each packet what the configuration
-/// does, new or of a connection, and it can be unfolded. One chain has the rules of packets that come in, and one those
-/// of packets that go out. Ahead of the last rule that puts a tag or writes at once they stand in their order; there the
-/// verdict so far is held, and tags of the packet tell the number of the end that is held. Behind that the rule that
-/// decides stands first; there, neighbours that do the same and differ in one set are one rule. At the end stand the
-/// ends that may be held. An error is want of memory, or of numbers for rules and tags. Near-linear in the rules, and linear
-/// in the different ends for each rule that holds one.
+/// The control diagram of a fitting configuration. On its site it does with each packet what the configuration does, new or of a
+/// connection, and it can be unfolded. One chain has the rules of packets that come in, and one those of packets that go out. Ahead
+/// of the last rule that puts a tag or writes at once they stand in their order; there the verdict so far is held, and tags of the
+/// packet tell the number of the end that is held. Behind that the rule that decides stands first; there, neighbours that do the
+/// same and differ in one set are one rule. At the end stand the ends that may be held. Fails if memory or numbers for rules and
+/// tags run out. Near-linear in the rules, and linear in the different ends for each rule that holds one.
 pub fn to_ifcl(alloc: Global, c: &PfoConfig, site: &Site) -> Result<Ifcl, Memory>
     requires { is_fitting site.now c.now ≡ true }
     ensures diagram { IfOk result (IsDrawn c.now) }

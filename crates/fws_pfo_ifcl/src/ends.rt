@@ -57,7 +57,7 @@ fn is_among(ends: &[End], end: End) -> bool
     ends.iter().any(|each| is_same_end(end, *each))
 }
 
-/// Puts the end behind the others, if there is one that isn't among them. An error is want of memory.
+/// Puts the end behind the others, if there is one that isn't among them. Fails if memory runs out.
 fn put_end(ends: &mut Items<End>, end: Option<End>) -> Result<(), Memory>
     ensures { OnOk result (ends.new ≡ with_end ends.old end) }
 {
@@ -72,7 +72,7 @@ fn put_end(ends: &mut Items<End>, end: Option<End>) -> Result<(), Memory>
     }
 }
 
-/// The ends that rules hold on the pass, each once. An error is want of memory.
+/// The ends that rules hold on the pass, each once. Fails if memory runs out.
 pub(crate) fn gathered(
     alloc: Global,
     outward: bool,
@@ -99,7 +99,7 @@ fn place_of(ends: &[End], end: End) -> usize
     ends.len()
 }
 
-/// The number of an end, counted from 1, or of none, which is 0. An error is want of memory.
+/// The number of an end, counted from 1, or of none, which is 0. Fails if memory runs out.
 pub(crate) fn number_of(ends: &[End], end: Option<End>) -> Result<usize, Memory>
     ensures { IfOk result (λ n. n ≡ number_of ends.now end) }
 {

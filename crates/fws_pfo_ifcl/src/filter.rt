@@ -15,8 +15,8 @@ use fws_num::Memory;
 use fws_pfo::PfoRule;
 use std::alloc::Global;
 
-/// Puts the rules of a rule behind the others if it is met on the pass, where a rule ahead of it may have held an end. An error is
-/// want of memory.
+/// Puts the rules of a rule behind the others if it is met on the pass, where a rule ahead of it may have held an end. Fails if
+/// memory runs out.
 fn put_met(
     alloc: Global,
     rules: &mut Vec<Rule>,
@@ -35,7 +35,7 @@ fn put_met(
     Ok(())
 }
 
-/// Puts the rules to which rules are unfolded behind the others, in their order. An error is want of memory.
+/// Puts the rules to which rules are unfolded behind the others, in their order. Fails if memory runs out.
 fn put_met_rules(
     alloc: Global,
     rules: &mut Vec<Rule>,
@@ -52,7 +52,7 @@ fn put_met_rules(
     Ok(())
 }
 
-/// Puts the rules behind the others at which the end with the number is written where it is held. An error is want of memory.
+/// Puts the rules behind the others at which the end with the number is written where it is held. Fails if memory runs out.
 fn put_held_rule(
     alloc: Global,
     rules: &mut Vec<Rule>,
@@ -70,7 +70,7 @@ fn put_held_rule(
     Ok(())
 }
 
-/// Puts the rules behind the others at which the end that is held is written. An error is want of memory.
+/// Puts the rules behind the others at which the end that is held is written. Fails if memory runs out.
 fn put_held_rules(alloc: Global, rules: &mut Vec<Rule>, frame: &Frame) -> Result<(), Memory>
     ensures { OnOk result (rules.new.items ≡ rules.old.items ++ held_rules frame.now (length rules.old.items) 1 frame.now.ends) }
 {
@@ -83,7 +83,7 @@ fn put_held_rules(alloc: Global, rules: &mut Vec<Rule>, frame: &Frame) -> Result
 }
 
 /// Puts the rules to which the rules of a pass are unfolded behind the others: ahead of the tail in their order, then as they
-/// decide first, and last those of ends that are held. An error is want of memory.
+/// decide first, and last those of ends that are held. Fails if memory runs out.
 pub(crate) fn put_filter_rules(
     alloc: Global,
     rules: &mut Vec<Rule>,

@@ -25,7 +25,7 @@ pub(crate) struct Frame {
     pub ends: Items<End>,
 }
 
-/// The frame of a pass on which these ends can be held. An error is want of memory.
+/// The frame of a pass on which these ends can be held. Fails if memory runs out.
 fn frame_by(outward: bool, tags: usize, ends: Items<End>) -> Result<Frame, Memory>
     ensures { IfOk result (λ f. f ≡ frame_by outward tags ends) }
 {
@@ -37,7 +37,7 @@ fn frame_by(outward: bool, tags: usize, ends: Items<End>) -> Result<Frame, Memor
     })
 }
 
-/// The frame of a pass. An error is want of memory.
+/// The frame of a pass. Fails if memory runs out.
 pub(crate) fn frame_of(alloc: Global, outward: bool, c: &PfoConfig) -> Result<Frame, Memory>
     ensures { IfOk result (λ f. f ≡ frame_of outward c.now) }
 {

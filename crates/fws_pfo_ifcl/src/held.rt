@@ -9,7 +9,7 @@ use fws_net::{Cond, Lit, Test};
 use fws_num::Memory;
 use std::alloc::Global;
 
-/// How many bits a number has. An error is want of memory.
+/// How many bits a number has. Fails if memory runs out.
 pub(crate) fn bit_count(n: usize) -> Result<usize, Memory>
     ensures { IfOk result (λ count. count ≡ bit_count n) }
 {
@@ -22,7 +22,7 @@ pub(crate) fn bit_count(n: usize) -> Result<usize, Memory>
     Ok(count)
 }
 
-/// The lowest bits of a number, so many, the lowest one first. An error is want of memory.
+/// The lowest bits of a number, so many, the lowest one first. Fails if memory runs out.
 pub(crate) fn bits_of(alloc: Global, count: usize, n: usize) -> Result<Vec<bool>, Memory>
     ensures { IfOk result (λ bits. bits.items ≡ bits_of count n) }
 {
@@ -35,14 +35,14 @@ pub(crate) fn bits_of(alloc: Global, count: usize, n: usize) -> Result<Vec<bool>
     Ok(bits)
 }
 
-/// The tag behind another one. An error is want of memory.
+/// The tag behind another one. Fails if memory runs out.
 fn next_tag(tag: u32) -> Result<u32, Memory>
     ensures { IfOk result (λ next. next ≡ suc tag) }
 {
     tag.checked_add(1).ok_or(Memory)
 }
 
-/// Puts acts behind the others that make tags, of which the first is given, tell bits. An error is want of memory.
+/// Puts acts behind the others that make tags, of which the first is given, tell bits. Fails if memory runs out.
 pub(crate) fn put_telling(acts: &mut Vec<Act>, first: u32, bits: &[bool]) -> Result<(), Memory>
     ensures { OnOk result (acts.new.items ≡ acts.old.items ++ telling first bits.now) }
 {
@@ -58,7 +58,7 @@ pub(crate) fn put_telling(acts: &mut Vec<Act>, first: u32, bits: &[bool]) -> Res
     Ok(())
 }
 
-/// The condition that tags, of which the first is given, tell just these bits. An error is want of memory.
+/// The condition that tags, of which the first is given, tell just these bits. Fails if memory runs out.
 pub(crate) fn told(alloc: Global, first: u32, bits: &[bool]) -> Result<Cond, Memory>
     ensures { IfOk result (λ cond. cond ≡ told first bits.now) }
 {

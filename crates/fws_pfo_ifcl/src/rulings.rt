@@ -40,7 +40,7 @@ fn is_same(a: Option<End>, b: Option<End>) -> bool
     }
 }
 
-/// Puts the ruling of a decision behind the others. An error is want of memory.
+/// Puts the ruling of a decision behind the others. Fails if memory runs out.
 fn put_finished(finished: &mut Items<Ruling>, to: Option<End>, one: Decision) -> Result<(), Memory>
     ensures { OnOk result (finished.new ≡ finished.old ++ ruling_of to one ∷ []) }
 {
@@ -49,7 +49,7 @@ fn put_finished(finished: &mut Items<Ruling>, to: Option<End>, one: Decision) ->
     Ok(())
 }
 
-/// Puts the rulings of decisions behind the others. An error is want of memory.
+/// Puts the rulings of decisions behind the others. Fails if memory runs out.
 fn put_all(finished: &mut Items<Ruling>, to: Option<End>, all: Vec<Decision>) -> Result<(), Memory>
     ensures { OnOk result (finished.new ≡ finished.old ++ map (ruling_of to) all.items) }
 {
@@ -59,7 +59,7 @@ fn put_all(finished: &mut Items<Ruling>, to: Option<End>, all: Vec<Decision>) ->
     Ok(())
 }
 
-/// Puts rulings behind the others that stand for those of decisions. An error is want of memory.
+/// Puts rulings behind the others that stand for those of decisions. Fails if memory runs out.
 fn put_joined(
     alloc: Global,
     finished: &mut Items<Ruling>,
@@ -85,7 +85,7 @@ impl Rulings {
         }
     }
 
-    /// Begins anew behind what is there, with another end. An error is want of memory.
+    /// Begins anew behind what is there, with another end. Fails if memory runs out.
     fn begin(&mut self, alloc: Global, to: Option<End>) -> Result<(), Memory>
         ensures stand { OnOk result (StandFor (rulings_of self.new) (rulings_of self.old)) }
         ensures to { OnOk result (self.new.to ≡ to) }
@@ -96,7 +96,7 @@ impl Rulings {
         Ok(())
     }
 
-    /// Goes on with this end. An error is want of memory.
+    /// Goes on with this end. Fails if memory runs out.
     fn turn_to(&mut self, alloc: Global, to: Option<End>) -> Result<(), Memory>
         ensures stand { OnOk result (StandFor (rulings_of self.new) (rulings_of self.old)) }
         ensures to { OnOk result (self.new.to ≡ to) }
@@ -107,7 +107,7 @@ impl Rulings {
         self.begin(alloc, to)
     }
 
-    /// Puts a decision behind the others. An error is want of memory.
+    /// Puts a decision behind the others. Fails if memory runs out.
     fn decide(&mut self, alloc: Global, cond: Cond, passes: bool) -> Result<(), Memory>
         ensures { OnOk result (StandFor (rulings_of self.new) (rulings_of self.old ++ record { cond = cond; passes = passes; to = self.old.to } ∷ [])) }
     {
@@ -115,7 +115,7 @@ impl Rulings {
         Ok(())
     }
 
-    /// Puts a ruling behind the others by which packets pass, with the end if there is one. An error is want of memory.
+    /// Puts a ruling behind the others by which packets pass, with the end if there is one. Fails if memory runs out.
     pub fn put_passing(&mut self, alloc: Global, cond: Cond, to: Option<End>) -> Result<(), Memory>
         ensures { OnOk result (StandFor (rulings_of self.new) (rulings_of self.old ++ record { cond = cond; passes = true; to = to } ∷ [])) }
     {
@@ -124,7 +124,7 @@ impl Rulings {
         Ok(())
     }
 
-    /// Puts a ruling behind the others by which packets are dropped. An error is want of memory.
+    /// Puts a ruling behind the others by which packets are dropped. Fails if memory runs out.
     pub fn put_dropping(&mut self, alloc: Global, cond: Cond) -> Result<(), Memory>
         ensures { OnOk result (StandFor (rulings_of self.new) (rulings_of self.old ++ record { cond = cond; passes = false; to = None } ∷ [])) }
     {
@@ -132,7 +132,7 @@ impl Rulings {
         Ok(())
     }
 
-    /// Rulings that stand for those. An error is want of memory.
+    /// Rulings that stand for those. Fails if memory runs out.
     pub fn into_rulings(self, alloc: Global) -> Result<Items<Ruling>, Memory>
         ensures { IfOk result (λ all. StandFor all (rulings_of self)) }
     {

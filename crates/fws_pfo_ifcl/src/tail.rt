@@ -61,7 +61,7 @@ fn decides_last(outward: bool, rule: &PfoRule) -> bool
     is_met(rule.way, outward) && !rule.quick
 }
 
-/// Puts what a rule of the kind decides behind the others. An error is want of memory.
+/// Puts what a rule of the kind decides behind the others. Fails if memory runs out.
 fn put_by(
     alloc: Global,
     all: &mut Rulings,
@@ -78,7 +78,7 @@ fn put_by(
     }
 }
 
-/// Puts what a rule decides behind the others, if it is to. An error is want of memory.
+/// Puts what a rule decides behind the others, if it is to. Fails if memory runs out.
 fn put_deciding(
     alloc: Global,
     all: &mut Rulings,
@@ -95,7 +95,7 @@ fn put_deciding(
     Ok(())
 }
 
-/// Puts what the quick ones decide behind the others, in their order. An error is want of memory.
+/// Puts what the quick ones decide behind the others, in their order. Fails if memory runs out.
 fn put_quick_rules(
     alloc: Global,
     all: &mut Rulings,
@@ -110,7 +110,7 @@ fn put_quick_rules(
     Ok(())
 }
 
-/// Puts what those decide behind the others that aren't quick, the last one first. An error is want of memory.
+/// Puts what those decide behind the others that aren't quick, the last one first. Fails if memory runs out.
 fn put_slow_rules(
     alloc: Global,
     all: &mut Rulings,
@@ -126,7 +126,7 @@ fn put_slow_rules(
     Ok(())
 }
 
-/// Rulings that stand for those of the tail, of which neighbours are joined. An error is want of memory.
+/// Rulings that stand for those of the tail, of which neighbours are joined. Fails if memory runs out.
 fn joined_tail(alloc: Global, outward: bool, tail: &[PfoRule]) -> Result<Items<Ruling>, Memory>
     ensures { IfOk result (λ all. StandFor all (tail_rulings outward tail.now)) }
 {
@@ -137,7 +137,7 @@ fn joined_tail(alloc: Global, outward: bool, tail: &[PfoRule]) -> Result<Items<R
     Ok(fewer)
 }
 
-/// Puts the rules of a ruling behind the others. An error is want of memory.
+/// Puts the rules of a ruling behind the others. Fails if memory runs out.
 fn put_ruling(
     alloc: Global,
     rules: &mut Vec<Rule>,
@@ -153,7 +153,7 @@ fn put_ruling(
     Ok(())
 }
 
-/// Puts the rules of rulings behind the others. An error is want of memory.
+/// Puts the rules of rulings behind the others. Fails if memory runs out.
 fn put_rulings(
     alloc: Global,
     rules: &mut Vec<Rule>,
@@ -168,7 +168,7 @@ fn put_rulings(
     Ok(())
 }
 
-/// Puts rules behind the others that decide as the rules of the tail do. An error is want of memory.
+/// Puts rules behind the others that decide as the rules of the tail do. Fails if memory runs out.
 pub(crate) fn put_tail(
     alloc: Global,
     rules: &mut Vec<Rule>,

@@ -72,8 +72,8 @@ fn is_too_much(expanded: u64, ends: &[End], d: &Draft) -> bool
     d.shared.is_expanded(expanded) || end_count(ends, d) > MOST_ENDS
 }
 
-/// The checks of a whole rule, behind statements that made so many rules where they made more than one, and `pass` rules with
-/// these ends. An error is want of memory.
+/// The checks of a whole rule, behind statements that made so many rules where they made more than one, and `pass` rules with these
+/// ends. Fails if memory runs out.
 pub(crate) fn rule_checks(
     alloc: Global,
     tables: &Tables,

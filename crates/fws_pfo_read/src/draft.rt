@@ -85,7 +85,7 @@ fn first_expects(kind: PfoKind) -> Expects
     }
 }
 
-/// A rule before its words, in a text that has had these tags. An error is want of memory.
+/// A rule before its words, in a text that has had these tags. Fails if memory runs out.
 pub(crate) fn fresh_draft(alloc: Global, kind: PfoKind, tags: Tags) -> Result<Draft, Memory>
     ensures { IfOk result (λ d. draft_of d ≡ fresh_rule kind tags) }
 {

@@ -216,7 +216,7 @@ impl Progress {
         }
     }
 
-    /// The configuration of what was read, which it takes along. An error is want of memory.
+    /// The configuration of what was read, which it takes along. Fails if memory runs out.
     fn drawn(&mut self, alloc: Global) -> Result<PfoConfig, Memory>
         ensures { IfOk result (λ c. c ≡ self.old.config) }
     {
@@ -224,7 +224,7 @@ impl Progress {
         Ok(self.config_with(alloc, tags))
     }
 
-    /// The configuration of what was read. An error is want of memory.
+    /// The configuration of what was read. Fails if memory runs out.
     pub(crate) fn into_config(self, alloc: Global) -> Result<PfoConfig, Memory>
         ensures { IfOk result (λ c. c ≡ self.config) }
     {

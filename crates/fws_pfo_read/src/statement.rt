@@ -63,7 +63,7 @@ pub(crate) fn dismiss(s: Statement) {
     }
 }
 
-/// The statement of a rule before its words, which takes the tags. An error is want of memory.
+/// The statement of a rule before its words, which takes the tags. Fails if memory runs out.
 fn fresh_statement(alloc: Global, tags: &mut Tags, kind: PfoKind) -> Result<Statement, Memory>
     ensures given { IfOk result (λ s. seen s ≡ any.Rule (fresh_rule kind tags.old)) }
     ensures kept { IfOk result (λ s. AreTags tags.old s tags.new) }

@@ -85,9 +85,8 @@ fn first_with_ack(
     acknowledging_in(alloc, site, &such, true)
 }
 
-/// Two points of packets of TCP that arrive and agree in all but flags: with ACK or RST one tree is true and the other
-/// false, though the packet isn't lost, and without them the first is false; if there are any. An error is want of
-/// memory.
+/// Two points of packets of TCP that arrive and agree in all but flags: with ACK or RST one tree is true and the other false,
+/// though the packet isn't lost, and without them the first is false; if there are any. Fails if memory runs out.
 pub(crate) fn ahead_at(
     alloc: Global,
     site: &Site,

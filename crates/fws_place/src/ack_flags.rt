@@ -23,7 +23,7 @@ fn with_ack(alloc: Global) -> Result<Ivs, Memory>
     )
 }
 
-/// The flags with ACK or RST, or those without, as it is asked. An error is want of memory.
+/// The flags with ACK or RST, or those without, as it is asked. Fails if memory runs out.
 pub(crate) fn ack_flags(alloc: Global, asked: bool) -> Result<Ivs, Memory>
     ensures { IfOk result (λ s. (v : ℕ) → v ≤ 63 → has s v ≡ acknowledges_as asked v) }
 {

@@ -22,7 +22,7 @@ use fws_tree::{Leaf, Relabelling, Tree};
 use indexmap::IndexSet;
 use std::alloc::Global;
 
-// The leaves, each once. An error is want of memory.
+// The leaves, each once. Fails if memory runs out.
 fn once<L: Leaf>(alloc: Global, leaves: &[L]) -> Result<IndexSet<L>, Memory>
     ensures { IfOk result (λ kept. All (Contains kept.keys) leaves.now) }
 {
@@ -86,8 +86,8 @@ impl<L: Leaf> Relabelling<L, bool> for ByBit<'_, L> {
     }
 }
 
-// Two points that agree in all fields whose bits aren't set and have leaves that count, of whose places the bit for this power
-// of 2 differs. An error is want of memory.
+// Two points that agree in all fields whose bits aren't set and have leaves that count, of whose places the bit for this power of 2
+// differs. Fails if memory runs out.
 fn apart_by<L: Leaf>(
     alloc: Global,
     tree: &Tree<L>,
@@ -116,8 +116,8 @@ fn apart_by<L: Leaf>(
     true_together(alloc, &first, &second, fields)
 }
 
-// Two points that agree in all fields whose bits aren't set and have different leaves that count, where those that are kept are
-// all of the tree's. An error is want of memory.
+// Two points that agree in all fields whose bits aren't set and have different leaves that count, where those that are kept are all
+// of the tree's. Fails if memory runs out.
 fn apart_among<L: Leaf>(
     alloc: Global,
     tree: &Tree<L>,
@@ -139,9 +139,9 @@ fn apart_among<L: Leaf>(
     Ok(None)
 }
 
-/// Two points that agree in all fields whose bits aren't set and have different leaves, neither of which is the one that
-/// doesn't count, if there are any. An error is want of memory. The work is that of a few changes of the tree for each
-/// binary digit of the number of leaves.
+/// Two points that agree in all fields whose bits aren't set and have different leaves, neither of which is the one that doesn't
+/// count, if there are any. Fails if memory runs out. The work is that of a few changes of the tree for each binary digit of the
+/// number of leaves.
 pub(crate) fn apart<L: Leaf>(
     alloc: Global,
     tree: &Tree<L>,

@@ -80,8 +80,8 @@ impl Relabelling<Outcome, bool> for AcceptedWith {
     }
 }
 
-/// The tree that tells of each new packet whether it is accepted with a rewriting that has what is asked, whatever
-/// ends stand behind it. An error is want of memory.
+/// The tree that tells of each new packet whether it is accepted with a rewriting that has what is asked, whatever ends stand
+/// behind it. Fails if memory runs out.
 pub(crate) fn accepted_with(
     alloc: Global,
     site: &Site,
@@ -95,7 +95,7 @@ pub(crate) fn accepted_with(
     tables.fresh.relabel(alloc, &AcceptedWith(asked))
 }
 
-/// A new packet that is accepted with a rewriting that has what is asked, if there is one. An error is want of memory.
+/// A new packet that is accepted with a rewriting that has what is asked, if there is one. Fails if memory runs out.
 pub(crate) fn packet_with(
     alloc: Global,
     site: &Site,

@@ -21,7 +21,7 @@ use std::alloc::Global;
 // The field of flags.
 const FLAGS_ALONE: u16 = FLAGS;
 
-/// The tree that is true where this one is at packets that arrive. An error is want of memory.
+/// The tree that is true where this one is at packets that arrive. Fails if memory runs out.
 pub(crate) fn arriving_in(
     alloc: Global,
     site: &Site,
@@ -36,8 +36,7 @@ pub(crate) fn arriving_in(
     kept_in(alloc, tree, Field::Entry, entries, false)
 }
 
-/// The tree that is true where this one is and flags have ACK or RST, or neither, as it is asked. An error is want of
-/// memory.
+/// The tree that is true where this one is and flags have ACK or RST, or neither, as it is asked. Fails if memory runs out.
 pub(crate) fn acknowledging_in(
     alloc: Global,
     site: &Site,
@@ -83,8 +82,8 @@ fn false_with(
     acknowledging_in(alloc, site, &other, asked)
 }
 
-/// Two points that agree in all but flags, at the first of which the one tree is true, and at the second, where flags have
-/// ACK or RST, or neither, as it is asked, the other is false; if there are any. An error is want of memory.
+/// Two points that agree in all but flags, at the first of which the one tree is true, and at the second, where flags have ACK or
+/// RST, or neither, as it is asked, the other is false; if there are any. Fails if memory runs out.
 pub(crate) fn false_near(
     alloc: Global,
     site: &Site,
@@ -116,8 +115,8 @@ fn told_with(
     false_near(alloc, site, &first, tree, asked)
 }
 
-/// Two points of arriving packets that agree in all but flags, both with ACK or RST, or neither, of which the tree is
-/// true at the first and false at the second, if there are any. An error is want of memory.
+/// Two points of arriving packets that agree in all but flags, both with ACK or RST, or neither, of which the tree is true at the
+/// first and false at the second, if there are any. Fails if memory runs out.
 pub(crate) fn told_by_more(
     alloc: Global,
     site: &Site,

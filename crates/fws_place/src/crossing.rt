@@ -46,7 +46,7 @@ fn is_outside(side: Side) -> bool
     }
 }
 
-/// The entries of the interfaces on the inside. An error is want of memory.
+/// The entries of the interfaces on the inside. Fails if memory runs out.
 pub(crate) fn inside_entries(alloc: Global, site: &Site) -> Result<Ivs, Memory>
     requires { IsSound site.now }
     ensures { IfOk result (λ s. (e : ℕ) → has s e ≡ is_inside (side_of site.now e)) }
@@ -62,7 +62,7 @@ pub(crate) fn inside_entries(alloc: Global, site: &Site) -> Result<Ivs, Memory>
     Ok(set)
 }
 
-/// The sides of what comes from the inside. An error is want of memory.
+/// The sides of what comes from the inside. Fails if memory runs out.
 pub(crate) fn inside_sides(alloc: Global, site: &Site) -> Result<[Ivs; 12], Memory>
     requires { IsSound site.now }
     ensures { IfOk result (HaveWhere (tops_of site.now) (λ p. is_inside (side_of site.now (value_of p fields.Entry)))) }
@@ -89,7 +89,7 @@ fn led_outside(alloc: Global, site: &Site) -> Result<Ivs, Memory>
     Ok(set)
 }
 
-/// The addresses for which what arrives leaves by an interface on the outside. An error is want of memory.
+/// The addresses for which what arrives leaves by an interface on the outside. Fails if memory runs out.
 pub(crate) fn outside_set(alloc: Global, site: &Site) -> Result<Ivs, Memory>
     requires { IsSound site.now }
     ensures { IfOk result (λ s. (a : ℕ) → has s a ≡ (is_sent_outside site.now a && nat_lt a (2 ^ 32))) }
@@ -101,7 +101,7 @@ pub(crate) fn outside_set(alloc: Global, site: &Site) -> Result<Ivs, Memory>
     led_outside(alloc, site)?.minus(alloc, &local)
 }
 
-/// The addresses for which what arrives doesn't leave by an interface on the outside. An error is want of memory.
+/// The addresses for which what arrives doesn't leave by an interface on the outside. Fails if memory runs out.
 pub(crate) fn not_outside(alloc: Global, site: &Site) -> Result<Ivs, Memory>
     requires { IsSound site.now }
     ensures { IfOk result (λ s. (a : ℕ) → has s a ≡ (not (is_sent_outside site.now a) && nat_lt a (2 ^ 32))) }

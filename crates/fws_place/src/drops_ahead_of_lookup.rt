@@ -28,7 +28,7 @@ use fws_tree::{Relabelling, Row, Tables, Tree, from_rows};
 use fws_truth::both;
 use std::alloc::Global;
 
-/// The sides of the host's packets. An error is want of memory.
+/// The sides of the host's packets. Fails if memory runs out.
 pub(crate) fn host_sides(alloc: Global, site: &Site) -> Result<[Ivs; 12], Memory>
     requires { IsSound site.now }
     ensures { IfOk result (HaveWhere (tops_of site.now) (λ p. nat_eq (value_of p fields.Entry) 0)) }
@@ -51,7 +51,7 @@ fn staying_sides(alloc: Global, site: &Site) -> Result<[Ivs; 12], Memory>
     Ok(sides)
 }
 
-/// The tree that tells of each pair whether its packet is accepted when it is new. An error is want of memory.
+/// The tree that tells of each pair whether its packet is accepted when it is new. Fails if memory runs out.
 pub(crate) fn accepted_new(
     alloc: Global,
     site: &Site,
@@ -148,7 +148,7 @@ impl Relabelling<(bool, (bool, bool)), bool> for DroppedWithEither {
     }
 }
 
-/// The tree whose values are those of three. An error is want of memory.
+/// The tree whose values are those of three. Fails if memory runs out.
 pub(crate) fn together(
     alloc: Global,
     first: &Tree<bool>,
@@ -241,8 +241,8 @@ fn among_host(
     named_pair(alloc, site, &breaking)
 }
 
-/// The tree that tells of each pair whether it is dropped though its packet is accepted, in some connection or when it
-/// is new. An error is want of memory.
+/// The tree that tells of each pair whether it is dropped though its packet is accepted, in some connection or when it is new.
+/// Fails if memory runs out.
 pub(crate) fn dropped_of_packet(
     alloc: Global,
     site: &Site,
@@ -411,8 +411,7 @@ fn among_accepted(
     among_seen(alloc, site, tables, accepted, &seen.packet, &seen.behind)
 }
 
-/// A dropped pair that ipfw can't drop ahead of the look-up of connections, if there is one. An error is want of
-/// memory.
+/// A dropped pair that ipfw can't drop ahead of the look-up of connections, if there is one. Fails if memory runs out.
 pub(crate) fn drops_ahead_of_lookup(
     alloc: Global,
     site: &Site,

@@ -50,8 +50,8 @@ fn breaking(alloc: Global, site: &Site, tables: &Tables) -> Result<Tree<bool>, M
     without_lost(alloc, site, dropped)
 }
 
-/// A pair that is dropped and not lost though its packet is accepted, in some connection or when it is new, if there
-/// is one. An error is want of memory.
+/// A pair that is dropped and not lost though its packet is accepted, in some connection or when it is new, if there is one. Fails
+/// if memory runs out.
 pub(crate) fn drops_always(
     alloc: Global,
     site: &Site,

@@ -104,8 +104,8 @@ fn breaking(alloc: Global, site: &Site, tables: &Tables) -> Result<Tree<bool>, M
     breaking_accepted(alloc, site, tables, &accepted)
 }
 
-/// A pair that is dropped though its packet is accepted in some connection and some pair that looks like it
-/// behind routing is too, if there is one. An error is want of memory.
+/// A pair that is dropped though its packet is accepted in some connection and some pair that looks like it behind routing is too,
+/// if there is one. Fails if memory runs out.
 pub(crate) fn drops_by_one_view(
     alloc: Global,
     site: &Site,

@@ -34,7 +34,7 @@ impl Relabelling<Outcome, bool> for Dropping {
     }
 }
 
-/// The tree that tells of each pair whether it is dropped and isn't lost. An error is want of memory.
+/// The tree that tells of each pair whether it is dropped and isn't lost. Fails if memory runs out.
 pub(crate) fn dropped(alloc: Global, site: &Site, tables: &Tables) -> Result<Tree<bool>, Memory>
     requires sound { IsSound site.now }
     requires regular { AreRegular site.now tables.now }
@@ -45,7 +45,7 @@ pub(crate) fn dropped(alloc: Global, site: &Site, tables: &Tables) -> Result<Tre
     without_lost(alloc, site, dropped)
 }
 
-/// A pair that is dropped and isn't lost, if there is one. An error is want of memory.
+/// A pair that is dropped and isn't lost, if there is one. Fails if memory runs out.
 pub(crate) fn drops_no_established(
     alloc: Global,
     site: &Site,

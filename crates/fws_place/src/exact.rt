@@ -25,7 +25,7 @@ impl Exact for Redirect {
     ghost exact = { redirect_exact _ end_exact _ (public_exact _ pair_exact) };
 }
 
-/// Puts the value behind the others, unless it is there. An error is want of memory.
+/// Puts the value behind the others, unless it is there. Fails if memory runs out.
 pub(crate) fn put_new<T: Exact>(kept: &mut IndexSet<T>, value: T) -> Result<(), Memory>
     ensures { OnOk result (IsPut kept.old.keys kept.new.keys value) }
 {
@@ -33,7 +33,7 @@ pub(crate) fn put_new<T: Exact>(kept: &mut IndexSet<T>, value: T) -> Result<(), 
     Ok(())
 }
 
-/// Puts the leaf behind the others, unless it is there. An error is want of memory.
+/// Puts the leaf behind the others, unless it is there. Fails if memory runs out.
 pub(crate) fn put_leaf<L: Leaf>(
     alloc: Global,
     kept: &mut IndexSet<L>,

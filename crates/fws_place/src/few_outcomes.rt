@@ -59,8 +59,8 @@ fn first_above<L: Leaf>(
     first_above_met(alloc, &mut met, rows, most)
 }
 
-/// A packet of the row with which the rows for new packets first show more than 60,000 outcomes, if there is one.
-/// An error is want of memory.
+/// A packet of the row with which the rows for new packets first show more than 60,000 outcomes, if there is one. Fails if memory
+/// runs out.
 pub(crate) fn few_outcomes(
     alloc: Global,
     site: &Site,

@@ -91,7 +91,7 @@ fn brings_none(rows: &[Row<Outcome>], earlier: usize, at: usize) -> bool
     }
 }
 
-// Gathers the redirects of one more row, and whether there are too many with it. An error is want of memory.
+// Gathers the redirects of one more row, and whether there are too many with it. Fails if memory runs out.
 fn passes(met: &mut IndexSet<Redirect>, row: &Row<Outcome>) -> Result<bool, Memory>
     requires few { length met.old.keys ≤ 4096 }
     requires served { IsServed row.now }
@@ -118,8 +118,8 @@ fn passes(met: &mut IndexSet<Redirect>, row: &Row<Outcome>) -> Result<bool, Memo
     }
 }
 
-// Gathers the redirects of the rows, until there are too many. Of a row with many the work is that of 4,097. An error
-// is want of memory.
+// Gathers the redirects of the rows, until there are too many. Of a row with many the work is that of 4,097. Fails if memory runs
+// out.
 fn gathered(alloc: Global, rows: &[Row<Outcome>]) -> Result<Collected, Memory>
     requires { All IsServed rows.now }
     ensures { IfOk result (AreGathered rows.now) }
@@ -138,8 +138,8 @@ fn gathered(alloc: Global, rows: &[Row<Outcome>]) -> Result<Collected, Memory>
     Ok(Collected::Few(met))
 }
 
-/// A packet of the row with which the rows for new packets first show more than 4,096 redirects or one with the public
-/// address 0.0.0.0, if there is one. An error is want of memory.
+/// A packet of the row with which the rows for new packets first show more than 4,096 redirects or one with the public address
+/// 0.0.0.0, if there is one. Fails if memory runs out.
 pub(crate) fn few_redirects(
     alloc: Global,
     site: &Site,
@@ -171,7 +171,7 @@ fn listed(alloc: Global, met: IndexSet<Redirect>) -> Result<Items<Redirect>, Mem
     Ok(items)
 }
 
-// The redirects that accepted new packets show, as a set. An error is want of memory.
+// The redirects that accepted new packets show, as a set. Fails if memory runs out.
 fn all_redirects(alloc: Global, site: &Site, tables: &Tables) -> Result<IndexSet<Redirect>, Memory>
     requires sound { IsSound site.now }
     requires regular { AreRegular site.now tables.now }
@@ -186,8 +186,8 @@ fn all_redirects(alloc: Global, site: &Site, tables: &Tables) -> Result<IndexSet
     }
 }
 
-/// The redirects that accepted new packets show, each once: at most 4,096, and none with the public address 0.0.0.0.
-/// An error is want of memory.
+/// The redirects that accepted new packets show, each once: at most 4,096, and none with the public address 0.0.0.0. Fails if
+/// memory runs out.
 pub fn redirects(alloc: Global, site: &Site, tables: &Tables) -> Result<Items<Redirect>, Memory>
     requires sound { IsSound site.now }
     requires regular { AreRegular site.now tables.now }

@@ -41,7 +41,7 @@ fn least_point(sides: Option<[Ivs; 12]>) -> Option<Point>
     }
 }
 
-/// The least point of the first path of the tree that is true. An error is want of memory.
+/// The least point of the first path of the tree that is true. Fails if memory runs out.
 pub(crate) fn first_true(alloc: Global, tree: &Tree<bool>) -> Result<Option<Point>, Memory>
     ensures { IfOk result (λ found. MatchOption found (IsTrueNowhere tree.now.0 tree.now.1) (IsTrueAt tree.now.0 tree.now.1)) }
 {

@@ -14,7 +14,7 @@ use indexmap::IndexSet;
 /// How many redirects there may be.
 pub(crate) const MOST_REDIRECTS: usize = 4096;
 
-// Gathers the redirects of an address and a protocol, until there are too many. An error is want of memory.
+// Gathers the redirects of an address and a protocol, until there are too many. Fails if memory runs out.
 fn gather_ports(
     met: &mut IndexSet<Redirect>,
     local: End,
@@ -37,7 +37,7 @@ fn gather_ports(
     Ok(())
 }
 
-// Gathers the redirects of an address to which a port is written, until there are too many. An error is want of memory.
+// Gathers the redirects of an address to which a port is written, until there are too many. Fails if memory runs out.
 fn gather_services(
     met: &mut IndexSet<Redirect>,
     local: End,
@@ -58,7 +58,7 @@ fn gather_services(
     Ok(())
 }
 
-// Gathers the redirects of an address, until there are too many. An error is want of memory.
+// Gathers the redirects of an address, until there are too many. Fails if memory runs out.
 fn gather_address(
     met: &mut IndexSet<Redirect>,
     local: End,
@@ -80,8 +80,8 @@ fn gather_address(
     }
 }
 
-/// Gathers the redirects of an end by the sides of the packets that get it: their addresses, protocols and ports. It
-/// ends as soon as there are more than may be. An error is want of memory.
+/// Gathers the redirects of an end by the sides of the packets that get it: their addresses, protocols and ports. It ends as soon
+/// as there are more than may be. Fails if memory runs out.
 pub(crate) fn gather(
     met: &mut IndexSet<Redirect>,
     local: End,

@@ -81,8 +81,8 @@ pub(crate) fn first_delivered(local: &Ivs, top: u32, rows: &[Row<Outcome>]) -> O
     None
 }
 
-/// A point of a row of the tree whose packets are sent to one of the addresses, with its entry and destination. An error is
-/// want of memory.
+/// A point of a row of the tree whose packets are sent to one of the addresses, with its entry and destination. Fails if memory
+/// runs out.
 pub(crate) fn delivered_in(
     alloc: Global,
     tree: &Tree<Outcome>,
@@ -122,7 +122,7 @@ fn delivered_among(
     }
 }
 
-/// A new packet that is accepted, has a source written and is delivered, if there is one. An error is want of memory.
+/// A new packet that is accepted, has a source written and is delivered, if there is one. Fails if memory runs out.
 pub(crate) fn keeps_delivered_sources(
     alloc: Global,
     site: &Site,

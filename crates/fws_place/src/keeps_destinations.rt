@@ -13,7 +13,7 @@ use fws_num::Memory;
 use fws_tree::Tables;
 use std::alloc::Global;
 
-/// A new packet that is accepted and has a destination written, if there is one. An error is want of memory.
+/// A new packet that is accepted and has a destination written, if there is one. Fails if memory runs out.
 pub(crate) fn keeps_destinations(
     alloc: Global,
     site: &Site,

@@ -32,8 +32,7 @@ fn breaking(alloc: Global, site: &Site, tables: &Tables) -> Result<Tree<bool>, M
     writing.restrict(alloc, &sides, false)
 }
 
-/// A new packet of the host that is accepted and has a destination written, if there is one. An error is want of
-/// memory.
+/// A new packet of the host that is accepted and has a destination written, if there is one. Fails if memory runs out.
 pub(crate) fn keeps_host_destinations(
     alloc: Global,
     site: &Site,

@@ -16,7 +16,7 @@ use fws_num::Memory;
 use fws_tree::Tree;
 use std::alloc::Global;
 
-/// The sides of the pairs that arrive for another host. An error is want of memory.
+/// The sides of the pairs that arrive for another host. Fails if memory runs out.
 pub(crate) fn passing_sides(alloc: Global, site: &Site) -> Result<[Ivs; 12], Memory>
     requires { IsSound site.now }
     ensures { IfOk result (HaveWhere (tops_of site.now) (λ p. arrives_at p && not (is_local site.now (value_of p fields.SentDst)))) }
@@ -29,7 +29,7 @@ pub(crate) fn passing_sides(alloc: Global, site: &Site) -> Result<[Ivs; 12], Mem
     Ok(sides)
 }
 
-/// The tree that is false at lost pairs and this tree elsewhere. An error is want of memory.
+/// The tree that is false at lost pairs and this tree elsewhere. Fails if memory runs out.
 pub(crate) fn without_lost(
     alloc: Global,
     site: &Site,

@@ -14,7 +14,7 @@ use fws_num::Memory;
 use fws_tree::Tree;
 use std::alloc::Global;
 
-/// A pair at which the tree is true, with no second one. An error is want of memory.
+/// A pair at which the tree is true, with no second one. Fails if memory runs out.
 pub(crate) fn named_pair(
     alloc: Global,
     site: &Site,
@@ -36,7 +36,7 @@ pub(crate) fn named_pair(
     }
 }
 
-/// A packet at which the tree is true with some ends, with no second one. An error is want of memory.
+/// A packet at which the tree is true with some ends, with no second one. Fails if memory runs out.
 pub(crate) fn named_packet(
     alloc: Global,
     site: &Site,

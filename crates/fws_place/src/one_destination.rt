@@ -13,8 +13,8 @@ use fws_num::Memory;
 use fws_tree::Tables;
 use std::alloc::Global;
 
-/// Two new packets that arrive, agree in all but flags and ICMP types and get different destinations, if there are any. An
-/// error is want of memory.
+/// Two new packets that arrive, agree in all but flags and ICMP types and get different destinations, if there are any. Fails if
+/// memory runs out.
 pub(crate) fn one_destination(
     alloc: Global,
     site: &Site,

@@ -63,8 +63,7 @@ impl Relabelling<Outcome, Outcome> for Alone {
     }
 }
 
-// The tree of what becomes of the packets whose ends are compared, by these ends; the others are dropped. An error is want
-// of memory.
+// The tree of what becomes of the packets whose ends are compared, by these ends; the others are dropped. Fails if memory runs out.
 fn ends_alone(
     alloc: Global,
     site: &Site,
@@ -84,8 +83,8 @@ fn ends_alone(
     }
 }
 
-/// Two new packets that agree in all but flags and ICMP types and get different ends of those that are compared, if there
-/// are any. An error is want of memory.
+/// Two new packets that agree in all but flags and ICMP types and get different ends of those that are compared, if there are any.
+/// Fails if memory runs out.
 pub(crate) fn different_ends(
     alloc: Global,
     site: &Site,

@@ -19,8 +19,8 @@ use std::alloc::Global;
 // The fields of the entry and of flags, by their bits.
 const ENTRY_AND_FLAGS: u16 = ENTRY | FLAGS;
 
-/// Two new packets that go from the inside to the outside, agree in all but entry and flags and get different sources, if
-/// there are any. An error is want of memory.
+/// Two new packets that go from the inside to the outside, agree in all but entry and flags and get different sources, if there are
+/// any. Fails if memory runs out.
 pub(crate) fn one_source(
     alloc: Global,
     site: &Site,

@@ -160,8 +160,8 @@ impl Relabelling<(Outcome, bool), Outcome> for SourceWhere {
     }
 }
 
-/// The tree of the sources of new packets that go from the inside to the outside; the others are dropped. An error is
-/// want of memory. The work is that of a few changes of the tree for each destination that is written.
+/// The tree of the sources of new packets that go from the inside to the outside; the others are dropped. Fails if memory runs out.
+/// The work is that of a few changes of the tree for each destination that is written.
 pub(crate) fn outgoing_sources(
     alloc: Global,
     site: &Site,

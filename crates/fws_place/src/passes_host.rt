@@ -80,8 +80,8 @@ fn changed_or_dropped(
     named_pair(alloc, site, &dropped)
 }
 
-/// A new packet of the host that isn't accepted as it is, or else a pair of the host that is dropped, if there is one.
-/// An error is want of memory.
+/// A new packet of the host that isn't accepted as it is, or else a pair of the host that is dropped, if there is one. Fails if
+/// memory runs out.
 pub(crate) fn passes_host(
     alloc: Global,
     site: &Site,

@@ -37,7 +37,7 @@ impl Relabelling<Outcome, bool> for Accepting {
     }
 }
 
-/// The tree that tells of each pair whether it is accepted. An error is want of memory.
+/// The tree that tells of each pair whether it is accepted. Fails if memory runs out.
 pub(crate) fn accepted(alloc: Global, site: &Site, tables: &Tables) -> Result<Tree<bool>, Memory>
     requires { tables.now.est.0 ≡ tops_of site.now }
     ensures tops { IfOk result (λ t. t.0 ≡ tops_of site.now) }
@@ -49,8 +49,8 @@ pub(crate) fn accepted(alloc: Global, site: &Site, tables: &Tables) -> Result<Tr
 // The fields from rdst on: with them alone free, a point stands for its packet.
 const ENDS: u16 = SENT_DST | SENT_DPORT | SENT_SRC | SENT_SPORT;
 
-/// The tree that tells of each pair whether its packet is accepted in some connection: what rules that see packets
-/// as they enter can tell. An error is want of memory.
+/// The tree that tells of each pair whether its packet is accepted in some connection: what rules that see packets as they enter
+/// can tell. Fails if memory runs out.
 pub fn accepted_somewhere(alloc: Global, site: &Site, tables: &Tables) -> Result<Tree<bool>, Memory>
     requires { tables.now.est.0 ≡ tops_of site.now }
     ensures tops { IfOk result (λ t. t.0 ≡ tops_of site.now) }
@@ -87,8 +87,7 @@ fn seen_of(
     Ok(Views { packet, behind })
 }
 
-/// What rules can tell of established packets. The tops of both trees are the site's. An error is want
-/// of memory.
+/// What rules can tell of established packets. The tops of both trees are the site's. Fails if memory runs out.
 pub fn seen(alloc: Global, site: &Site, tables: &Tables) -> Result<Views, Memory>
     requires { tables.now.est.0 ≡ tops_of site.now }
     ensures packet_tops { IfOk result (λ s. s.packet.0 ≡ tops_of site.now) }

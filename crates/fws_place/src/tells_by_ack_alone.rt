@@ -100,8 +100,8 @@ fn told_of_new(
     ahead(alloc, site, tables, new)
 }
 
-/// Two packets or pairs that arrive and differ in flags alone, though these may tell packets apart by ACK and RST alone,
-/// if there are any. An error is want of memory.
+/// Two packets or pairs that arrive and differ in flags alone, though these may tell packets apart by ACK and RST alone, if there
+/// are any. Fails if memory runs out.
 pub(crate) fn tells_by_ack_alone(
     alloc: Global,
     site: &Site,

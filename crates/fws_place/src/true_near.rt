@@ -93,8 +93,8 @@ fn first_near(
     first_true(alloc, &both)
 }
 
-/// Two points that agree in all fields whose bits aren't set, at the first of which the one tree is true, and at the second
-/// the other, if there are any. An error is want of memory.
+/// Two points that agree in all fields whose bits aren't set, at the first of which the one tree is true, and at the second the
+/// other, if there are any. Fails if memory runs out.
 pub(crate) fn true_together(
     alloc: Global,
     first: &Tree<bool>,

@@ -137,8 +137,8 @@ fn written_by(
     written_within(alloc, site, tables, inside)
 }
 
-/// A new packet that is accepted and has a source written, and doesn't come from the inside or doesn't leave to the
-/// outside, if there is one. An error is want of memory.
+/// A new packet that is accepted and has a source written, and doesn't come from the inside or doesn't leave to the outside, if
+/// there is one. Fails if memory runs out.
 pub(crate) fn writes_inside_out(
     alloc: Global,
     site: &Site,

@@ -13,8 +13,7 @@ use fws_num::Memory;
 use fws_tree::Tables;
 use std::alloc::Global;
 
-/// A new packet that is accepted and has less than a whole address written, if there is one. An error is want of
-/// memory.
+/// A new packet that is accepted and has less than a whole address written, if there is one. Fails if memory runs out.
 pub(crate) fn writes_whole_addresses(
     alloc: Global,
     site: &Site,

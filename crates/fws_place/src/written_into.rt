@@ -36,9 +36,9 @@ fn kept_set(alloc: Global, set: &Ivs, others: &Ivs, addr: u32, size: u64) -> Res
     Ok(out)
 }
 
-/// The addresses that are members once the end is written over them. Where the set has all or none of the addresses that
-/// the end leads to, the result is one range or none; else the time grows with the networks that are as long as the end.
-/// An error is want of memory.
+/// The addresses that are members once the end is written over them. Where the set has all or none of the addresses that the end
+/// leads to, the result is one range or none; else the time grows with the networks that are as long as the end. Fails if memory
+/// runs out.
 pub(crate) fn written_into(alloc: Global, set: &Ivs, end: Option<End>) -> Result<Ivs, Memory>
     ensures low { IfOk result (λ s. (d : ℕ) → d < 2 ^ 32 → written_addr end d < 2 ^ 32) }
     ensures members { IfOk result (λ s. (d : ℕ) → d < 2 ^ 32 → has s d ≡ has set.now (written_addr end d)) }

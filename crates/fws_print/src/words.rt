@@ -8,7 +8,7 @@ ghost use Rattle.fws_print.specs.Words.{protocol_name};
 
 use fws_num::{Memory, Text, put_dec, put_quad};
 
-/// Appends a blank and a word. An error is want of memory, here and in all of this crate.
+/// Appends a blank and a word. Fails if memory runs out, here and in all of this crate.
 pub fn put_word(out: &mut Text, word: &[u8]) -> Result<(), Memory>
     ensures { OnOk result (out.new ≡ out.old ++ 32 ∷ word.now) }
 {

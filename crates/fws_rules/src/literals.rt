@@ -32,8 +32,8 @@ pub fn demand<T: Drop>(spelled: Option<T>) -> Result<T, ReadFault>
     }
 }
 
-/// Appends what stands in a condition for an option: nothing where it holds of every packet, and a test
-/// that never holds where that is negated. An error is want of memory.
+/// Appends what stands in a condition for an option: nothing where it holds of every packet, and a test that never holds where that
+/// is negated. Fails if memory runs out.
 pub fn put_literals(cond: &mut Cond, negated: bool, lit: Option<Lit>) -> Result<(), Memory>
     ensures { OnOk result (cond.new ≡ cond.old ++ literals negated lit) }
 {

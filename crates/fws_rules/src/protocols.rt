@@ -9,7 +9,7 @@ use fws_net::{Lit, Test};
 use fws_num::Memory;
 use std::alloc::Global;
 
-/// The literal of the protocol; none for every one. An error is want of memory.
+/// The literal of the protocol; none for every one. Fails if memory runs out.
 pub fn protocol_literal(alloc: Global, protocol: Option<u8>) -> Result<Option<Lit>, Memory>
     ensures { IfOk result (λ lit. lit ≡ protocol_literal protocol) }
 {

@@ -105,7 +105,7 @@ fn search(
     Ok(offers.cheapest())
 }
 
-/// Whether a search ended for want of memory.
+/// Whether a search ended because memory ran out.
 fn lacks_memory(ended: &Result<(), Stop>) -> bool {
     match ended {
         Ok(()) => false,

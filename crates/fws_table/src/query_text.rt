@@ -120,10 +120,9 @@ fn query_text(
     put_held(alloc, out, site, state, changed)
 }
 
-/// The text of a query over the points of the site: a line that counts the rows, then a line for each path of the reduced
-/// tree that has the outcomes of the given one within the asked sides and of the asked verdict. Paths without an outcome
-/// aren't written; the lines are those of a table. The rows are counted, and then put one by one. An error is want of
-/// memory.
+/// The text of a query over the points of the site: a line that counts the rows, then a line for each path of the reduced tree that
+/// has the outcomes of the given one within the asked sides and of the asked verdict. Paths without an outcome aren't written; the
+/// lines are those of a table. The rows are counted, and then put one by one. Fails if memory runs out.
 pub fn query(
     alloc: Global,
     site: &Site,

@@ -10,10 +10,9 @@ use fws_num::{Memory, Text};
 use fws_tree::Tree;
 use std::alloc::Global;
 
-/// The text of the table of a tree over the points of the site: a line that counts the rows, then a line for each path,
-/// depth first. Entries are listed by their names in the site, other values as decimals or dotted addresses, and `*` is
-/// the whole range of a field. The rows are put one by one, as the tree has them, and none is kept. An error is want of
-/// memory.
+/// The text of the table of a tree over the points of the site: a line that counts the rows, then a line for each path, depth
+/// first. Entries are listed by their names in the site, other values as decimals or dotted addresses, and `*` is the whole range
+/// of a field. The rows are put one by one, as the tree has them, and none is kept. Fails if memory runs out.
 pub fn put_table(
     alloc: Global,
     site: &Site,

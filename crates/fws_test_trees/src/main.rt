@@ -1,6 +1,6 @@
-//! Tries trees and what is made of them at each point within small tops, against what rows say of the point, and trees
-//! that were worked out by hand. It prints a line for each group with how many cases agree and the first that doesn't,
-//! and ends with status 1 where one doesn't, with 6 for want of memory, and with 5 where it can't write.
+//! Tries trees and what is made of them at each point within small tops, against what rows say of the point, and trees that were
+//! worked out by hand. It prints a line for each group with how many cases agree and the first that doesn't, and ends with status 1
+//! where one doesn't, with 6 because memory ran out, and with 5 where it can't write.
 #![tactic(auto)]
 
 mod agreeing;

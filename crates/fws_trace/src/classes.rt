@@ -132,8 +132,8 @@ impl Classes {
         }
     }
 
-    /// Notes a connection behind those that are known: its original tuple, and then its reply tuple. After
-    /// want of memory the classes are as before.
+    /// Notes a connection behind those that are known: its original tuple, and then its reply tuple. If memory runs out the classes
+    /// are as before.
     pub fn add(&mut self, conn: &Conn) -> Result<(), Memory>
         ensures noted { OnOk result ((t : Tuple) → class_in self.new t ≡ first_class (class_in self.old t) (class_of (conn.now ∷ []) t)) }
         ensures kept { OnErr result ((t : Tuple) → class_in self.new t ≡ class_in self.old t) }

@@ -53,9 +53,8 @@ fn put_sent(
     put_end(out, b" dst=", proto, dst, dport)
 }
 
-/// Appends the fate of a packet of this protocol, as `drop` or, with the ends with which it is sent on,
-/// `accept src=198.51.100.9:443 dst=10.0.0.7:40001`. Ports are written for TCP and UDP alone. An error is want
-/// of memory.
+/// Appends the fate of a packet of this protocol, as `drop` or, with the ends with which it is sent on, `accept
+/// src=198.51.100.9:443 dst=10.0.0.7:40001`. Ports are written for TCP and UDP alone. Fails if memory runs out.
 pub fn put_fate(out: &mut Text, proto: u8, fate: &Fate) -> Result<(), Memory>
     ensures { OnOk result (out.new ≡ out.old ++ fate_text proto fate.now) }
 {

@@ -85,10 +85,9 @@ fn put_packet(
     Ok(())
 }
 
-/// The trace of packets of the site: a line for each, with its class against the connections and what
-/// becomes of it by the table of that class, as `new drop` or, with the ends with which it is sent on,
-/// `est accept src=198.51.100.9:443 dst=10.0.0.7:40001`. Ports are written for TCP and UDP alone. No
-/// packet changes the connections. An error is want of memory.
+/// The trace of packets of the site: a line for each, with its class against the connections and what becomes of it by the table of
+/// that class, as `new drop` or, with the ends with which it is sent on, `est accept src=198.51.100.9:443 dst=10.0.0.7:40001`.
+/// Ports are written for TCP and UDP alone. No packet changes the connections. Fails if memory runs out.
 ///
 /// Where the tables are those of a walk, the trace is that of the walk.
 pub fn trace(

@@ -84,8 +84,8 @@ impl Arena {
         }
     }
 
-    /// Gives the number of the node, which is stored unless it is there. A number past 2^32 - 1
-    /// is want of memory.
+    /// Gives the number of the node, which is stored unless it is there. Fails if memory runs out, or
+    /// at a number past 2^32 - 1.
     pub(crate) fn intern(&mut self, node: Node) -> Result<u32, Memory>
         requires arena { IsArena self.old }
         requires below { IsNodeBelow (length self.old) node }

@@ -102,8 +102,8 @@ fn from_numbered<L: Leaf>(
     )
 }
 
-/// The reduced tree over the tops that gives at each point the leaf of the first row that holds it,
-/// else `rest`. An error is want of memory.
+/// The reduced tree over the tops that gives at each point the leaf of the first row that holds it, else `rest`. Fails if memory
+/// runs out.
 ///
 /// The rows are made into trees one by one, and these are merged by halves. The time and the memory
 /// grow with the nodes of the merged trees: at most with the rows, times the pieces into which they

@@ -47,8 +47,8 @@ impl Canvas {
     ghost use Rattle.fws_tree.specs.Painted.{tops_of, value_at, values_of};
     ghost use Rattle.fws_tree.specs.Recoloured.{IsRecoloured, StaysMoved};
 
-    /// The canvas over the fields with these greatest values that has value 0 everywhere; value 0 has
-    /// these bits. An error is want of memory.
+    /// The canvas over the fields with these greatest values that has value 0 everywhere; value 0 has these bits. Fails if memory
+    /// runs out.
     pub fn new(alloc: Global, tops: &[u32; 12], bits: u64) -> Result<Canvas, Memory>
         ensures tops { IfOk result (λ c. tops_of c ≡ tops.now) }
         ensures values { IfOk result (λ c. values_of c ≡ bits ∷ []) }
@@ -75,8 +75,8 @@ impl Canvas {
         &self.values
     }
 
-    /// Adds a value with these bits, and gives its number. No point has it yet. An error is want of
-    /// memory, and so is a number past 2^32 - 1.
+    /// Adds a value with these bits, and gives its number. No point has it yet. Fails if memory runs out, and so is a number past
+    /// 2^32 - 1.
     pub fn add_value(&mut self, bits: u64) -> Result<u32, Memory>
         ensures number { IfOk result (λ n. n ≡ length (values_of self.old)) }
         ensures added { OnOk result (values_of self.new ≡ values_of self.old ++ bits ∷ []) }
@@ -87,8 +87,7 @@ impl Canvas {
         self.values.add(bits)
     }
 
-    // Throws away the cells that the root doesn't reach. An error is want of memory; after it the canvas
-    // is as before.
+    // Throws away the cells that the root doesn't reach. Fails if memory runs out; after it the canvas is as before.
     fn collect(&mut self, alloc: Global) -> Result<(), Memory>
         ensures tops { tops_of self.new ≡ tops_of self.old }
         ensures values { values_of self.new ≡ values_of self.old }
@@ -121,10 +120,9 @@ impl Canvas {
     /// mark that holds the point, or else `rest`, where 0 is no label. The rule says what a value
     /// becomes at a label.
     ///
-    /// The time is that of the cells within the marks below which a wanted value lies, each once for
-    /// each part of the marks, and of the cells of the marks; now and then that of all cells that are in
-    /// use, since those that are not are thrown away. An error is want of memory; after it each
-    /// point has the value that it had.
+    /// The time is that of the cells within the marks below which a wanted value lies, each once for each part of the marks, and of
+    /// the cells of the marks; now and then that of all cells that are in use, since those that are not are thrown away. Fails if
+    /// memory runs out; after it each point has the value that it had.
     pub fn recolour<M: Moves>(
         &mut self,
         alloc: Global,
@@ -168,9 +166,8 @@ impl Canvas {
     ghost use Rattle.fws_tree.specs.Painted.{tops_of, value_at};
     ghost use Rattle.fws_tree.specs.Plain.{IsReduced, value};
 
-    /// The reduced tree that has, at each point within the tops, the leaf at the place of the canvas'
-    /// value; equal leaves become one. An error is want of memory. The time grows with the cells that
-    /// are reached.
+    /// The reduced tree that has, at each point within the tops, the leaf at the place of the canvas' value; equal leaves become
+    /// one. Fails if memory runs out. The time grows with the cells that are reached.
     pub fn tree<L: Leaf>(&self, alloc: Global, leaves: &[L]) -> Result<Tree<L>, Memory>
         requires { (p : List ℕ) → IsWithin (tops_of self.now) p → value_at self.now p < length leaves.now }
         ensures tops { IfOk result (λ t. t.0 ≡ tops_of self.now) }

@@ -126,8 +126,8 @@ fn replaced<L: Leaf>(
 }
 
 impl<L: Leaf> Tree<L> {
-    /// The tree whose value is `off` outside the asked sides and this tree's within them. An error is
-    /// want of memory. The time grows with the nodes of this tree that the sides meet.
+    /// The tree whose value is `off` outside the asked sides and this tree's within them. Fails if memory runs out. The time grows
+    /// with the nodes of this tree that the sides meet.
     pub fn restrict(&self, alloc: Global, asked: &[Ivs; 12], off: L) -> Result<Tree<L>, Memory>
         ensures tops { IfOk result (λ t. t.0 ≡ self.now.0) }
         ensures reduced { IfOk result (λ t. IsReduced t.0 t.1) }
@@ -136,8 +136,8 @@ impl<L: Leaf> Tree<L> {
         replaced(alloc, self, asked, off, false)
     }
 
-    /// The tree whose value is `on` within the asked sides and this tree's elsewhere. An error is want
-    /// of memory. The time grows with the nodes of this tree that the sides meet.
+    /// The tree whose value is `on` within the asked sides and this tree's elsewhere. Fails if memory runs out. The time grows with
+    /// the nodes of this tree that the sides meet.
     pub fn paint(&self, alloc: Global, asked: &[Ivs; 12], on: L) -> Result<Tree<L>, Memory>
         ensures tops { IfOk result (λ t. t.0 ≡ self.now.0) }
         ensures reduced { IfOk result (λ t. IsReduced t.0 t.1) }

@@ -6,7 +6,7 @@ ghost use Rattle.std.specs.List.{range_with_len};
 use fws_num::Memory;
 use std::alloc::Global;
 
-/// The places from 0 on, as many as are asked for. One past 2^32 - 1 is want of memory.
+/// The places from 0 on, as many as are asked for. Fails at one past 2^32 - 1, as if memory ran out.
 pub(crate) fn counted(alloc: Global, count: usize) -> Result<Vec<u32>, Memory>
     ensures { IfOk result (λ places. places.items ≡ range_with_len 0 count) }
 {

@@ -102,10 +102,9 @@ fn project(
 }
 
 impl Tree<bool> {
-    /// The tree that is true at a point exactly where this one is true at some point within the tops
-    /// that agrees with it in every field whose bit isn't set. Bit i is that of field i. An error is
-    /// want of memory. The time grows with the pieces of the nodes' cuts and, for each cut of a field
-    /// whose bit is set, with the pairs of nodes that meet when its kids are merged.
+    /// The tree that is true at a point exactly where this one is true at some point within the tops that agrees with it in every
+    /// field whose bit isn't set. Bit i is that of field i. Fails if memory runs out. The time grows with the pieces of the nodes'
+    /// cuts and, for each cut of a field whose bit is set, with the pairs of nodes that meet when its kids are merged.
     pub fn exists(&self, alloc: Global, fields: u16) -> Result<Tree<bool>, Memory>
         ensures tops { IfOk result (λ t. t.0 ≡ self.now.0) }
         ensures reduced { IfOk result (λ t. IsReduced t.0 t.1) }

@@ -124,8 +124,8 @@ fn shown_nodes(
     arena.into_nodes(alloc)
 }
 
-/// The reduced tree that has, at each point within the tops, the leaf at the place of the value that
-/// cell `at` holds there. An error is want of memory.
+/// The reduced tree that has, at each point within the tops, the leaf at the place of the value that cell `at` holds there. Fails
+/// if memory runs out.
 pub(crate) fn finish<L: Leaf>(
     alloc: Global,
     store: &Store,
@@ -147,8 +147,8 @@ pub(crate) fn finish<L: Leaf>(
     Ok(from_nodes(tops, settled.leaves, settled.nodes))
 }
 
-/// The reduced tree that has, at each point within the tops, the leaf at the place that cell `at` holds there. An error
-/// is want of memory.
+/// The reduced tree that has, at each point within the tops, the leaf at the place that cell `at` holds there. Fails if memory runs
+/// out.
 pub(crate) fn finish_counted<L: Leaf>(
     alloc: Global,
     store: &Store,

@@ -133,8 +133,8 @@ fn value_of(p: &[u32; 12], field: u8) -> u32
     if field < p.len() { p[field] } else { 0 }
 }
 
-/// What the cell holds at the point. Cells with many steps are noted, so that they are looked through once: from then on the
-/// time for each of them is logarithmic. An error is want of memory.
+/// What the cell holds at the point. Cells with many steps are noted, so that they are looked through once: from then on the time
+/// for each of them is logarithmic. Fails if memory runs out.
 pub(crate) fn held(
     store: &Store,
     rising: &mut Rising,

@@ -35,8 +35,7 @@ fn mask_of(masks: &[u64], store: &Store, at: u32, values: &Values) -> u64
     }
 }
 
-/// Adds the masks of the cells that have none yet. An error is want of memory. The time is that of
-/// the cells that are new.
+/// Adds the masks of the cells that have none yet. Fails if memory runs out. The time is that of the cells that are new.
 pub(crate) fn catch_up(masks: &mut Vec<u64>, store: &Store, values: &Values) -> Result<(), Memory>
     requires ordered { AreOrderedFrom 0 store.now }
     requires masks { AreMasks values.now store.now masks.old.items }

@@ -16,9 +16,8 @@ pub trait Moves {
     // The second is the first at a later time of a recolouring.
     ghost later: { Self → Self → Type 0 };
 
-    /// The value that `value` becomes at the label, which is at least 1. It may be a new one. It is
-    /// asked only where the value meets the label, once for each pair in a recolouring. An error is
-    /// want of memory.
+    /// The value that `value` becomes at the label, which is at least 1. It may be a new one. It is asked only where the value
+    /// meets the label, once for each pair in a recolouring. Fails if memory runs out.
     fn moved(&mut self, values: &mut Values, value: u32, label: u32) -> Result<u32, Memory>
         ensures moved { IfOk result (λ r. moves self.new value label r) }
         ensures kept { StaysMoved (moves self.old) (moves self.new) }

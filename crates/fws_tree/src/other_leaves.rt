@@ -94,8 +94,8 @@ fn with_leaves<L: Leaf, M: Leaf>(
 }
 
 impl<L: Leaf> Tree<L> {
-    /// The tree with the leaves that are made of this one's. An error is want of memory. The time grows
-    /// with the pieces of the nodes' cuts.
+    /// The tree with the leaves that are made of this one's. Fails if memory runs out. The time grows with the pieces of the nodes'
+    /// cuts.
     pub fn relabel<M: Leaf, R: Relabelling<L, M>>(
         &self,
         alloc: Global,
@@ -136,8 +136,7 @@ impl<L: Leaf> Relabelling<L, bool> for Wanted<'_, L> {
 }
 
 impl<L: Leaf> Tree<L> {
-    /// The tree that is true exactly where this tree's value is the wanted one. An error is want of
-    /// memory.
+    /// The tree that is true exactly where this tree's value is the wanted one. Fails if memory runs out.
     pub fn select(&self, alloc: Global, wanted: &L) -> Result<Tree<bool>, Memory>
         ensures tops { IfOk result (λ t. t.0 ≡ self.now.0) }
         ensures reduced { IfOk result (λ t. IsReduced t.0 t.1) }

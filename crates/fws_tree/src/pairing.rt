@@ -231,8 +231,8 @@ fn finish_pairs<L: Leaf, M: Leaf>(
 }
 
 impl<L: Leaf> Tree<L> {
-    /// The tree whose value is the pair of this tree's and the other one's. An error is want of memory.
-    /// The time grows with the pairs of nodes that meet.
+    /// The tree whose value is the pair of this tree's and the other one's. Fails if memory runs out. The time grows with the pairs
+    /// of nodes that meet.
     pub fn pair<M: Leaf>(&self, alloc: Global, other: &Tree<M>) -> Result<Tree<(L, M)>, Memory>
         requires { other.now.0 ≡ self.now.0 }
         ensures tops { IfOk result (λ t. t.0 ≡ self.now.0) }

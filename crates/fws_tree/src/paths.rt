@@ -62,8 +62,8 @@ fn take_paths<L: Leaf, T: TakesRows<L>>(
 }
 
 impl<L: Leaf> Tree<L> {
-    /// Hands on the rows of `paths`, one by one. None of them is kept: the memory that this takes grows with the depth of
-    /// the tree, and not with its rows. An error is want of memory, or one of the taker's.
+    /// Hands on the rows of `paths`, one by one. None of them is kept: the memory that this takes grows with the depth of the tree,
+    /// and not with its rows. Fails if memory runs out, or where the taker fails.
     pub fn each_row<T: TakesRows<L>>(&self, alloc: Global, by: &mut T) -> Result<(), Memory>
         ensures { OnOk result (T.took by.old by.new (paths_of self.now.0 self.now.1)) }
     {

@@ -21,7 +21,7 @@ fn count_at(counts: &[u64], place: usize) -> u64
     }
 }
 
-// The sum of the counts at the nodes that the kids name. One past 2^64 - 1 is an error, as want of memory is.
+// The sum of the counts at the nodes that the kids name. Fails at one past 2^64 - 1, as if memory ran out.
 fn kid_sum(counts: &[u64], kids: &[Kid]) -> Result<u64, Memory>
     ensures { IfOk result (λ n. n ≡ kid_sum counts.now kids.now) }
 {
@@ -66,9 +66,9 @@ fn path_counts<L: Leaf>(alloc: Global, leaves: &[L], nodes: &[Node]) -> Result<V
 }
 
 impl<L: Leaf> Tree<L> {
-    /// How many rows `paths` has. They are counted node by node, so that a subtree which stands in many places is
-    /// counted once, and no row is listed. An error is want of memory, or a count past 2^64 - 1, which is answered as
-    /// such: no machine holds as many rows.
+    /// How many rows `paths` has. They are counted node by node, so that a subtree which stands in many places is counted once, and
+    /// no row is listed. Fails if memory runs out, or a count past 2^64 - 1, which is answered as such: no machine holds as many
+    /// rows.
     pub fn row_count(&self, alloc: Global) -> Result<u64, Memory>
         ensures { IfOk result (λ n. n ≡ length (paths_of self.now.0 self.now.1)) }
     {

@@ -8,7 +8,7 @@ use crate::row::Row;
 use fws_num::Memory;
 use std::alloc::Global;
 
-/// The marks of rows: the label of each is one more than its number. An error is want of memory.
+/// The marks of rows: the label of each is one more than its number. Fails if memory runs out.
 pub(crate) fn marks_of_rows<'a, L>(
     alloc: Global,
     rows: &'a [Row<L>],

@@ -77,8 +77,8 @@ fn leaf_place(places: &[u32], value: u32) -> u32
 }
 
 /// The number of the reduced tree over the fields from `field` on that has, at each point within the
-/// tops, the place of the value that cell `at` holds there. A cell that cuts an earlier field is
-/// want of memory: where the fields of cells rise there is none.
+/// tops, the place of the value that cell `at` holds there. It fails at a cell that
+/// cuts an earlier field, as if memory ran out: where the fields of cells rise there is none.
 pub(crate) fn show(
     alloc: Global,
     store: &Store,

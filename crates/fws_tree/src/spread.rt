@@ -184,8 +184,8 @@ impl Canvas {
     /// number. It has few others: the whole range where a cell that holds the value does not cut the field, else the
     /// parts that lead to such cells.
     ///
-    /// The time is that of the cells below which a value with a bit of this one's lies, each once, and of the cells
-    /// that are new. An error is want of memory.
+    /// The time is that of the cells below which a value with a bit of this one's lies, each once, and of the cells that are new.
+    /// Fails if memory runs out.
     pub fn spread(&mut self, alloc: Global, field: Field, value: u32) -> Result<Ivs, Memory>
         ensures spread { IfOk result (λ s. (p : List ℕ) → IsWithin (tops_of self.old) p → value_at self.old p ≡ value → has s (slice_index p (place_of field)) ≡ true) }
         ensures tops { tops_of self.new ≡ tops_of self.old }

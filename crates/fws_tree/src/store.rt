@@ -118,8 +118,7 @@ impl Store {
         self.size
     }
 
-    /// A number that no leaf has, nor has one a greater number. Nothing is proved of it. An error is want of memory: there is
-    /// none.
+    /// A number that no leaf has, nor has one a greater number. Nothing is proved of it. Fails if memory runs out: there is none.
     pub(crate) fn unused(&self) -> Result<u32, Memory> {
         match self.greatest.checked_add(1) {
             Some(number) => Ok(number),

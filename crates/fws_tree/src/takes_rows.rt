@@ -11,7 +11,7 @@ pub trait TakesRows<L> {
     // The second is the first after it took these rows, in their order.
     ghost took: { Self → Self → List (Row L) → Type 0 };
 
-    /// Takes the row with these sides and this leaf. An error is want of memory.
+    /// Takes the row with these sides and this leaf. Fails if memory runs out.
     fn take(&mut self, sides: &[Ivs; 12], leaf: &L) -> Result<(), Memory>
         ensures { OnOk result (took self.old self.new (record { sides = sides.now; leaf = leaf.now } ∷ [])) };
 

@@ -41,7 +41,7 @@ struct Noting<'a> {
     first: u32,
 }
 
-// The number at the place, where that of the first place is given. An error is want of memory: a number past 2^32 - 1.
+// The number at the place, where that of the first place is given. Fails at a number past 2^32 - 1.
 fn numbered(first: u32, place: usize) -> Result<u32, Memory> {
     let Ok(place) = u32::try_from(place) else {
         return Err(Memory);
@@ -291,8 +291,8 @@ impl Canvas {
     /// Which labels of the marks occur at points that have one of these values, each with such a point: the label of a point
     /// is that of the first mark that has it, and a point in none has none. The canvas stays as it is.
     ///
-    /// The time is that of a recolouring with these marks. An error is want of memory, and so is a value that is called and
-    /// has no bits.
+    /// The time is that of a recolouring with these marks. Fails if memory runs out, and so is a value that is called and has no
+    /// bits.
     pub fn touched(
         &mut self,
         alloc: Global,

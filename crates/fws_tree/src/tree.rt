@@ -115,9 +115,9 @@ pub(crate) fn from_nodes<L: Leaf>(tops: &[u32; 12], leaves: Items<L>, nodes: Ite
 }
 
 impl Tree<bool> {
-    /// The sides of the first path of the tree that is true, if there is one. It goes down to that leaf alone, since in a
-    /// reduced tree all nodes but the leaf that is false have one below them that is true: so the time doesn't grow with the
-    /// paths. An error is want of memory.
+    /// The sides of the first path of the tree that is true, if there is one. It goes down to that leaf alone, since in a reduced
+    /// tree all nodes but the leaf that is false have one below them that is true: so the time doesn't grow with the paths. Fails
+    /// if memory runs out.
     pub fn first_true(&self, alloc: Global) -> Result<Option<[Ivs; 12]>, Memory>
         ensures first { IfOk result (λ found. MatchOption found (All (λ row. row.leaf ≡ false) (paths_of self.now.0 self.now.1)) (λ sides. Contains (paths_of self.now.0 self.now.1) (record { sides = sides; leaf = true }))) }
         ensures once { IfOk result (λ found. (p : List ℕ) → IsWithin self.now.0 p → row_hits (paths_of self.now.0 self.now.1) p ≡ 1) }

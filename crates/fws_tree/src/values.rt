@@ -34,8 +34,8 @@ impl Values {
         }
     }
 
-    /// Adds a value with these bits, and gives its number. An error is want of memory, and so is a
-    /// number past 2^32 - 1; after it the values are as before.
+    /// Adds a value with these bits, and gives its number. Fails if memory runs out, and so is a number past 2^32 - 1; after it the
+    /// values are as before.
     pub fn add(&mut self, bits: u64) -> Result<u32, Memory>
         ensures number { IfOk result (λ n. n ≡ length self.old) }
         ensures added { OnOk result (self.new ≡ self.old ++ bits ∷ []) }

@@ -59,7 +59,7 @@ impl Relabelling<(bool, bool), bool> for AndNot {
     }
 }
 
-/// The tree that is true where this one is false. An error is want of memory, here and in all of this crate.
+/// The tree that is true where this one is false. Fails if memory runs out, here and in all of this crate.
 pub fn negated(alloc: Global, tree: &Tree<bool>) -> Result<Tree<bool>, Memory>
     ensures tops { IfOk result (λ t. t.0 ≡ tree.now.0) }
     ensures value { IfOk result (λ t. IsNegated tree.now.0 tree.now.1 t.1) }

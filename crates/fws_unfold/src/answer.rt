@@ -19,7 +19,7 @@ pub enum UnfoldAnswer {
     /// Neither is so, and with the chain the unfolded rules pass 1,000,000.
     #[error("with chain {0} the unfolded rules pass 1,000,000")]
     Long(u32),
-    /// Want of memory, or of numbers for chains, rules and instructions.
+    /// Memory or numbers for chains, rules and instructions ran out.
     #[error("out of memory")]
     Memory,
 }

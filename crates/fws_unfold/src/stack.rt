@@ -57,7 +57,7 @@ impl Stack {
         }
     }
 
-    /// Puts a frame behind the others. After want of memory the stack is of no use.
+    /// Puts a frame behind the others. If memory runs out the stack is of no use.
     pub(crate) fn push(&mut self, frame: Frame) -> Result<(), Memory>
         requires { IsEven self.old }
         ensures even { OnOk result (IsEven self.new) }

@@ -86,12 +86,11 @@ fn said(alloc: Global, ground: &Ground, conns: &[Conn], packets: &[Packet]) -> R
     Ok(out)
 }
 
-/// Which rules decide: for each packet of the site the line of its trace by the code, with its class against the
-/// connections, and then a line for each rule that its walk uses, in the order in which it comes to them: two blanks, the
-/// rule's number from 1, and its label. A rule to which it comes twice has two lines. No packet changes the connections.
-/// The place for which an instruction stands is given by `from`, and the rules that stand at a place by `spots`; both are
-/// looked up and not searched. The code is walked twice for each packet: for what becomes of it, and for what it uses. An
-/// error is want of memory.
+/// Which rules decide: for each packet of the site the line of its trace by the code, with its class against the connections, and
+/// then a line for each rule that its walk uses, in the order in which it comes to them: two blanks, the rule's number from 1, and
+/// its label. A rule to which it comes twice has two lines. No packet changes the connections. The place for which an instruction
+/// stands is given by `from`, and the rules that stand at a place by `spots`; both are looked up and not searched. The code is
+/// walked twice for each packet: for what becomes of it, and for what it uses. Fails if memory runs out.
 ///
 /// Where the code gives the packets of the site what another walk does, and tells of each the rules that this walk uses,
 /// the text is that of the walk.
