@@ -278,7 +278,8 @@ impl Sheet {
         if place >= errand.part.past {
             return Ok(());
         }
-        if !self.holds_whole(errand, number, place)? {
+        let held = self.holds_whole(errand, number, place)?;
+        if !held {
             return Ok(());
         }
         self.pass_whole(alloc, errand, number, place)?;

@@ -20,6 +20,6 @@ loop-number-preserved c = record {
   kept = keeps_then c.args.errand.now c.args.self.now c.loop-number.self c.pass_whole.new.self c.loop-number.invariant.kept c.in_ok-pass_whole.ensures.kept;
 }
 
-pub pass_whole-requires-clause-held : goal.pass_whole-requires-held
+pub pass_whole-requires-clause-held : goal.pass_whole-requires-clause-held
 pass_whole-requires-clause-held c ins d p got used inside here =
     ap (λ ls. holds ls (seen_at c.args.errand.now.ground.site.now c.args.errand.now.ground.state c.args.errand.now.part d.progress p)) (c.requires.always ins got)
