@@ -431,21 +431,21 @@ fn put_output(
         sheet.declare(heading.name)?;
         put_call(writer, &mut lines, b"OUTPUT", heading.name)?;
     }
-    let delivered = writer.for_delivered();
-    let here = if filters.own == Own::ForPassing {
-        &delivered
+    let output = &filters.output;
+    if filters.own == Own::ForPassing {
+        let delivered = writer.for_delivered();
+        put_filter_chain(
+            &delivered,
+            sheet,
+            policy,
+            Hook::Output,
+            heading,
+            output,
+            lines,
+        )?;
     } else {
-        writer
-    };
-    put_filter_chain(
-        here,
-        sheet,
-        policy,
-        Hook::Output,
-        heading,
-        &filters.output,
-        lines,
-    )?;
+        put_filter_chain(writer, sheet, policy, Hook::Output, heading, output, lines)?;
+    }
     put_last(writer, sheet, filters)
 }
 

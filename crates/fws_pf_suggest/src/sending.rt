@@ -106,7 +106,7 @@ pub(crate) struct Redirected {
 }
 
 /// Notes how destinations are translated, by rules that let these packets pass or by others, and gives what packets are behind that.
-pub(crate) fn redirected(
+pub(crate) fn take_redirects(
     policy: &mut Policy,
     translations: &mut Translations,
     passes: bool,

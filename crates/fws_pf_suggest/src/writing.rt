@@ -7,7 +7,7 @@ use crate::draft::{Filter, Translations};
 use crate::filter::filtered;
 use crate::free::{Free, free_interfaces};
 use crate::names::Names;
-use crate::sending::{redirected, send};
+use crate::sending::{send, take_redirects};
 use crate::text::statements;
 use fws_flat::Flat;
 use fws_net::Site;
@@ -37,7 +37,7 @@ fn translated(
     free: &Free,
     passes: bool,
 ) -> Result<Behind, Stop> {
-    let redirected = redirected(policy, translations, passes)?;
+    let redirected = take_redirects(policy, translations, passes)?;
     let leaving = send(policy, translations, free, redirected)?;
     let verdict = policy.verdict(redirected.behind)?;
     Ok(Behind { verdict, leaving })
