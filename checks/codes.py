@@ -1,9 +1,10 @@
 """python3 codes.py PROGRAM [COUNT [SEED]]
 
-Makes COUNT random flat codes (2,000) and hands them to PROGRAM, the built crates/fws_test_diagrams/out/fws_test_diagrams: it executes each for new and
-for established packets, and walks the packets at the ends of the intervals of every row. The codes put, test and take away tags,
-hold verdicts, jump, and write ends of all lengths, in up to eight parts. Prints how many points were walked. Exit status 1 where one differs from
-its row, and the file with the code stays then; or where more than one code in twenty takes over a minute, since its rows are many.
+Makes COUNT random flat codes (2,000) and hands them to PROGRAM, the built crates/fws_test_diagrams/out/fws_test_diagrams: it executes
+each for new and for established packets, and walks the packets at the ends of the intervals of every row. The codes put, test and take away
+tags, hold verdicts, jump, and write ends of all lengths, in up to eight parts. Prints how many points were walked. Exit status 1 where one
+differs from its row, and the file with the code stays then; or where more than one code in twenty takes over a minute, since its rows are
+many.
 """
 
 import os

@@ -1,7 +1,8 @@
 """python3 checks/replays.py [SEED], at the top of the repository; checks/replays.sh says how it is called
 
 Replays events over translations: a configuration and all texts that it is translated to keep step, as their tables are the same and each
-text keeps state where it accepts. Of each configuration of examples/ and each of which crates/fws_test_configs/data/rows.jobs has a table, at its site:
+text keeps state where it accepts. Of each configuration of examples/ and each of which crates/fws_test_configs/data/rows.jobs has a
+table, at its site:
 
 - It is translated to iptables, ipfw, pf and Cisco IOS.
 - 300 events are drawn: packets with the addresses and ports that stand in its files, answers to packets that were sent on by then, with the

@@ -1,7 +1,7 @@
 """python3 checks/translations.py, at the top of the repository; checks/translations.sh says how it is called
 
-Translates to iptables, ipfw, pf and Cisco IOS the configurations of examples/ and those of which crates/fws_test_configs/data/rows.jobs has a table, from the
-language that each has, with the built program. What is checked of each:
+Translates to iptables, ipfw, pf and Cisco IOS the configurations of examples/ and those of which
+crates/fws_test_configs/data/rows.jobs has a table, from the language that each has, with the built program. What is checked of each:
 
 - The status is 0; or it is 1 with a line that names packets, where the target, the site and the configuration stand in UNPLACED.
   Any other configuration is placed on pf exactly where its table of established packets drops none but lost ones: else a packet is
